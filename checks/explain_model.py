@@ -172,6 +172,64 @@ def explained(map_text, log_text):
     return text, 1 if failed else 0 if mapping and heard else 3
 
 
+# ---- `explain --locate`
+
+
+def frames_of(line, mapping, log_text):
+    """The data of the first three frames of a log that a line of a map hears."""
+    found = []
+    for text in log_text.split(b"\n"):
+        frame = frame_of(text)
+        if frame and next((l for l in mapping if l.can == frame[0] and l.channel in (None, frame[1])), None) is line:
+            found.append(frame[2])
+    return found[:3]
+
+
+def verifies(line, data, freshness):
+    size = line.size
+    if len(data) < size + 4 or freshness >= 1 << 64 or freshness & 0xFF != data[size]:
+        return False
+    return data[size + 1 : size + 4] == cmac(line.key, covered(line.data_id, data[:size], freshness))[:3]
+
+
+def next_of(line, counter, data):
+    """The freshness with which a receiver accepts a frame; nothing if it doesn't."""
+    return next((v for v in range(counter + 1, counter + 1 + line.window) if verifies(line, data, v)), None)
+
+
+def located(line, frames, first, last):
+    """The least freshness of a range that fits three frames."""
+    if len(frames) < 3 or len(frames[0]) < line.size + 4:
+        return None
+    for value in range(first + (frames[0][line.size] - first) % 256, last + 1, 256):
+        if verifies(line, frames[0], value):
+            second = next_of(line, value, frames[1])
+            if second is not None and next_of(line, second, frames[2]) is not None:
+                return value
+    return None
+
+
+def filled(map_text, log_text, first=1, last=1 << 32):
+    """The map with each FRESH that is `?` filled in, and the status."""
+    lines = map_text.split(b"\n")
+    lines = lines[:-1] if lines[-1] == b"" else lines
+    asks = [len(l.split()) >= 4 and l.split()[3] == b"?" and not l.split()[0].startswith(b"#") for l in lines]
+
+    def put(line, fresh):
+        return line.replace(b"?", fresh, 1)
+
+    mapping = map_of(b"\n".join(put(l, b"0" * 16) if ask else l for l, ask in zip(lines, asks)))
+    text, status = b"", 0
+    for number, (line, ask) in enumerate(zip(lines, asks), 1):
+        if ask:
+            own = next(l for l in mapping if l.number == number)
+            value = located(own, frames_of(own, mapping, log_text), first, last)
+            status = 1 if value is None else status
+            line = line if value is None else put(line, b"%016x" % (value - 1))
+        text += line + b"\n"
+    return text, status
+
+
 if __name__ == "__main__":
     with open(sys.argv[1], "rb") as map_file, open(sys.argv[2], "rb") as log_file:
         printed, status = explained(map_file.read(), log_file.read())

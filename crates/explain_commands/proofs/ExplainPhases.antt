@@ -6,9 +6,8 @@ use Rattle.program_edge.specs.Rows.{Row}
 use Rattle.program_edge.specs.Inputs.{IsUnread}
 use Rattle.program_edge.proofs.CallerLemmas.{EndsInRow-more}
 use Rattle.trace_audit.specs.Rows.{AuditInputs, NamesInputs}
-use Rattle.watch_commands.specs.WatchMaps.{NumberedMap}
-use Rattle.watch_commands.specs.WatchSteps.{LacksWatchMap, no_map, refused}
-use Rattle.watch_commands.specs.WatchRows.{Writing, IsUnwritten, ending_of}
+use Rattle.watch_maps.specs.WatchMaps.{NumberedMap}
+use Rattle.watch_maps.specs.LogRuns.{LacksWatchMap, no_map, refused, Writing, IsUnwritten, ending_of}
 use Rattle.explain_commands.specs.ExplainRows.{ComesOfExplained, FailsOfExplained, ExplainStops, EndsExplained, OverExplainMap, of_log, ExplainOnErrors, no_log, EndsExplainUntold, EndsExplain}
 use Rattle.explain_commands.specs.ExplainRows as row
 

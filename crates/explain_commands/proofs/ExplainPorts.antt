@@ -14,11 +14,10 @@ use Rattle.program_edge.proofs.CallerLemmas.{AppendedWell-more}
 use Rattle.program_edge.specs.Rows.{row_of}
 use Rattle.program_edge.specs.Inputs.{Reading}
 use Rattle.explain_commands.specs.declared.answers.LineAnswer.{LineAnswer}
-use Rattle.watch_commands.specs.WatchMaps.{NumberedMap}
+use Rattle.watch_maps.specs.WatchMaps.{NumberedMap}
 use Rattle.explain_commands.specs.Explaining.{said_of, explained_lines, ExplainsComplete, ExplainsAll, explain_status}
-use Rattle.watch_commands.specs.WatchRows.{Writing, log_failed_text, log_too_long_text}
-use Rattle.watch_commands.specs.WatchSteps.{Ports}
-use Rattle.watch_commands.proofs.CallerLemmas.{told_more}
+use Rattle.watch_maps.specs.LogRuns.{Writing, log_failed_text, log_too_long_text, Ports}
+use Rattle.watch_maps.proofs.CallerLemmas.{told_more}
 use Rattle.explain_commands.specs.ExplainStates.{ExplainState, Followed}
 use Rattle.explain_commands.specs.ExplainRows.{done, FailsOfExplained, failed, too_long, EndsExplained}
 use Rattle.explain_commands.specs.ExplainSteps.{ExplainSoFar}

@@ -19,10 +19,9 @@ use Rattle.program_edge.proofs.CallerLemmas.{EndsInRow-at, EndsInRow-front, Ends
 use Rattle.trace_audit.specs.declared.map_lines.MapLine.{MapLine}
 use Rattle.trace_audit.specs.Pieces.{log_lines}
 use Rattle.trace_audit.specs.Rows.{AuditInputs, NamesInputs}
-use Rattle.watch_commands.specs.MapFaults.{map_fault_text, map_input_text}
-use Rattle.watch_commands.specs.WatchMaps.{NumberedMap, watch_map_of}
-use Rattle.watch_commands.specs.WatchRows.{IsWatchMapFault, IsUnwritten, WritesWhole, WatchEnding, on_output, on_errors, log_failed_text, log_too_long_text}
-use Rattle.watch_commands.specs.Watches.{IsAnswer}
+use Rattle.watch_maps.specs.MapFaults.{map_fault_text, map_input_text}
+use Rattle.watch_maps.specs.WatchMaps.{NumberedMap, watch_map_of}
+use Rattle.watch_maps.specs.LogRuns.{IsWatchMapFault, IsUnwritten, WritesWhole, WatchEnding, on_output, on_errors, log_failed_text, log_too_long_text, IsAnswer}
 use Rattle.explain_commands.specs.declared.answers.LineAnswer.{LineAnswer}
 use Rattle.explain_commands.specs.Explaining.{answer_accepts, some_failed, counters_after, have_risen, explain_status}
 use Rattle.explain_commands.specs.ExplainRows.{explain_usage, explain_text_asked, ReadsExplainMap, ComesOfExplained, done, FailsOfExplained, failed, too_long, ExplainStops, ExplainFailsBoth, OverExplainMap}

@@ -13,7 +13,7 @@ use Rattle.trace_audit.specs.Auditing.{first_counters}
 use Rattle.trace_audit.specs.Pieces.{line_limit, log_lines, in_64_bits}
 use Rattle.trace_audit.proofs.CallerLemmas.{HasNoFeed, one_line, cut_more, take_twice, kept_whole, kept_long, one_more_line}
 use Rattle.text_lines.specs.Lines.{words_of}
-use Rattle.watch_commands.specs.WatchMaps.{NumberedMap}
+use Rattle.watch_maps.specs.WatchMaps.{NumberedMap}
 use Rattle.explain_commands.specs.declared.recent.Accepted.{Accepted}
 use Rattle.explain_commands.specs.declared.answers.LineAnswer.{LineAnswer}
 use Rattle.explain_commands.specs.declared.answers.LineAnswer.TheVariants as answer

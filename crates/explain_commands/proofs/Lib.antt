@@ -5,3 +5,4 @@ pub mod ExplainRising
 pub mod ExplainPorts
 pub mod ExplainPhases
 pub mod ExplainPromises
+pub mod CallerLemmas

@@ -1,5 +1,5 @@
 -- The table of answers of `explain`: its rows, and when each comes
-use Rattle.std.specs.Prelude.{◌≡◌, ◌⊎◌, ℕ, ◌<◌, ◌≤◌, false, if◌then◌else◌, Option, None, Some, Result, Ok, Err}
+use Rattle.std.specs.Prelude.{◌≡◌, ◌⊎◌, ℕ, ◌<◌, ◌≤◌, if◌then◌else◌, Option, None, Some, Result, Ok, Err}
 use Rattle.std.specs.Prelude.{List, ◌++◌, length, take, codes}
 use Rattle.bus_port.specs.Fault.{last_count}
 use Rattle.bus_port.specs.Sink.{Appended}
@@ -11,13 +11,12 @@ use Rattle.program_edge.specs.Rows.{Row, row_of}
 use Rattle.program_edge.specs.Inputs.{Reading, IsUnread, ReadsWhole, Lacks, SourceFailed}
 use Rattle.program_edge.specs.Endings.{Ending, EndsInRow, SinkFailed}
 use Rattle.trace_audit.specs.Rows.{AuditInputs, NamesInputs}
-use Rattle.watch_commands.specs.MapFaults.{map_input_row, map_line_row}
-use Rattle.watch_commands.specs.WatchMaps.{NumberedMap, IsMapOf}
-use Rattle.watch_commands.specs.declared.options.WatchOptions.{WatchOptions}
-use Rattle.watch_commands.specs.Words.{is_only_word}
-use Rattle.watch_commands.specs.WatchRows.{IsWatchMapFault, ReadsToEnd, HasCome}
-use Rattle.watch_commands.specs.WatchRows.{Writing, IsUnwritten, WritesWhole, ending_of}
-use Rattle.watch_commands.specs.WatchRows.{WatchEnding, on_output, on_errors, log_failed_text, log_too_long_text}
+use Rattle.watch_maps.specs.MapFaults.{map_input_row, map_line_row}
+use Rattle.watch_maps.specs.WatchMaps.{NumberedMap, IsMapOf}
+use Rattle.watch_maps.specs.OptionWords.{is_only_word, no_options}
+use Rattle.watch_maps.specs.LogRuns.{IsWatchMapFault, ReadsToEnd, HasCome}
+use Rattle.watch_maps.specs.LogRuns.{Writing, IsUnwritten, WritesWhole, ending_of}
+use Rattle.watch_maps.specs.LogRuns.{WatchEnding, on_output, on_errors, log_failed_text, log_too_long_text}
 use Rattle.explain_commands.specs.declared.run.TheConstants.{HELP, VERSION}
 use Rattle.explain_commands.specs.declared.answers.LineAnswer.{LineAnswer}
 use Rattle.explain_commands.specs.Explaining.{explained_lines, ExplainsComplete, ExplainsAll, explain_status}
@@ -33,13 +32,9 @@ explain_text_asked words =
     else if is_only_word (codes "--version") words then Some VERSION.now
     else None
 
--- no option of `watch` is asked for
-abbrev plain : WatchOptions
-plain = record { quiet = false; json = false }
-
 -- the map was read whole, and has these lines with these numbers, as `watch` reads it
 abbrev pub ReadsExplainMap : AuditInputs → NumberedMap → Type 0
-ReadsExplainMap i mapping = (text : List ℕ) × ReadsWhole i.map text × IsMapOf plain text mapping
+ReadsExplainMap i mapping = (text : List ℕ) × ReadsWhole i.map text × IsMapOf no_options text mapping
 
 -- ---- the log
 

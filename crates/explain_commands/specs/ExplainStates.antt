@@ -1,7 +1,7 @@
 -- The state between two pieces of a log
 use Rattle.std.specs.Prelude.{◌≡◌, ℕ, ◌+◌, ◌<◌, Bool, true, List, [], ◌∷◌, ◌++◌, length, take}
 use Rattle.trace_audit.specs.Pieces.{line_limit, log_lines, in_64_bits}
-use Rattle.watch_commands.specs.WatchMaps.{NumberedMap}
+use Rattle.watch_maps.specs.WatchMaps.{NumberedMap}
 use Rattle.explain_commands.specs.declared.recent.Accepted.{Accepted}
 use Rattle.explain_commands.specs.declared.answers.LineAnswer.{LineAnswer}
 use Rattle.explain_commands.specs.declared.answers.LineAnswer.TheVariants as answer

@@ -4,8 +4,7 @@ use Rattle.bus_port.specs.Source.{Came}
 use Rattle.program_edge.specs.Told.{AppendedWell}
 use Rattle.program_edge.specs.Rows.{Row}
 use Rattle.trace_audit.specs.Rows.{AuditInputs}
-use Rattle.watch_commands.specs.WatchRows.{Writing}
-use Rattle.watch_commands.specs.WatchSteps.{Ports}
+use Rattle.watch_maps.specs.LogRuns.{Writing, Ports}
 use Rattle.explain_commands.specs.declared.answers.LineAnswer.{LineAnswer}
 use Rattle.explain_commands.specs.Explaining.{explained_lines}
 use Rattle.explain_commands.specs.ExplainStates.{ExplainState, Followed}

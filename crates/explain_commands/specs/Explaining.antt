@@ -11,7 +11,7 @@ use Rattle.trace_audit.specs.MapLines.{row_head, place_of_frame}
 use Rattle.trace_audit.specs.Frames.{log_frame_of}
 use Rattle.trace_audit.specs.Auditing.{channel_of, first_counters}
 use Rattle.trace_audit.specs.Pieces.{line_limit, log_lines, in_64_bits}
-use Rattle.watch_commands.specs.WatchMaps.{NumberedMap}
+use Rattle.watch_maps.specs.WatchMaps.{NumberedMap}
 use Rattle.explain_commands.specs.declared.recent.Accepted.{Accepted}
 use Rattle.explain_commands.specs.declared.answers.LineAnswer.{LineAnswer}
 use Rattle.explain_commands.specs.declared.answers.LineAnswer.TheVariants as answer

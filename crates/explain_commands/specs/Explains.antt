@@ -10,11 +10,10 @@ use Rattle.program_edge.specs.Inputs.{GivesTooMuch, CountsTooMuch, Offers}
 use Rattle.program_edge.specs.Endings.{EndsIn, MayEndIn, PrintsFront, SinkFailed, CountsWriteFault}
 use Rattle.trace_audit.specs.declared.map_lines.MapLine.{MapLine}
 use Rattle.trace_audit.specs.Rows.{AuditInputs, NamesInputs}
-use Rattle.watch_commands.specs.MapFaults.{map_fault_text, map_input_text}
-use Rattle.watch_commands.specs.WatchMaps.{watch_map_of}
-use Rattle.watch_commands.specs.WatchRows.{IsWatchMapFault, ReadsToEnd, HasCome, IsUnwritten, WritesWhole}
-use Rattle.watch_commands.specs.WatchRows.{WatchEnding, on_output, on_errors, log_failed_text, log_too_long_text}
-use Rattle.watch_commands.specs.Watches.{IsAnswer}
+use Rattle.watch_maps.specs.MapFaults.{map_fault_text, map_input_text}
+use Rattle.watch_maps.specs.WatchMaps.{watch_map_of}
+use Rattle.watch_maps.specs.LogRuns.{IsWatchMapFault, ReadsToEnd, HasCome, IsUnwritten, WritesWhole, IsAnswer}
+use Rattle.watch_maps.specs.LogRuns.{WatchEnding, on_output, on_errors, log_failed_text, log_too_long_text}
 use Rattle.explain_commands.specs.declared.answers.LineAnswer.{LineAnswer}
 use Rattle.explain_commands.specs.Explaining.{ExplainsComplete, ExplainsAll, answer_accepts}
 use Rattle.explain_commands.specs.Explaining.{explained_lines, explain_status}

@@ -8,7 +8,7 @@ use crate::reasons::explain;
 use crate::recent::{Accepted, Recent};
 use text_lines::words::Words;
 use trace_audit::{log_frame, place_for};
-use watch_commands::WatchMap;
+use watch_maps::WatchMap;
 
 /// What is said of a line of a log.
 #[derive(Clone, Copy)]

@@ -12,7 +12,7 @@ use crate::trials::{
 };
 use std::marker::Model;
 use trace_audit::MapLine;
-use watch_commands::WatchMap;
+use watch_maps::WatchMap;
 
 /// How far beyond the window a freshness is looked for.
 const FAR: usize = 65536;
@@ -120,6 +120,7 @@ impl<'a> Model for Case<'a> {
 /// What a receiver of a line of the map knows that accepted this freshness last.
 pub fn receiver_of(line: &MapLine, counter: u64) -> KnownReceiver
     ensures value { result ≡ receiver_of line.now counter }
+    ensures some { 1 ≤ result.size }
     ensures size { result.size ≤ 60 }
     ensures window { result.window ≤ 256 }
 {

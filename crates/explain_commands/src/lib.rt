@@ -26,4 +26,4 @@ pub use run::run_explain;
 pub use start::explain_words;
 pub use state::Explainer;
 pub use texts::push_explained;
-pub use trials::{Comparison, KnownReceiver, Making, accepted_freshness};
+pub use trials::{Comparison, KnownReceiver, Making, accepted_freshness, tag_trial_by};

@@ -13,7 +13,7 @@ use bus_port::{PortFailed, Sink, Source};
 use program_edge::{DONE, Refusal, WRITE_FAULT, tell, tell_refusal};
 use std::alloc::{AllocError, Global};
 use trace_audit::{PIECE, names_inputs};
-use watch_commands::{WatchOptions, is_only, read_watch_map};
+use watch_maps::{WatchOptions, is_only, read_watch_map};
 
 const USAGE: &str = "usage: explain MAP LOG\n";
 
@@ -21,6 +21,7 @@ const USAGE: &str = "usage: explain MAP LOG\n";
 const HELP: &str = "usage: explain MAP LOG
 Says why frames of LOG that MAP names aren't accepted: the first reason that holds (AUTOSAR SecOC, profile 1).
 LOG is a log of candump -L; - is standard input. MAP is a map of watch.
+explain --locate [--from N] [--to N] MAP LOG finds each FRESH of MAP that is ?, and prints MAP with it.
 Status 0: each mapped frame was accepted, and one at least for each line of MAP that isn't optional.
 1: a mapped frame wasn't accepted. 3: a line of MAP accepted none. 2: usage. 4: MAP. 5, 8: input. 6: output. 7: memory.
 ";
@@ -114,11 +115,7 @@ fn prepare<S: Source>(alloc: Global, words: &[String], map: &mut S) -> Result<Ex
     if !names_inputs(words) {
         return Err(Refusal::fixed(2, USAGE));
     }
-    let options = WatchOptions {
-        quiet: false,
-        json: false,
-    };
-    let map = read_watch_map(alloc, map, options)?;
+    let map = read_watch_map(alloc, map, WatchOptions::none())?;
     match Explainer::new(alloc, map) {
         Ok(explainer) => Ok(explainer),
         Err(AllocError) => Err(Refusal::no_memory()),

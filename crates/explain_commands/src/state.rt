@@ -21,7 +21,7 @@ use std::marker::Model;
 use text_lines::span::Span;
 use text_lines::words::{Words, put_words};
 use trace_audit::{PIECE, add_bytes, counters_of, until_feed};
-use watch_commands::WatchMap;
+use watch_maps::WatchMap;
 
 /// The most bytes of a line that is looked at, its line feed not counted.
 const LINE_LIMIT: usize = 4096;

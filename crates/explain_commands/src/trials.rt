@@ -6,7 +6,7 @@ ghost use Rattle.explain_commands.specs.Trials.{trial_within, agrees as is_agree
 
 use basics::Block;
 use secured_pdu::input_mac;
-use she_aes::expand;
+use she_aes::{Schedule, expand};
 
 /// How a PDU may have been made.
 #[derive(Clone, Copy)]
@@ -60,22 +60,28 @@ pub struct KnownReceiver {
 
 /// Three bytes of the CMAC of a PDU that was made in this way.
 #[tactic(auto, unfolding(crate::specs::Trials::tag_by))]
-fn tag_by(how: Making, receiver: &KnownReceiver, payload: &[u8], freshness: u64) -> [u8; 3]
-    requires { IsPayload payload.now }
+fn tag_by(
+    schedule: &Schedule,
+    how: Making,
+    receiver: &KnownReceiver,
+    payload: &[u8],
+    freshness: u64,
+) -> [u8; 3]
+    requires payload { IsPayload payload.now }
+    requires key { schedule.now ≡ receiver.now.key }
     ensures { result ≡ tag_by how receiver.now payload.now freshness }
 {
-    let schedule = expand(&receiver.key);
     match how {
-        Making::Standard => first_three(&input_mac(&schedule, receiver.id, payload, freshness)),
+        Making::Standard => first_three(&input_mac(schedule, receiver.id, payload, freshness)),
         Making::SwappedId => {
             let id = receiver.id.swap_bytes();
-            first_three(&input_mac(&schedule, id, payload, freshness))
+            first_three(&input_mac(schedule, id, payload, freshness))
         }
         Making::SwappedFreshness => {
             let swapped = freshness.swap_bytes();
-            first_three(&input_mac(&schedule, receiver.id, payload, swapped))
+            first_three(&input_mac(schedule, receiver.id, payload, swapped))
         }
-        Making::LastBytes => last_three(&input_mac(&schedule, receiver.id, payload, freshness)),
+        Making::LastBytes => last_three(&input_mac(schedule, receiver.id, payload, freshness)),
     }
 }
 
@@ -108,6 +114,29 @@ fn has_room(size: usize, bytes: &[u8]) -> bool
     bytes.len() >= size + 4
 }
 
+/// Computes the authenticator with the round keys of the receiver's key, and compares it.
+pub fn tag_trial_by(
+    schedule: &Schedule,
+    how: Making,
+    receiver: &KnownReceiver,
+    bytes: &[u8],
+    freshness: u64,
+) -> Comparison
+    requires key { schedule.now ≡ receiver.now.key }
+    requires some { 1 ≤ receiver.now.size }
+    requires few { receiver.now.size ≤ 60 }
+    requires enough { receiver.now.size + 4 ≤ length bytes.now }
+    ensures { result ≡ tag_trial how receiver.now bytes.now freshness }
+{
+    let size = receiver.size;
+    let tag = tag_by(schedule, how, receiver, &bytes[..size], freshness);
+    if bytes[size + 1..size + 4] == tag[..] {
+        Comparison::Agrees
+    } else {
+        Comparison::Differs
+    }
+}
+
 /// Computes the authenticator and compares it.
 fn tag_trial(how: Making, receiver: &KnownReceiver, bytes: &[u8], freshness: u64) -> Comparison
     requires some { 1 ≤ receiver.now.size }
@@ -115,13 +144,7 @@ fn tag_trial(how: Making, receiver: &KnownReceiver, bytes: &[u8], freshness: u64
     requires enough { receiver.now.size + 4 ≤ length bytes.now }
     ensures { result ≡ tag_trial how receiver.now bytes.now freshness }
 {
-    let size = receiver.size;
-    let tag = tag_by(how, receiver, &bytes[..size], freshness);
-    if bytes[size + 1..size + 4] == tag[..] {
-        Comparison::Agrees
-    } else {
-        Comparison::Differs
-    }
+    tag_trial_by(&expand(&receiver.key), how, receiver, bytes, freshness)
 }
 
 /// Tries the first bytes of a frame as the PDU with this freshness.

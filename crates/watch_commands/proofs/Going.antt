@@ -18,11 +18,13 @@ use Rattle.trace_audit.specs.declared.frames.OtherLine.TheVariants as kind
 use Rattle.trace_audit.specs.declared.auditing.FrameTally.{FrameTally}
 use Rattle.trace_audit.specs.declared.auditing.FrameTally.TheVariants as tally
 use Rattle.watch_commands.specs.declared.counts.WatchCounts.{WatchCounts}
-use Rattle.watch_commands.specs.WatchMaps.{NumberedMap}
+use Rattle.watch_maps.specs.WatchMaps.{NumberedMap}
 use Rattle.trace_audit.specs.Auditing.{Finding, other, too_short, verdict, tally_of, finding_accepts, first_counters, counter_of_place, AuditsLine, is_accepted_tally}
 use Rattle.trace_audit.proofs.CallerLemmas.{AuditsLine-same, HasNoFeed, one_line, cut_more, take_twice, kept_whole, kept_long, one_more_line}
 use Rattle.trace_audit.specs.Pieces.{line_limit, log_lines, in_64_bits}
-use Rattle.watch_commands.specs.Watching.{WatchesLine, WatchesEach, none, more, FindsAll, told_text, found_text}
+use Rattle.watch_commands.specs.Watching.{Found, stamped, findings_of, WatchesLine, WatchesEach, none, more, FindsAll, told_text, found_text}
+use Rattle.watch_commands.specs.Stamps.{stamp_of}
+use Rattle.watch_commands.proofs.Stamping.{findings_more, stamped_kept}
 use Rattle.watch_commands.specs.WatchTotals.{is_failed_tally, is_accepted_at, is_failed_at, is_other_of, is_unmapped_line, is_other_frame, is_malformed_line}
 use Rattle.watch_commands.specs.WatchTotals.{count_of, counted_of, counts_of, counts_text, total_line_at, map_places, LineTotals, totals_of, totals_text_of, totals_text, is_heard_at, are_heard, watch_status}
 use Rattle.watch_commands.specs.States.{WatchState, Watched, FindsMore, JudgesLine, IsPlaced, tally_found, counts_as, counts_after, accepted_place, failed_place, raised_at, totals_in, end_text, end_status}
@@ -46,7 +48,7 @@ Watched-none state line lines counters accepted failed counts = record {
 }
 
 -- bytes without a line feed are added to the line, as far as it is kept
-pub Watched-keeps : (old : WatchState) (bytes piece : List ℕ) (findings : List Finding) → HasNoFeed piece → Watched old bytes findings
+pub Watched-keeps : (old : WatchState) (bytes piece : List ℕ) (findings : List Found) → HasNoFeed piece → Watched old bytes findings
     → Watched (record old { line = take (line_limit + 1) (old.line ++ piece) }) (bytes ++ piece) findings
 Watched-keeps old bytes piece findings free w = record {
   lines = w.lines;
@@ -214,8 +216,10 @@ ended old judged counts = record {
 
 pub Watched-ends : (old judged : WatchState) (counts : Option FrameTally) → length old.accepted ≡ length old.mapping.lines → length old.failed ≡ length old.mapping.lines
     → JudgesLine (record old { lines = counted old.lines }) judged counts → FindsMore old (ended old judged counts) (10 ∷ [])
-Watched-ends old judged counts all_accepted all_failed (found, finds, judged_is, as_many, counts_is, counters) = λ bytes findings w.
+Watched-ends old judged counts all_accepted all_failed (found, finds, judged_is, as_many, counts_is, counters) = λ bytes so_far w.
     let mapping : List MapLine = old.mapping.lines in
+    let findings : List Finding = findings_of so_far in
+    let all_are : findings_of (so_far ++ stamped w.rest found) ≡ findings ++ found = findings_more so_far w.rest found in
     let numbered : counted old.lines ≡ in_64_bits (length w.lines + 1) = next_number old.lines (length w.lines) w.lines_are in
     let c : ℕ → ℕ = counter_of_place mapping findings in
     let here : WatchesLine mapping c (in_64_bits (length w.lines + 1)) w.rest found =
@@ -225,21 +229,23 @@ Watched-ends old judged counts all_accepted all_failed (found, finds, judged_is,
     let few : AtMostOne found = at_most_one mapping c (in_64_bits (length w.lines + 1)) w.rest found here in
     let placed : IfSome counts (IsPlaced (length mapping)) =
     JudgesLine-placed (record old { lines = counted old.lines }) judged counts (found, finds, judged_is, as_many, counts_is, counters) in
-    let counted_as : (passes : FrameTally → Bool) (count : ℕ) → count ≡ counted_of passes findings → counts_as passes counts count ≡ counted_of passes (findings ++ found) =
-    λ passes count is. ap (λ t. counts_as passes t count) counts_is ∙ ap (counts_as passes (tally_found found)) is ∙ counted_found passes findings found few in (
-      found,
+    let counted_as : (passes : FrameTally → Bool) (count : ℕ) → count ≡ counted_of passes findings → counts_as passes counts count ≡ counted_of passes (findings_of (so_far ++ stamped w.rest found)) =
+    λ passes count is.
+    ap (λ t. counts_as passes t count) counts_is ∙ ap (counts_as passes (tally_found found)) is ∙ counted_found passes findings found few
+    ∙ ap (λ (fs : List Finding). counted_of passes fs) (sym all_are) in (
+      stamped w.rest found,
       record {
         lines = w.lines ++ w.rest ∷ [];
         rest = [];
         cut = cut_more bytes (10 ∷ []) w.lines w.rest [] ([] ∷ []) w.cut refl ∙ ap (λ r. w.lines ++ r ∷ [] ∷ []) (append-nil w.rest)
             ∙ sym (append_assoc w.lines (w.rest ∷ []) ([] ∷ []));
-        finds = more w.lines findings w.rest found w.finds here;
+        finds = more w.lines so_far w.rest found w.finds here;
         line_is = refl;
         lines_are = numbered ∙ ap in_64_bits (sym (length-append w.lines (w.rest ∷ [])));
         as_many = as_many ∙ w.as_many;
         counters_are = λ place inside.
             counters place (omega (arith, inside, w.as_many)) ∙ ap (λ n. last_accepted place n (map finding_accepts found)) (w.counters_are place inside)
-            ∙ sym (counter_behind_found mapping findings found place);
+            ∙ sym (counter_behind_found mapping findings found place) ∙ ap (λ (fs : List Finding). counter_of_place mapping fs place) (sym all_are);
         accepted_are = λ place inside.
             accepted_at_place counts old.accepted place (subst (λ n. IfSome counts (IsPlaced n)) (sym all_accepted) placed)
             ∙ counted_as (is_accepted_at place) (slice_index old.accepted place) (w.accepted_are place inside);
@@ -247,9 +253,10 @@ Watched-ends old judged counts all_accepted all_failed (found, finds, judged_is,
             failed_at_place counts old.failed place (subst (λ n. IfSome counts (IsPlaced n)) (sym all_failed) placed)
             ∙ counted_as (is_failed_at place) (slice_index old.failed place) (w.failed_are place inside);
         counts_are = ap (λ (t : Option FrameTally). counts_after t old.counts) counts_is ∙ ap (counts_after (tally_found found)) w.counts_are
-            ∙ counts_after_found findings found few;
+            ∙ counts_after_found findings found few ∙ ap (λ (fs : List Finding). counts_of fs) (sym all_are);
       },
-      ap (λ (s : WatchState). s.text) judged_is,
+      ap (λ (s : WatchState). s.text) judged_is
+          ∙ ap (λ (t : List ℕ). old.text ++ t) (stamped_kept old.mapping (slice_index old.counters) (counted old.lines) old.line w.rest found w.line_is finds),
     )
 
 -- ---- one step after the other
@@ -287,16 +294,11 @@ FindsMore-keeps old piece free = λ bytes findings w. (
 JudgesLine-text : (s : WatchState) → s ≡ record s { counters = s.counters; text = s.text ++ [] }
 JudgesLine-text s = ap (λ t. record s { text = t }) (sym (append-nil s.text))
 
--- of a line that no line of the map judges nothing is printed, in either form
-nothing_told : (json : Bool) (text : List ℕ) → (if json then text else text) ++ text ≡ text ++ text
-nothing_told true text = refl
-nothing_told false text = refl
-
 pub JudgesLine-long : (s : WatchState) → line_limit < length s.line → JudgesLine s s (Some (tally.Other kind.Malformed))
 JudgesLine-long s long = (
   other kind.Malformed ∷ [],
   inl (long, refl),
-  JudgesLine-text s ∙ ap (λ (t : List ℕ). record s { text = s.text ++ t }) (sym (nothing_told s.mapping.options.json [])),
+  JudgesLine-text s,
   refl,
   refl,
   λ place inside. refl,
@@ -309,12 +311,12 @@ pub JudgesLine-found : (s : WatchState) (counters text : List ℕ) (counts : Fra
     → AuditsLine s.mapping.lines (slice_index s.counters) (record { number = s.lines; words = words_of s.line }) finding
     → counts ≡ tally_of finding → length counters ≡ length s.counters
     → ((place : ℕ) → place < length s.counters → slice_index counters place ≡ next_counter place (slice_index s.counters place) (finding_accepts finding))
-    → text ≡ s.text ++ told_text s.mapping.options finding
+    → text ≡ s.text ++ told_text s.mapping.options (record { finding = finding; stamp = stamp_of (words_of s.line) })
     → JudgesLine s (record s { counters = counters; text = text }) (Some counts)
 JudgesLine-found s counters text counts finding few kept finds counts_is as_many behind text_is = (
   finding ∷ [],
   inr (inr (few, kept, (finding, refl, finds))),
-  ap (λ t. record s { counters = counters; text = t }) (text_is ∙ ap (λ t. s.text ++ t) (sym (append-nil (told_text s.mapping.options finding)))),
+  ap (λ t. record s { counters = counters; text = t }) (text_is ∙ ap (λ t. s.text ++ t) (sym (append-nil (told_text s.mapping.options (record { finding = finding; stamp = stamp_of (words_of s.line) }))))),
   as_many,
   ap Some counts_is,
   behind,
@@ -323,7 +325,7 @@ JudgesLine-found s counters text counts finding few kept finds counts_is as_many
 -- ---- the end of a log
 
 -- the text of a state is apart from what was found before
-pub Watched-text : (state : WatchState) (text bytes : List ℕ) (findings : List Finding) → Watched state bytes findings → Watched (record state { text = text }) bytes findings
+pub Watched-text : (state : WatchState) (text bytes : List ℕ) (findings : List Found) → Watched state bytes findings → Watched (record state { text = text }) bytes findings
 Watched-text state text bytes findings w = record {
   lines = w.lines;
   rest = w.rest;
@@ -362,7 +364,7 @@ all_but_last one two x y same =
     sym (take-append_seam one (x ∷ [])) ∙ ap (take (length one)) same ∙ ap (λ n. take n (two ++ y ∷ [])) as_many ∙ take-append_seam two (y ∷ [])
 
 -- after one more line feed all lines of a log are complete
-pub FindsAll-ended : (state : WatchState) (mapping : NumberedMap) (bytes : List ℕ) (findings : List Finding) → state.mapping ≡ mapping
+pub FindsAll-ended : (state : WatchState) (mapping : NumberedMap) (bytes : List ℕ) (findings : List Found) → state.mapping ≡ mapping
     → Watched state (bytes ++ 10 ∷ []) findings → FindsAll mapping.lines bytes findings
 FindsAll-ended state mapping bytes findings same w =
     let lines_are : w.lines ≡ log_lines bytes = all_but_last w.lines (log_lines bytes) w.rest [] (sym w.cut ∙ one_more_line bytes) in
@@ -394,11 +396,11 @@ module _ (mapping : NumberedMap) (one two : LineTotals)
       ∙ flat_map-map (λ (t : List ℕ). t) (total_line_at mapping two) (map_places mapping)
 
 -- the text at the end of a log is that of what was found
-pub end_text_is : (state : WatchState) (bytes : List ℕ) (findings : List Finding) → Watched state bytes findings → end_text state ≡ totals_text state.mapping findings
+pub end_text_is : (state : WatchState) (bytes : List ℕ) (findings : List Found) → Watched state bytes findings → end_text state ≡ totals_text state.mapping (findings_of findings)
 end_text_is state bytes findings w =
     ap (λ t. t ++ counts_text state.mapping.options.json state.counts)
-    (same_totals state.mapping (totals_in state) (totals_of state.mapping findings) w.accepted_are w.failed_are w.counters_are)
-    ∙ ap (λ (counts : WatchCounts). totals_text_of state.mapping (totals_of state.mapping findings) counts) w.counts_are
+    (same_totals state.mapping (totals_in state) (totals_of state.mapping (findings_of findings)) w.accepted_are w.failed_are w.counters_are)
+    ∙ ap (λ (counts : WatchCounts). totals_text_of state.mapping (totals_of state.mapping (findings_of findings)) counts) w.counts_are
 
 -- more than none in 64 bits are more than none
 some_in_64_bits : (n : ℕ) → nat_lt 0 (in_64_bits n) ≡ nat_lt 0 n
@@ -411,12 +413,12 @@ heard_at_same mapping one two place same =
     ap (λ b. unwrap_or (option_map (λ (entry : MapLine). entry.optional || b) (slice_get mapping.lines place)) true) same
 
 -- so is the status
-pub end_status_is : (state : WatchState) (bytes : List ℕ) (findings : List Finding) → Watched state bytes findings → end_status state ≡ watch_status state.mapping findings
+pub end_status_is : (state : WatchState) (bytes : List ℕ) (findings : List Found) → Watched state bytes findings → end_status state ≡ watch_status state.mapping (findings_of findings)
 end_status_is state bytes findings w =
     let mapping : NumberedMap = state.mapping in
-    let counts_in : ℕ → ℕ = λ place. count_of (is_accepted_at place) findings in
-    let failed : nat_lt 0 state.counts.failed ≡ nat_lt 0 (count_of is_failed_tally findings) =
-    ap (λ (counts : WatchCounts). nat_lt 0 counts.failed) w.counts_are ∙ some_in_64_bits (count_of is_failed_tally findings) in
+    let counts_in : ℕ → ℕ = λ place. count_of (is_accepted_at place) (findings_of findings) in
+    let failed : nat_lt 0 state.counts.failed ≡ nat_lt 0 (count_of is_failed_tally (findings_of findings)) =
+    ap (λ (counts : WatchCounts). nat_lt 0 counts.failed) w.counts_are ∙ some_in_64_bits (count_of is_failed_tally (findings_of findings)) in
     let at : (place : ℕ) → place < length mapping.lines → is_heard_at mapping (slice_index state.accepted) place ≡ is_heard_at mapping counts_in place =
     λ place inside. heard_at_same mapping (slice_index state.accepted) counts_in place
     (ap (nat_lt 0) (w.accepted_are place inside) ∙ some_in_64_bits (counts_in place)) in
@@ -426,4 +428,4 @@ end_status_is state bytes findings w =
     ∙ ap (list_all (λ (b : Bool). b)) (places_same (is_heard_at mapping (slice_index state.accepted)) (is_heard_at mapping counts_in) 0 (length mapping.lines) (length mapping.lines) (omega arith) at)
     ∙ list_all-map (λ (b : Bool). b) (is_heard_at mapping counts_in) (map_places mapping)) in
     ap (λ b. if b then 1 else if are_heard mapping (slice_index state.accepted) then 0 else 3) failed
-    ∙ ap (λ b. if nat_lt 0 (count_of is_failed_tally findings) then 1 else if b then 0 else 3) heard
+    ∙ ap (λ b. if nat_lt 0 (count_of is_failed_tally (findings_of findings)) then 1 else if b then 0 else 3) heard

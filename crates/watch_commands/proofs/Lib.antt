@@ -2,7 +2,8 @@ pub mod Parts
 pub mod Objects
 pub mod Answering
 pub mod TotalVectors
-pub mod Places
+pub mod Stamping
+pub mod WordSizes
 pub mod Going
 pub mod WatchRising
 pub mod OneWatch

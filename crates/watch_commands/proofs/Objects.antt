@@ -10,8 +10,9 @@ use Rattle.secured_pdu.specs.Verdict.{Outcome, Accepted, FreshnessFailure, Verif
 use Rattle.text_lines.specs.Texts.{line}
 use Rattle.trace_audit.specs.Auditing.{Finding, other, too_short, verdict, front_text, finding_text, tally_of, is_accepted_tally}
 use Rattle.basics.proofs.CallerLemmas.{length-bytes_of}
-use Rattle.watch_commands.specs.declared.options.WatchOptions.{WatchOptions}
-use Rattle.watch_commands.specs.Watching.{told_text}
+use Rattle.watch_maps.specs.declared.options.WatchOptions.{WatchOptions}
+use Rattle.watch_commands.specs.Stamps.{LineStamp, lead_text}
+use Rattle.watch_commands.specs.Watching.{told_text, answer_text}
 use Rattle.watch_commands.specs.Objects.{finding_object}
 use Rattle.watch_commands.specs.Answers.{IsAnswerTo, front_object, said_object}
 
@@ -95,10 +96,53 @@ accepted_of number head accepted answer (other kind) is = absurd is
 accepted_of number head accepted answer (too_short n p can) (number_is, can_is, accepted_is, is) = sym accepted_is
 accepted_of number head accepted answer (verdict n p can outcome) (number_is, can_is, accepted_is, is) = sym accepted_is
 
-object_of_two : (left_out json : Bool) (object words : List ℕ) → left_out ≡ false → json ≡ true → (if left_out then [] else if json then object else words) ≡ object
-object_of_two true json object words is as_json = cc
-object_of_two false true object words is as_json = refl
-object_of_two false false object words is as_json = cc
+told_in_full : (left_out : Bool) (text : List ℕ) → left_out ≡ false → text ≡ (if left_out then [] else text)
+told_in_full true text is = cc
+told_in_full false text is = refl
+
+-- of a frame that isn't left out the answer is printed behind its time and channel
+pub told_full : (options : WatchOptions) (stamp : LineStamp) (number : ℕ) (head : List ℕ) (accepted : Bool) (answer : List ℕ) (f : Finding)
+    → IsAnswerTo number head accepted answer f → (accepted && options.quiet) ≡ false
+    → lead_text options stamp ++ answer_text options.json f ≡ told_text options (record { finding = f; stamp = stamp })
+told_full options stamp number head accepted answer (other kind) is told = absurd is
+told_full options stamp number head accepted answer (too_short n p can) is told =
+    told_in_full (is_accepted_tally (tally_of (too_short n p can)) && options.quiet) (lead_text options stamp ++ answer_text options.json (too_short n p can))
+    (ap (λ (b : Bool). b && options.quiet) (accepted_of number head accepted answer (too_short n p can) is) ∙ told)
+told_full options stamp number head accepted answer (verdict n p can outcome) is told =
+    told_in_full (is_accepted_tally (tally_of (verdict n p can outcome)) && options.quiet) (lead_text options stamp ++ answer_text options.json (verdict n p can outcome))
+    (ap (λ (b : Bool). b && options.quiet) (accepted_of number head accepted answer (verdict n p can outcome) is) ∙ told)
+
+left_out : (b : Bool) (text : List ℕ) → b ≡ true → [] ≡ (if b then [] else text)
+left_out true text is = refl
+left_out false text is = cc
+
+-- of one that is left out nothing is
+pub told_nothing : (options : WatchOptions) (stamp : LineStamp) (number : ℕ) (head : List ℕ) (accepted : Bool) (answer : List ℕ) (f : Finding)
+    → IsAnswerTo number head accepted answer f → (accepted && options.quiet) ≡ true → [] ≡ told_text options (record { finding = f; stamp = stamp })
+told_nothing options stamp number head accepted answer (other kind) is quiet = absurd is
+told_nothing options stamp number head accepted answer (too_short n p can) is quiet =
+    left_out (is_accepted_tally (tally_of (too_short n p can)) && options.quiet) (lead_text options stamp ++ answer_text options.json (too_short n p can))
+    (ap (λ (b : Bool). b && options.quiet) (accepted_of number head accepted answer (too_short n p can) is) ∙ quiet)
+told_nothing options stamp number head accepted answer (verdict n p can outcome) is quiet =
+    left_out (is_accepted_tally (tally_of (verdict n p can outcome)) && options.quiet) (lead_text options stamp ++ answer_text options.json (verdict n p can outcome))
+    (ap (λ (b : Bool). b && options.quiet) (accepted_of number head accepted answer (verdict n p can outcome) is) ∙ quiet)
+
+as_object : (json : Bool) (object words : List ℕ) → json ≡ true → object ≡ (if json then object else words)
+as_object true object words is = refl
+as_object false object words is = cc
+
+as_words : (json : Bool) (object words : List ℕ) → json ≡ false → words ≡ (if json then object else words)
+as_words true object words is = cc
+as_words false object words is = refl
+
+-- in words the answer is the text of the finding
+pub told_words : (json : Bool) (number : ℕ) (head : List ℕ) (accepted : Bool) (answer : List ℕ) (f : Finding)
+    → IsAnswerTo number head accepted answer f → json ≡ false → answer ≡ answer_text json f
+told_words json number head accepted answer (other kind) is words = absurd is
+told_words json number head accepted answer (too_short n p can) (number_is, can_is, accepted_is, is) words =
+    is ∙ as_words json (finding_object (too_short n p can)) (finding_text (too_short n p can)) words
+told_words json number head accepted answer (verdict n p can outcome) (number_is, can_is, accepted_is, is) words =
+    is ∙ as_words json (finding_object (verdict n p can outcome)) (finding_text (verdict n p can outcome)) words
 
 said_in : (digits head said answer : List ℕ) → answer ≡ (((digits ++ codes " ") ++ head) ++ codes " ") ++ (said ++ 10 ∷ [])
     → take (length answer - 1 - (length digits + length head + 2)) (drop (length digits + length head + 2) answer) ≡ said
@@ -123,16 +167,15 @@ said_long number head accepted answer f digits is digits_are is_true =
     (subst (λ (t : List ℕ). 37 ≤ length t) (sym (said_in (decimal number) head s.said answer s.answer_is)) (s.long is_true))
 
 -- the object is made of the part of the answer behind its front
-pub told_object : (options : WatchOptions) (number : ℕ) (head : List ℕ) (accepted : Bool) (answer : List ℕ) (f : Finding) (digits : List ℕ)
-    → IsAnswerTo number head accepted answer f → digits ≡ decimal number → (accepted && options.quiet) ≡ false → options.json ≡ true
+pub told_object : (json : Bool) (number : ℕ) (head : List ℕ) (accepted : Bool) (answer : List ℕ) (f : Finding) (digits : List ℕ)
+    → IsAnswerTo number head accepted answer f → digits ≡ decimal number → json ≡ true
     → front_object digits head
     ++ said_object accepted (take (length answer - 1 - (length digits + length head + 2)) (drop (length digits + length head + 2) answer))
-    ≡ told_text options f
-told_object options number head accepted answer f digits is digits_are told json =
+    ≡ answer_text json f
+told_object json number head accepted answer f digits is digits_are as_json =
     let s : Says number head accepted answer f = says number head accepted answer f is in
     ap (λ (d : List ℕ). front_object d head
     ++ said_object accepted (take (length answer - 1 - (length d + length head + 2)) (drop (length d + length head + 2) answer))) digits_are
     ∙ ap (λ (t : List ℕ). front_object (decimal number) head ++ said_object accepted t) (said_in (decimal number) head s.said answer s.answer_is)
     ∙ sym s.object
-    ∙ sym (object_of_two (is_accepted_tally (tally_of f) && options.quiet) options.json (finding_object f) (finding_text f)
-    (ap (λ (b : Bool). b && options.quiet) (accepted_of number head accepted answer f is) ∙ told) json)
+    ∙ as_object json (finding_object f) (finding_text f) as_json

@@ -1,57 +1,29 @@
 -- What comes of a log, and what is printed of it, from turn to turn
-use Rattle.std.proofs.Common.{◌≡◌, ℕ, ◌+◌, ◌<◌, ◌≤◌, List, [], ◌++◌, length, refl, sym, ◌∙◌, ap, subst, inl, inr, arith, append-nil, append_assoc, length-append}
-use Rattle.std.specs.Prelude.{Some, Result, Ok, Err, OnOk, OnErr}
+use Rattle.std.proofs.Common.{◌≡◌, ℕ, ◌+◌, ◌<◌, ◌≤◌, List, [], ◌++◌, length, refl, sym, ◌∙◌, ap, subst, inl, inr, arith, append-nil, append_assoc}
+use Rattle.std.specs.Prelude.{Some, Ok}
 use Rattle.std.proofs.lemmas.Grind.{flat_map-append}
-use Rattle.std.proofs.Math.Seq.{take-append-add}
 use Rattle.bus_port.specs.Fault.{Rose}
 use Rattle.basics.proofs.CallerLemmas.{rose_after}
 use Rattle.bus_port.specs.Source.{SourceState, Came, HandsOut, ReadFails}
-use Rattle.bus_port.specs.Sink.{SinkState, Appended}
+use Rattle.bus_port.specs.Sink.{SinkState}
 use Rattle.bus_port.proofs.CallerLemmas.{Came-nothing, Came-more, Appended-more, Appended-nothing}
 use Rattle.bus_port.specs.Whole.{AppendedPart}
 use Rattle.program_edge.specs.Told.{AppendedWell, EndingTold}
 use Rattle.program_edge.proofs.CallerLemmas.{AppendedWell-more}
 use Rattle.program_edge.specs.Rows.{row_of}
 use Rattle.program_edge.specs.Inputs.{Reading}
-use Rattle.trace_audit.specs.Auditing.{Finding}
-use Rattle.watch_commands.specs.WatchMaps.{NumberedMap}
-use Rattle.watch_commands.specs.Watching.{told_text, found_text, FindsComplete, FindsAll}
+use Rattle.watch_maps.specs.WatchMaps.{NumberedMap}
+use Rattle.watch_commands.specs.Watching.{Found, findings_of, told_text, found_text, FindsComplete, FindsAll}
 use Rattle.watch_commands.specs.WatchTotals.{totals_text, watch_status}
-use Rattle.trace_audit.specs.Pieces.{PutsPiece}
 use Rattle.watch_commands.specs.States.{WatchState, Watched}
-use Rattle.watch_commands.specs.WatchRows.{Writing, ReadsToEnd, done, FailsOfLog, failed, too_long, log_failed_text, log_too_long_text, EndsLog}
-use Rattle.watch_commands.specs.WatchSteps.{Ports, SoFar}
-
--- if no fault of the log was counted, its count didn't rise
-pub never_counted : {A : Type 0} (first later : SourceState) → later.faults ≡ first.faults → first.faults < later.faults → A
-never_counted first later still counts = absurd (omega (arith, still, counts))
+use Rattle.watch_maps.specs.LogRuns.{Writing, ReadsToEnd, log_failed_text, log_too_long_text, Ports}
+use Rattle.watch_commands.specs.WatchRows.{done, FailsOfLog, failed, too_long, EndsLog}
+use Rattle.watch_commands.specs.WatchSteps.{SoFar}
+use Rattle.watch_maps.proofs.CallerLemmas.{told_more}
 
 -- what is found of the complete lines, of a state
-pub complete_of : (watch : WatchState) (bytes : List ℕ) (findings : List Finding) → Watched watch bytes findings → FindsComplete watch.mapping.lines bytes findings
+pub complete_of : (watch : WatchState) (bytes : List ℕ) (findings : List Found) → Watched watch bytes findings → FindsComplete watch.mapping.lines bytes findings
 complete_of watch bytes findings w = record { lines = w.lines; rest = w.rest; cut = w.cut; finds = w.finds }
-
--- ---- what is printed after what was printed well
-
-part_more : (first before after : SinkState) (some more : List ℕ) → Appended first before some → AppendedPart before after more
-    → AppendedPart first after (some ++ more)
-part_more first before after some more one (n, less, two) = (
-  length some + n,
-  omega (arith, less, length-append some more),
-  subst (Appended first after) (sym (take-append-add some more n)) (Appended-more one two),
-)
-
-pub told_more : (first before after : SinkState) (some text : List ℕ) (status answer : ℕ) → AppendedWell first before some
-    → EndingTold before after text status answer → EndingTold first after (some ++ text) status answer
-told_more first before after some text status answer well (inl (is, told)) = inl (is, AppendedWell-more first before after some text well told)
-told_more first before after some text status answer well (inr (six, rose, part)) =
-    inr (six, rose_after first.faults before.faults after.faults well.1.later rose, part_more first before after some text well.1 part)
-
--- what was written of a text, as it is told
-pub puts : {A E : Type 0} (before after : SinkState) (text : List ℕ) (result : Result A E) → OnOk result (Appended before after text)
-    → OnOk result (after.faults ≡ before.faults) → OnErr result (Rose before.faults after.faults)
-    → OnErr result (AppendedPart before after text) → PutsPiece before after text result
-puts before after text (Ok _) appended calm rose part = (calm, appended)
-puts before after text (Err e) appended calm rose part = (rose, part)
 
 -- ---- a turn
 
@@ -60,7 +32,7 @@ pub SoFar-none : (log : SourceState) (sink : SinkState) (watch : WatchState) →
     → SoFar (record { log = record { before = log; after = log }; before = sink; after = sink }) watch [] []
 SoFar-none log sink watch w = record { came = Came-nothing log; calm = refl; watched = w; prints = (refl, Appended-nothing sink) }
 
-module _ (first log later : SourceState) (start sink next : SinkState) (old new : WatchState) (bytes : List ℕ) (findings : List Finding) where
+module _ (first log later : SourceState) (start sink next : SinkState) (old new : WatchState) (bytes : List ℕ) (findings : List Found) where
   abbrev before : Ports
   before = record { log = record { before = first; after = log }; before = start; after = sink }
 
@@ -71,7 +43,7 @@ module _ (first log later : SourceState) (start sink next : SinkState) (old new 
   written = record { before = start; after = next }
 
   -- a piece came and was taken
-  pub SoFar-more : (piece : List ℕ) (more : List Finding) → new.mapping ≡ old.mapping → SoFar before old bytes findings → Came log later piece → later.faults ≡ log.faults
+  pub SoFar-more : (piece : List ℕ) (more : List Found) → new.mapping ≡ old.mapping → SoFar before old bytes findings → Came log later piece → later.faults ≡ log.faults
       → Watched new (bytes ++ piece) (findings ++ more) → AppendedWell sink next (found_text old.mapping more)
       → SoFar (record { log = reading; before = start; after = next }) new (bytes ++ piece) (findings ++ more)
   SoFar-more piece more same so_far came calm watched prints = record {
@@ -84,7 +56,7 @@ module _ (first log later : SourceState) (start sink next : SinkState) (old new 
   }
 
   -- a piece came, and the sink failed
-  pub Stops-in : (piece : List ℕ) (more : List Finding) → new.mapping ≡ old.mapping → SoFar before old bytes findings → Came log later piece → later.faults ≡ log.faults
+  pub Stops-in : (piece : List ℕ) (more : List Found) → new.mapping ≡ old.mapping → SoFar before old bytes findings → Came log later piece → later.faults ≡ log.faults
       → length piece ≤ 4096 → Watched new (bytes ++ piece) (findings ++ more) → Rose sink.faults next.faults → AppendedPart sink next (found_text old.mapping more)
       → EndsLog old.mapping reading written (Ok 6)
   Stops-in piece more same so_far came calm short watched rose (size, proper, part) = inr (record {
@@ -119,24 +91,24 @@ module _ (first log later : SourceState) (start sink next : SinkState) (old new 
       (sym (here.2 ∙ ap (λ r. bytes ++ r) gone ∙ append-nil bytes), behind.1 ∙ ap Some last) in
       record { came = came_no_more so_far hands.came; within = omega arith; no_fault = hands.no_fault ∙ so_far.calm; whole = whole }
 
-  pub Ends-done : (room left : List ℕ) (more : List Finding) (status : ℕ) → SoFar before old bytes findings → HandsOut log later room left 0 → 0 < length room
+  pub Ends-done : (room left : List ℕ) (more : List Found) (status : ℕ) → SoFar before old bytes findings → HandsOut log later room left 0 → 0 < length room
       → FindsAll old.mapping.lines bytes (findings ++ more)
-      → EndingTold sink next (found_text old.mapping more ++ totals_text old.mapping (findings ++ more)) (watch_status old.mapping (findings ++ more)) status
+      → EndingTold sink next (found_text old.mapping more ++ totals_text old.mapping (findings_of (findings ++ more))) (watch_status old.mapping (findings_of (findings ++ more))) status
       → EndsLog old.mapping reading written (Ok status)
   Ends-done room left more status so_far hands some finds told =
-      let all : List Finding = findings ++ more in
-      let text_is : found_text old.mapping findings ++ (found_text old.mapping more ++ totals_text old.mapping all) ≡ found_text old.mapping all ++ totals_text old.mapping all =
-      sym (append_assoc (found_text old.mapping findings) (found_text old.mapping more) (totals_text old.mapping all))
-      ∙ ap (λ t. t ++ totals_text old.mapping all) (sym (flat_map-append (told_text old.mapping.options) findings more)) in
+      let all : List Found = findings ++ more in
+      let text_is : found_text old.mapping findings ++ (found_text old.mapping more ++ totals_text old.mapping (findings_of all)) ≡ found_text old.mapping all ++ totals_text old.mapping (findings_of all) =
+      sym (append_assoc (found_text old.mapping findings) (found_text old.mapping more) (totals_text old.mapping (findings_of all)))
+      ∙ ap (λ t. t ++ totals_text old.mapping (findings_of all)) (sym (flat_map-append (told_text old.mapping.options) findings more)) in
       inl (record {
-        row = row_of (watch_status old.mapping all) (found_text old.mapping all ++ totals_text old.mapping all);
+        row = row_of (watch_status old.mapping (findings_of all)) (found_text old.mapping all ++ totals_text old.mapping (findings_of all));
         comes = done bytes all (at_end room left so_far hands some) finds;
-        told = subst (λ t. EndingTold start next t (watch_status old.mapping all) status) text_is
-            (told_more start sink next (found_text old.mapping findings) (found_text old.mapping more ++ totals_text old.mapping all) (watch_status old.mapping all) status so_far.prints told);
+        told = subst (λ t. EndingTold start next t (watch_status old.mapping (findings_of all)) status) text_is
+            (told_more start sink next (found_text old.mapping findings) (found_text old.mapping more ++ totals_text old.mapping (findings_of all)) (watch_status old.mapping (findings_of all)) status so_far.prints told);
       })
 
 -- the log failed
-pub Ends-failed : (first log later : SourceState) (start sink : SinkState) (watch : WatchState) (bytes : List ℕ) (findings : List Finding) (room left : List ℕ)
+pub Ends-failed : (first log later : SourceState) (start sink : SinkState) (watch : WatchState) (bytes : List ℕ) (findings : List Found) (room left : List ℕ)
     → SoFar (record { log = record { before = first; after = log }; before = start; after = sink }) watch bytes findings → ReadFails log later room left
     → FailsOfLog watch.mapping (record { before = first; after = later }) (record { before = start; after = sink }) (row_of 5 log_failed_text)
 Ends-failed first log later start sink watch bytes findings room left so_far fails =
@@ -144,7 +116,7 @@ Ends-failed first log later start sink watch bytes findings room left so_far fai
     (rose_after first.faults log.faults later.faults so_far.came.later fails.rose) so_far.prints
 
 -- 2^64 - 1 bytes came
-pub Ends-too_long : (first log : SourceState) (start sink : SinkState) (watch : WatchState) (bytes : List ℕ) (findings : List Finding)
+pub Ends-too_long : (first log : SourceState) (start sink : SinkState) (watch : WatchState) (bytes : List ℕ) (findings : List Found)
     → SoFar (record { log = record { before = first; after = log }; before = start; after = sink }) watch bytes findings → 18446744073709551615 ≤ length bytes
     → FailsOfLog watch.mapping (record { before = first; after = log }) (record { before = start; after = sink }) (row_of 8 log_too_long_text)
 Ends-too_long first log start sink watch bytes findings so_far long =

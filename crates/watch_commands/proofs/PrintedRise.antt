@@ -7,14 +7,14 @@ use Rattle.bus_port.specs.Sink.{SinkState, Appended}
 use Rattle.program_edge.specs.Told.{EndingTold}
 use Rattle.program_edge.specs.Rows.{Row}
 use Rattle.program_edge.specs.Inputs.{IsUnread}
-use Rattle.trace_audit.specs.Auditing.{Finding}
 use Rattle.trace_audit.specs.Rows.{AuditInputs}
-use Rattle.watch_commands.specs.WatchMaps.{NumberedMap}
+use Rattle.watch_maps.specs.WatchMaps.{NumberedMap}
 use Rattle.trace_audit.specs.Pieces.{log_lines}
-use Rattle.watch_commands.specs.Watching.{FindsComplete, told_text, found_text}
+use Rattle.watch_commands.specs.Watching.{Found, findings_of, FindsComplete, told_text, found_text}
 use Rattle.watch_commands.specs.WatchTotals.{totals_text}
 use Rattle.watch_commands.specs.Words.{AsksWatch}
-use Rattle.watch_commands.specs.WatchRows.{ReadsWatchMap, HasCome, Writing, WritesWhole, ending_of, WatchEnding, ComesOfLog, done, FailsOfLog, failed, too_long, Stops, OverMap, ComesOnOutput, asked, of_log, ComesOnErrors, no_form, no_map, map_fault, no_log, EndsWatch}
+use Rattle.watch_maps.specs.LogRuns.{HasCome, Writing, WritesWhole, ending_of, WatchEnding}
+use Rattle.watch_commands.specs.WatchRows.{ReadsWatchMap, ComesOfLog, done, FailsOfLog, failed, too_long, Stops, OverMap, ComesOnOutput, asked, of_log, ComesOnErrors, no_form, no_map, map_fault, no_log, EndsWatch}
 use Rattle.watch_commands.specs.Watches.{PrintsRising}
 use Rattle.watch_commands.proofs.WatchRising.{all_rise}
 
@@ -26,7 +26,7 @@ printed_front before after text status answer (inl (is, well)) =
 printed_front before after text status answer (inr (six, rose, (size, proper, part))) = (size, part)
 
 -- what was printed of the last piece is a prefix of what is found of all
-front_of_all : (mapping : NumberedMap) (findings more : List Finding) (size : ℕ)
+front_of_all : (mapping : NumberedMap) (findings more : List Found) (size : ℕ)
     → found_text mapping findings ++ take size (found_text mapping more)
     ≡ take (length (found_text mapping findings) + size) (found_text mapping (findings ++ more) ++ [])
 front_of_all mapping findings more size =
@@ -53,7 +53,7 @@ module _ (i : AuditInputs) (output : Writing) where
         came = whole.came;
         finds = inr finds;
         rise = all_rise mapping.lines (log_lines bytes) findings finds;
-        last = totals_text mapping findings;
+        last = totals_text mapping (findings_of findings);
         last_is = inl refl;
         size = size;
         prints = part;
@@ -66,7 +66,7 @@ module _ (i : AuditInputs) (output : Writing) where
   output_rises row (of_log _ (asks, (mapping, reads, comes))) size part = of_log_rises asks mapping reads row comes size part
 
   -- what is found of the complete lines was written whole
-  complete_rises : AsksWatch i.words → (mapping : NumberedMap) → ReadsWatchMap i mapping → (bytes : List ℕ) (findings : List Finding) → HasCome i.log bytes
+  complete_rises : AsksWatch i.words → (mapping : NumberedMap) → ReadsWatchMap i mapping → (bytes : List ℕ) (findings : List Found) → HasCome i.log bytes
       → FindsComplete mapping.lines bytes findings → WritesWhole output (found_text mapping findings) → Rises
   complete_rises asks mapping reads bytes findings came finds written = inr (
     asks,

@@ -1,11 +1,12 @@
 -- The definitions of what stands behind the answers of a log, tried on written-out maps and lines
 use Rattle.std.proofs.Common.{◌≡◌, Bool, true, false, List, [], ◌∷◌, refl}
-use Rattle.std.specs.Prelude.{codes, None, Some}
+use Rattle.std.specs.Prelude.{codes, None}
 use Rattle.secured_pdu.specs.Verdict.{Accepted, VerificationFailure}
 use Rattle.trace_audit.specs.declared.map_lines.MapLine.{MapLine}
 use Rattle.trace_audit.specs.declared.frames.OtherLine.TheVariants as kind
 use Rattle.trace_audit.specs.Frames.{unheard_kind, is_dataless_word}
-use Rattle.watch_commands.specs.WatchMaps.{NumberedMap, words_to, line_name_form}
+use Rattle.watch_maps.specs.OptionWords.{no_options}
+use Rattle.watch_maps.specs.WatchMaps.{NumberedMap}
 use Rattle.trace_audit.specs.Auditing.{Finding, other, too_short, verdict}
 use Rattle.watch_commands.specs.WatchTotals.{totals_of, counts_of, watch_status}
 
@@ -38,32 +39,6 @@ four_digits = refl
 no_number_sign : is_dataless_word (codes "00123") ≡ false
 no_number_sign = refl
 
--- ---- the words of a line of a map
-
-with_a_comment : words_to false (codes "a" ∷ codes "b" ∷ codes "#c" ∷ codes "optional" ∷ []) ≡ 2
-with_a_comment = refl
-
-no_mark : words_to true (codes "a" ∷ codes "b" ∷ codes "#c" ∷ codes "optional" ∷ []) ≡ 2
-no_mark = refl
-
-before_the_marks : words_to true (codes "a" ∷ codes "name=b" ∷ codes "optional" ∷ codes "#" ∷ []) ≡ 1
-before_the_marks = refl
-
-before_the_comment : words_to false (codes "a" ∷ codes "name=b" ∷ codes "optional" ∷ codes "#" ∷ []) ≡ 3
-before_the_comment = refl
-
-a_name : line_name_form (codes "name=brake_request-1.a") ≡ Some (codes "brake_request-1.a")
-unfolding line_name_form
-a_name = refl
-
-no_name : line_name_form (codes "name=") ≡ None
-unfolding line_name_form
-no_name = refl
-
-another_byte : line_name_form (codes "name=brake/request") ≡ None
-unfolding line_name_form
-another_byte = refl
-
 -- ---- the totals
 
 entry : Bool → MapLine
@@ -81,7 +56,7 @@ entry optional = record {
 
 -- two lines, at 3 and 5 of the map's text
 mapping : Bool → Bool → NumberedMap
-mapping first second = record { lines = entry first ∷ entry second ∷ []; numbers = 3 ∷ 5 ∷ []; options = record { quiet = false; json = false } }
+mapping first second = record { lines = entry first ∷ entry second ∷ []; numbers = 3 ∷ 5 ∷ []; options = no_options }
 
 -- freshness 12 and 15 for the first line, a failure, a frame that is too short, and a remote frame
 found : List Finding
@@ -118,5 +93,5 @@ a_failure_comes_first : watch_status (mapping false false) found ≡ 1
 unfolding mapping found entry
 a_failure_comes_first = refl
 
-no_lines : watch_status (record { lines = []; numbers = []; options = record { quiet = false; json = false } }) [] ≡ 3
+no_lines : watch_status (record { lines = []; numbers = []; options = no_options }) [] ≡ 3
 no_lines = refl

@@ -19,14 +19,17 @@ use Rattle.program_edge.proofs.CallerLemmas.{EndsInRow-at, EndsInRow-front, Ends
 use Rattle.trace_audit.specs.declared.map_lines.MapLine.{MapLine}
 use Rattle.trace_audit.specs.Auditing.{Finding}
 use Rattle.trace_audit.specs.Rows.{AuditInputs}
-use Rattle.watch_commands.specs.MapFaults.{map_fault_text, map_input_text}
-use Rattle.watch_commands.specs.Words.{watch_usage, flags_before, behind_flags, kept_first, behind_kept, watch_inputs, AsksWatch, text_asked}
-use Rattle.watch_commands.specs.WatchMaps.{NumberedMap, watch_map_of}
+use Rattle.watch_maps.specs.MapFaults.{map_fault_text, map_input_text}
+use Rattle.watch_maps.specs.OptionWords.{flags_before, behind_flags, kept_first, behind_kept, watch_inputs}
+use Rattle.watch_commands.specs.Words.{watch_usage, AsksWatch, text_asked}
+use Rattle.watch_maps.specs.WatchMaps.{NumberedMap, watch_map_of}
+use Rattle.watch_commands.specs.Watching.{findings_of}
 use Rattle.watch_commands.specs.WatchTotals.{is_failed_tally, is_accepted_at, count_of, are_heard, watch_status}
-use Rattle.watch_commands.specs.WatchRows.{ReadsWatchMap, IsWatchMapFault, IsUnwritten, WritesWhole, WatchEnding, on_output, on_errors}
-use Rattle.watch_commands.specs.WatchRows.{ComesOfLog, done, FailsOfLog, failed, too_long, log_failed_text, log_too_long_text, Stops, FailsBoth, OverMap}
+use Rattle.watch_maps.specs.LogRuns.{IsWatchMapFault, IsUnwritten, WritesWhole, WatchEnding, on_output, on_errors, log_failed_text, log_too_long_text, IsAnswer}
+use Rattle.watch_commands.specs.WatchRows.{ReadsWatchMap}
+use Rattle.watch_commands.specs.WatchRows.{ComesOfLog, done, FailsOfLog, failed, too_long, Stops, FailsBoth, OverMap}
 use Rattle.watch_commands.specs.WatchRows.{ComesOnOutput, asked, of_log, ComesOnErrors, no_form, no_map, map_fault, no_log, EndsWatch}
-use Rattle.watch_commands.specs.Watches.{IsAnswer, AnswersLog, HoldsNothingBack, Watches}
+use Rattle.watch_commands.specs.Watches.{AnswersLog, HoldsNothingBack, Watches}
 use Rattle.watch_commands.proofs.PrintedRise.{rises}
 
 -- ---- statuses
@@ -71,7 +74,7 @@ module _ (i : AuditInputs) (e : WatchEnding) where
   -- ---- rows by their status
 
   of_log_status : (mapping : NumberedMap) (row : Row) → ComesOfLog mapping i.log row → IsAnswer row.status
-  of_log_status mapping row (done log findings whole finds) = status_answers mapping findings
+  of_log_status mapping row (done log findings whole finds) = status_answers mapping (findings_of findings)
 
   output_status : (row : Row) → ComesOnOutput i row → IsAnswer row.status
   output_status row (asked text is map log) = inl refl

@@ -8,7 +8,8 @@ use Rattle.trace_audit.specs.declared.map_lines.MapLine.{MapLine}
 use Rattle.trace_audit.specs.declared.frames.OtherLine.TheVariants as kind
 use Rattle.trace_audit.specs.Auditing.{Finding, other, finding_accepts, first_counters, counter_of_place}
 use Rattle.trace_audit.proofs.CallerLemmas.{Keeps, keeps_one, above}
-use Rattle.watch_commands.specs.Watching.{WatchesLine, WatchesEach, none, more}
+use Rattle.watch_commands.specs.Watching.{Found, stamped, findings_of, WatchesLine, WatchesEach, none, more}
+use Rattle.watch_commands.proofs.Stamping.{findings_more}
 use Rattle.trace_audit.specs.Pieces.{in_64_bits}
 
 -- what is found of one more line
@@ -22,13 +23,14 @@ keeps_line mapping findings number bytes found so_far (inr (inr (few, kept, (f, 
     subst (λ (fs : List Finding). Keeps mapping (findings ++ fs)) (sym is)
     (keeps_one mapping findings f so_far (above mapping (counter_of_place mapping findings) _ f finds))
 
-keeps : (mapping : List MapLine) (lines : List (List ℕ)) (findings : List Finding) → WatchesEach mapping lines findings → Keeps mapping findings
-keeps mapping lines findings none = counting.none
-keeps mapping lines findings (more before so_far bytes found each finds) =
-    keeps_line mapping so_far (in_64_bits (length before + 1)) bytes found (keeps mapping before so_far each) finds
+keeps : (mapping : List MapLine) (lines : List (List ℕ)) (found : List Found) → WatchesEach mapping lines found → Keeps mapping (findings_of found)
+keeps mapping lines found none = counting.none
+keeps mapping lines found (more before so_far bytes findings each finds) =
+    subst (Keeps mapping) (sym (findings_more so_far bytes findings))
+    (keeps_line mapping (findings_of so_far) (in_64_bits (length before + 1)) bytes findings (keeps mapping before so_far each) finds)
 
 -- of two frames that the same line of the map accepts, the later has the greater freshness
-pub all_rise : (mapping : List MapLine) (lines : List (List ℕ)) (findings : List Finding) → WatchesEach mapping lines findings
-    → AcceptedRise (map finding_accepts findings)
-all_rise mapping lines findings each =
-    KeepsCounters-rise (slice_index (first_counters mapping)) (map finding_accepts findings) (keeps mapping lines findings each)
+pub all_rise : (mapping : List MapLine) (lines : List (List ℕ)) (found : List Found) → WatchesEach mapping lines found
+    → AcceptedRise (map finding_accepts (findings_of found))
+all_rise mapping lines found each =
+    KeepsCounters-rise (slice_index (first_counters mapping)) (map finding_accepts (findings_of found)) (keeps mapping lines found each)

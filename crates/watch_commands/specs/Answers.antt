@@ -11,7 +11,7 @@ use Rattle.trace_audit.specs.Auditing.{Finding, other, too_short, verdict, findi
 -- the front of an object, by the digits of the number
 abbrev pub front_object : List ℕ → List ℕ → List ℕ
 front_object digits head =
-    codes "{\"frame\":" ++ digits ++ codes ",\"name\":\"" ++ head ++ codes "\",\"verdict\":\""
+    codes "\"frame\":" ++ digits ++ codes ",\"name\":\"" ++ head ++ codes "\",\"verdict\":\""
 
 -- what is said of an accepted frame, behind the front: the word, and then the freshness and the payload
 abbrev pub accepted_values : List ℕ → List ℕ

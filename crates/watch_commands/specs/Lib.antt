@@ -1,4 +1,5 @@
 pub mod Words
+pub mod Stamps
 pub mod Objects
 pub mod Answers
 pub mod MapFaults

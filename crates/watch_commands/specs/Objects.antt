@@ -1,4 +1,4 @@
--- What is printed of a finding as an object of JSON, on one line
+-- What is printed of a finding as an object of JSON, on one line, after its bracket or its time and channel
 use Rattle.std.specs.Prelude.{ℕ, List, [], ◌++◌, codes}
 use Rattle.std.specs.Fmt.{decimal}
 use Rattle.basics.specs.Numbers.{bytes_of}
@@ -10,7 +10,7 @@ use Rattle.trace_audit.specs.Auditing.{Finding, other, too_short, verdict}
 -- the number of the frame's line in the log, the name or CAN identifier of the map's line, and what is said of the frame
 abbrev pub object_front : ℕ → List ℕ → List ℕ → List ℕ
 object_front number can said =
-    codes "{\"frame\":" ++ decimal number ++ codes ",\"name\":\"" ++ can ++ codes "\",\"verdict\":\"" ++ said
+    codes "\"frame\":" ++ decimal number ++ codes ",\"name\":\"" ++ can ++ codes "\",\"verdict\":\"" ++ said
 
 -- the freshness and the payload of an accepted frame
 abbrev pub accepted_object : List ℕ → ℕ → List ℕ

@@ -6,10 +6,10 @@ use Rattle.trace_audit.specs.declared.auditing.FrameTally.{FrameTally}
 use Rattle.trace_audit.specs.declared.auditing.FrameTally.TheVariants as tally
 use Rattle.watch_commands.specs.declared.counts.WatchCounts.{WatchCounts}
 use Rattle.secoc_words.specs.Counting.{last_accepted}
-use Rattle.watch_commands.specs.WatchMaps.{NumberedMap}
+use Rattle.watch_maps.specs.WatchMaps.{NumberedMap}
 use Rattle.trace_audit.specs.Auditing.{Finding, tally_of, finding_accepts, counter_of_place, is_accepted_tally}
 use Rattle.trace_audit.specs.Pieces.{line_limit, log_lines, in_64_bits}
-use Rattle.watch_commands.specs.Watching.{WatchesLine, WatchesEach, found_text}
+use Rattle.watch_commands.specs.Watching.{Found, stamped, findings_of, WatchesLine, WatchesEach, found_text}
 use Rattle.watch_commands.specs.WatchTotals.{counted_of, counts_of, is_failed_tally}
 use Rattle.watch_commands.specs.WatchTotals.{is_accepted_at, is_failed_at, is_other_of}
 use Rattle.watch_commands.specs.WatchTotals.{is_unmapped_line, is_other_frame}
@@ -29,13 +29,13 @@ pub record WatchState : Type 0 where
   pub text : List ℕ
 
 -- for each line of the map the number of findings that pass for it
-abbrev pub AreCounted : (ℕ → FrameTally → Bool) → NumberedMap → List ℕ → List Finding → Type 0
+abbrev pub AreCounted : (ℕ → FrameTally → Bool) → NumberedMap → List ℕ → List Found → Type 0
 AreCounted passes mapping numbers findings =
     (place : ℕ) → place < length mapping.lines
-    → slice_index numbers place ≡ counted_of (passes place) findings
+    → slice_index numbers place ≡ counted_of (passes place) (findings_of findings)
 
 -- the state after these bytes of a log, of whose complete lines these are found
-pub record Watched (state : WatchState) (bytes : List ℕ) (findings : List Finding) : Type 0 where
+pub record Watched (state : WatchState) (bytes : List ℕ) (findings : List Found) : Type 0 where
   pub lines : List (List ℕ)
   pub rest : List ℕ
   pub cut : log_lines bytes ≡ lines ++ rest ∷ []
@@ -44,15 +44,15 @@ pub record Watched (state : WatchState) (bytes : List ℕ) (findings : List Find
   pub lines_are : state.lines ≡ in_64_bits (length lines)
   pub as_many : length state.counters ≡ length state.mapping.lines
   pub counters_are : (place : ℕ) → place < length state.mapping.lines
-      → slice_index state.counters place ≡ counter_of_place state.mapping.lines findings place
+      → slice_index state.counters place ≡ counter_of_place state.mapping.lines (findings_of findings) place
   pub accepted_are : AreCounted is_accepted_at state.mapping state.accepted findings
   pub failed_are : AreCounted is_failed_at state.mapping state.failed findings
-  pub counts_are : state.counts ≡ counts_of findings
+  pub counts_are : state.counts ≡ counts_of (findings_of findings)
 
 -- more was found: of these bytes more, and its text was added
 abbrev pub FindsMore : WatchState → WatchState → List ℕ → Type 0
 FindsMore old new piece =
-    (bytes : List ℕ) (findings : List Finding) → Watched old bytes findings → (more : List Finding)
+    (bytes : List ℕ) (findings : List Found) → Watched old bytes findings → (more : List Found)
     × Watched new (bytes ++ piece) (findings ++ more) × (new.text ≡ old.text ++ found_text old.mapping more)
 
 -- what found findings, of one line, count as: nothing if it was skipped
@@ -64,11 +64,14 @@ tally_found (finding ∷ _) = Some (tally_of finding)
 -- as
 abbrev pub JudgesLine : WatchState → WatchState → Option FrameTally → Type 0
 JudgesLine old new counts =
-    (found : List Finding) × WatchesLine old.mapping.lines (slice_index old.counters) old.lines old.line found
-    × (new ≡ record old { counters = new.counters; text = old.text ++ found_text old.mapping found })
-    × (length new.counters ≡ length old.counters) × (counts ≡ tally_found found)
-    × ((place : ℕ) → place < length old.counters
-    → slice_index new.counters place ≡ last_accepted place (slice_index old.counters place) (map finding_accepts found))
+    (findings : List Finding) × WatchesLine old.mapping.lines (slice_index old.counters) old.lines old.line findings
+    × (new ≡ record old {
+      counters = new.counters;
+      text = old.text ++ found_text old.mapping (stamped old.line findings);
+    })
+    × (length new.counters ≡ length old.counters) × (counts ≡ tally_found findings)
+    × ((place : ℕ) → place < length old.counters → slice_index new.counters place
+    ≡ last_accepted place (slice_index old.counters place) (map finding_accepts findings))
 
 -- a place is one of so many
 abbrev pub IsPlaced : ℕ → FrameTally → Type 0

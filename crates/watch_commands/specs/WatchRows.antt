@@ -1,23 +1,22 @@
 -- The table of answers of `watch`: its rows, and when each comes
 use Rattle.std.specs.Prelude.{◌≡◌, ◌⊎◌, ℕ, ◌<◌, ◌≤◌, None, Some, Result, Ok, Err}
-use Rattle.std.specs.Prelude.{List, ◌++◌, length, take, codes}
+use Rattle.std.specs.Prelude.{List, ◌++◌, length, take}
 use Rattle.bus_port.specs.Fault.{last_count}
-use Rattle.bus_port.specs.Source.{Came}
-use Rattle.bus_port.specs.Sink.{SinkState, Appended}
-use Rattle.bus_port.specs.Whole.{ReadsAll, AppendedPart}
+use Rattle.bus_port.specs.Sink.{Appended}
+use Rattle.bus_port.specs.Whole.{AppendedPart}
 use Rattle.text_lines.specs.Readings.{Fault}
-use Rattle.text_lines.specs.Texts.{line}
 use Rattle.program_edge.specs.declared.input.InputFault.{InputFault}
-use Rattle.program_edge.specs.Told.{AppendedWell}
 use Rattle.program_edge.specs.Rows.{Row, row_of}
 use Rattle.program_edge.specs.Inputs.{Reading, IsUnread, ReadsWhole, Lacks, SourceFailed}
 use Rattle.program_edge.specs.Endings.{Ending, EndsInRow, SinkFailed}
-use Rattle.trace_audit.specs.Auditing.{Finding}
-use Rattle.trace_audit.specs.Rows.{AuditInputs, IsMapFaultBy}
-use Rattle.watch_commands.specs.MapFaults.{map_input_row, map_line_row}
-use Rattle.watch_commands.specs.Words.{watch_usage, watch_options, AsksWatch, text_asked}
-use Rattle.watch_commands.specs.WatchMaps.{NumberedMap, watch_map_of, IsMapOf}
-use Rattle.watch_commands.specs.Watching.{found_text, FindsComplete, FindsAll}
+use Rattle.trace_audit.specs.Rows.{AuditInputs}
+use Rattle.watch_maps.specs.MapFaults.{map_input_row, map_line_row}
+use Rattle.watch_maps.specs.OptionWords.{watch_options}
+use Rattle.watch_commands.specs.Words.{watch_usage, AsksWatch, text_asked}
+use Rattle.watch_maps.specs.WatchMaps.{NumberedMap, IsMapOf}
+use Rattle.watch_maps.specs.LogRuns.{IsWatchMapFault, ReadsToEnd, HasCome, log_failed_text, log_too_long_text}
+use Rattle.watch_maps.specs.LogRuns.{Writing, IsUnwritten, WritesWhole, ending_of, WatchEnding, on_output, on_errors}
+use Rattle.watch_commands.specs.Watching.{Found, findings_of, found_text, FindsComplete, FindsAll}
 use Rattle.watch_commands.specs.WatchTotals.{totals_text, watch_status}
 
 -- the map was read whole, and has these lines with these numbers; what is found is printed as the
@@ -26,71 +25,22 @@ abbrev pub ReadsWatchMap : AuditInputs → NumberedMap → Type 0
 ReadsWatchMap i mapping =
     (text : List ℕ) × ReadsWhole i.map text × IsMapOf (watch_options i.words) text mapping
 
--- the map was read whole, and this is its first fault
-abbrev pub IsWatchMapFault : Reading → Fault → Type 0
-IsWatchMapFault map fault = IsMapFaultBy watch_map_of map fault
-
--- ---- what is written
-
--- what was known of a sink before and after
-pub record Writing : Type 0 where
-  pub before : SinkState
-  pub after : SinkState
-
--- nothing was asked of it
-abbrev pub IsUnwritten : Writing → Type 0
-IsUnwritten w = w.after ≡ w.before
-
--- exactly this text was written to it, and it didn't fail
-abbrev pub WritesWhole : Writing → List ℕ → Type 0
-WritesWhole w text = AppendedWell w.before w.after text
-
--- an ending with this status, by what was written to a sink
-abbrev pub ending_of : Writing → ℕ → Ending
-ending_of w status = record { before = w.before; after = w.after; status = status }
-
--- how a run of `watch` ended: what was written to standard output and to standard error, and its status
-pub record WatchEnding : Type 0 where
-  pub output : Writing
-  pub errors : Writing
-  pub status : ℕ
-
-abbrev pub on_output : WatchEnding → Ending
-on_output e = ending_of e.output e.status
-
-abbrev pub on_errors : WatchEnding → Ending
-on_errors e = ending_of e.errors e.status
-
 -- ---- the log
-
--- these are all bytes of a log up to its end, however many, and no fault was counted
-abbrev pub ReadsToEnd : Reading → List ℕ → Type 0
-ReadsToEnd log bytes = ReadsAll log.before log.after (length bytes) bytes
-
--- exactly these bytes came of a log
-abbrev pub HasCome : Reading → List ℕ → Type 0
-HasCome log bytes = Came log.before log.after bytes
 
 -- the row of a log that was read to its end: what is found of all its lines, and the totals
 pub data ComesOfLog (mapping : NumberedMap) (log : Reading) : Row → Type 0 where
-  done : (bytes : List ℕ) (findings : List Finding) → ReadsToEnd log bytes → FindsAll mapping.lines bytes findings
+  done : (bytes : List ℕ) (findings : List Found) → ReadsToEnd log bytes → FindsAll mapping.lines bytes findings
       → ComesOfLog mapping log
-      (row_of (watch_status mapping findings) (found_text mapping findings ++ totals_text mapping findings))
-
--- what is printed if the log fails, or has too many bytes
-abbrev pub log_failed_text : List ℕ
-log_failed_text = line (codes "log: read fault")
-
-abbrev pub log_too_long_text : List ℕ
-log_too_long_text = line (codes "log: input too long")
+      (row_of (watch_status mapping (findings_of findings))
+      (found_text mapping findings ++ totals_text mapping (findings_of findings)))
 
 -- the rows of a log that failed, or of which 2^64 - 1 bytes and more came: what is found of the complete lines of all
 -- that came stands on standard output
 pub data FailsOfLog (mapping : NumberedMap) (log : Reading) (output : Writing) : Row → Type 0 where
-  failed : (bytes : List ℕ) (findings : List Finding) → HasCome log bytes → FindsComplete mapping.lines bytes findings
+  failed : (bytes : List ℕ) (findings : List Found) → HasCome log bytes → FindsComplete mapping.lines bytes findings
       → SourceFailed log → WritesWhole output (found_text mapping findings)
       → FailsOfLog mapping log output (row_of 5 log_failed_text)
-  too_long : (bytes : List ℕ) (findings : List Finding) → HasCome log bytes → FindsComplete mapping.lines bytes findings
+  too_long : (bytes : List ℕ) (findings : List Found) → HasCome log bytes → FindsComplete mapping.lines bytes findings
       → log.after.faults ≡ log.before.faults → last_count ≤ length bytes
       → WritesWhole output (found_text mapping findings)
       → FailsOfLog mapping log output (row_of 8 log_too_long_text)
@@ -101,9 +51,9 @@ pub record Stops (mapping : NumberedMap) (log : Reading) (e : Ending) : Type 0 w
   pub status_is : e.status ≡ 6
   pub fails : SinkFailed e
   pub bytes : List ℕ
-  pub findings : List Finding
+  pub findings : List Found
   pub piece : List ℕ
-  pub more : List Finding
+  pub more : List Found
   pub came : HasCome log (bytes ++ piece)
   pub calm : log.after.faults ≡ log.before.faults
   pub short : length piece ≤ 4096
@@ -159,7 +109,7 @@ EndsUntold i output (Err row) = ComesOnErrors i output row
 -- a proper prefix of the text that tells it
 pub record FailsBoth (mapping : NumberedMap) (log : Reading) (e : WatchEnding) : Type 0 where
   pub bytes : List ℕ
-  pub findings : List Finding
+  pub findings : List Found
   pub came : HasCome log bytes
   pub finds : FindsComplete mapping.lines bytes findings
   pub output : WritesWhole e.output (found_text mapping findings)

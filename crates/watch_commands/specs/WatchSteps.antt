@@ -1,31 +1,13 @@
 -- What the steps of a run of `watch` say to one another
 use Rattle.std.specs.Prelude.{◌≡◌, ℕ, ◌<◌, List, [], ◌++◌, length, Option, None, Some, Result, Ok, Err}
 use Rattle.bus_port.specs.Source.{Came}
-use Rattle.bus_port.specs.Sink.{SinkState}
 use Rattle.program_edge.specs.Told.{AppendedWell}
 use Rattle.program_edge.specs.Rows.{Row}
-use Rattle.program_edge.specs.Inputs.{Reading, ReadsWhole, Lacks}
-use Rattle.program_edge.specs.declared.input.InputFault.{InputFault}
-use Rattle.text_lines.specs.Readings.{Fault}
-use Rattle.trace_audit.specs.Auditing.{Finding}
 use Rattle.trace_audit.specs.Rows.{AuditInputs}
-use Rattle.watch_commands.specs.declared.options.WatchOptions.{WatchOptions}
-use Rattle.watch_commands.specs.Watching.{found_text}
+use Rattle.watch_commands.specs.Watching.{Found, found_text}
 use Rattle.watch_commands.specs.States.{WatchState, Watched}
-use Rattle.watch_commands.specs.MapFaults.{map_input_row, map_line_row}
-use Rattle.watch_commands.specs.WatchMaps.{NumberedMap, IsMapOf}
-use Rattle.watch_commands.specs.WatchRows.{Writing, IsWatchMapFault, EndsLog, OverMap, ComesOnErrors}
-
--- why the source of a map gives no lines
-pub data LacksWatchMap (map : Reading) : Row → Type 0 where
-  no_map : (fault : InputFault) → Lacks map fault → LacksWatchMap map (map_input_row fault)
-  refused : (fault : Fault) → IsWatchMapFault map fault → LacksWatchMap map (map_line_row fault)
-
--- the whole map with the numbers of its lines, or why there is none
-abbrev pub ReadsWatchSource : WatchOptions → Reading → Result NumberedMap Row → Type 0
-ReadsWatchSource options map (Ok mapping) =
-    (text : List ℕ) × ReadsWhole map text × IsMapOf options text mapping
-ReadsWatchSource options map (Err row) = LacksWatchMap map row
+use Rattle.watch_maps.specs.LogRuns.{Writing, Ports}
+use Rattle.watch_commands.specs.WatchRows.{EndsLog, OverMap, ComesOnErrors}
 
 -- how the words and the map end: in the watch of this map before the log, or in a row that comes on standard error, if
 -- nothing was written to standard output
@@ -33,22 +15,16 @@ abbrev pub PreparesWatch : AuditInputs → Writing → Result WatchState Row →
 PreparesWatch i output (Ok watch) = OverMap i (λ mapping. watch.mapping ≡ mapping) × Watched watch [] []
 PreparesWatch i output (Err row) = ComesOnErrors i output row
 
--- the sources and the sink of a log before any of it came, and now
-pub record Ports : Type 0 where
-  pub log : Reading
-  pub before : SinkState
-  pub after : SinkState
-
 -- these bytes came of the log without a fault, and what is found of their complete lines was printed
-pub record SoFar (ports : Ports) (watch : WatchState) (bytes : List ℕ) (findings : List Finding) : Type 0 where
+pub record SoFar (ports : Ports) (watch : WatchState) (bytes : List ℕ) (findings : List Found) : Type 0 where
   pub came : Came ports.log.before ports.log.after bytes
   pub calm : ports.log.after.faults ≡ ports.log.before.faults
   pub watched : Watched watch bytes findings
   pub prints : AppendedWell ports.before ports.after (found_text watch.mapping findings)
 
 -- what a turn of the loop leaves: one more byte at least came and was taken; or the log ended
-abbrev pub Turns : Ports → WatchState → List ℕ → List Finding → Option (Result ℕ Row) → Type 0
-Turns ports watch bytes findings None = (piece : List ℕ) × (more : List Finding) × (0 < length piece)
+abbrev pub Turns : Ports → WatchState → List ℕ → List Found → Option (Result ℕ Row) → Type 0
+Turns ports watch bytes findings None = (piece : List ℕ) × (more : List Found) × (0 < length piece)
     × SoFar ports watch (bytes ++ piece) (findings ++ more)
 Turns ports watch bytes findings (Some end) =
     EndsLog watch.mapping ports.log (record { before = ports.before; after = ports.after }) end

@@ -14,7 +14,7 @@ use Rattle.trace_audit.specs.declared.auditing.FrameTally.TheVariants as tally
 use Rattle.watch_commands.specs.declared.counts.WatchCounts.{WatchCounts}
 use Rattle.trace_audit.specs.MapLines.{row_head}
 use Rattle.trace_audit.specs.Pieces.{in_64_bits}
-use Rattle.watch_commands.specs.WatchMaps.{NumberedMap}
+use Rattle.watch_maps.specs.WatchMaps.{NumberedMap}
 use Rattle.trace_audit.specs.Auditing.{Finding, is_accepted_tally, tally_of, counter_of_place}
 
 -- ---- what is counted

@@ -10,32 +10,29 @@ use Rattle.program_edge.specs.Inputs.{Reading, IsUnread, Lacks, SourceFailed, Co
 use Rattle.program_edge.specs.Inputs.{GivesTooMuch, CountsTooMuch, Offers}
 use Rattle.program_edge.specs.Endings.{EndsIn, MayEndIn, PrintsFront, SinkFailed, CountsWriteFault}
 use Rattle.trace_audit.specs.declared.map_lines.MapLine.{MapLine}
-use Rattle.trace_audit.specs.Auditing.{Finding, finding_accepts}
+use Rattle.trace_audit.specs.Auditing.{finding_accepts}
 use Rattle.trace_audit.specs.Rows.{AuditInputs}
-use Rattle.watch_commands.specs.MapFaults.{map_fault_text, map_input_text}
+use Rattle.watch_maps.specs.MapFaults.{map_fault_text, map_input_text}
 use Rattle.watch_commands.specs.Words.{watch_usage, AsksWatch, text_asked}
-use Rattle.watch_commands.specs.WatchMaps.{NumberedMap, watch_map_of}
-use Rattle.watch_commands.specs.Watching.{FindsComplete, FindsAll, found_text}
+use Rattle.watch_maps.specs.WatchMaps.{NumberedMap, watch_map_of}
+use Rattle.watch_commands.specs.Watching.{Found, findings_of, FindsComplete, FindsAll, found_text}
 use Rattle.watch_commands.specs.WatchTotals.{totals_text, watch_status}
-use Rattle.watch_commands.specs.WatchRows.{IsWatchMapFault, ReadsToEnd, HasCome}
-use Rattle.watch_commands.specs.WatchRows.{Writing, IsUnwritten, WritesWhole, WatchEnding, on_output, on_errors}
-use Rattle.watch_commands.specs.WatchRows.{log_failed_text, log_too_long_text, Stops, FailsBoth, OverMap}
+use Rattle.watch_maps.specs.LogRuns.{IsAnswer, IsWatchMapFault, ReadsToEnd, HasCome, log_failed_text, log_too_long_text}
+use Rattle.watch_maps.specs.LogRuns.{Writing, IsUnwritten, WritesWhole, WatchEnding, on_output, on_errors}
+use Rattle.watch_commands.specs.WatchRows.{Stops, FailsBoth, OverMap}
 use Rattle.watch_commands.specs.WatchRows.{ComesOnOutput, ComesOnErrors, EndsWatch}
-
--- the status of a log that was read to its end
-abbrev pub IsAnswer : ℕ → Type 0
-IsAnswer status = (status ≡ 0) ⊎ (status ≡ 1) ⊎ (status ≡ 3)
 
 -- the whole log was read, exactly what is found of its lines and the totals were printed, and these findings give the
 -- status
 abbrev pub AnswersLog : AuditInputs → WatchEnding → Type 0
-AnswersLog i e = OverMap i (λ mapping. (log : List ℕ) × (findings : List Finding) × ReadsToEnd i.log log
-    × FindsAll mapping.lines log findings × (e.status ≡ watch_status mapping findings)
-    × WritesWhole e.output (found_text mapping findings ++ totals_text mapping findings) × IsUnwritten e.errors)
+AnswersLog i e = OverMap i (λ mapping. (log : List ℕ) × (findings : List Found) × ReadsToEnd i.log log
+    × FindsAll mapping.lines log findings × (e.status ≡ watch_status mapping (findings_of findings))
+    × WritesWhole e.output (found_text mapping findings ++ totals_text mapping (findings_of findings))
+    × IsUnwritten e.errors)
 
 -- exactly what is found of every complete line of the bytes that came was printed
 abbrev pub HoldsNothingBack : AuditInputs → WatchEnding → (List ℕ → Type 0) → Type 0
-HoldsNothingBack i e P = OverMap i (λ mapping. (bytes : List ℕ) × (findings : List Finding)
+HoldsNothingBack i e P = OverMap i (λ mapping. (bytes : List ℕ) × (findings : List Found)
     × HasCome i.log bytes × P bytes × FindsComplete mapping.lines bytes findings
     × WritesWhole e.output (found_text mapping findings))
 
@@ -44,12 +41,12 @@ HoldsNothingBack i e P = OverMap i (λ mapping. (bytes : List ℕ) × (findings 
 -- the greater freshness
 pub record PrintsRising (mapping : NumberedMap) (log : Reading) (output : Writing) : Type 0 where
   pub bytes : List ℕ
-  pub findings : List Finding
+  pub findings : List Found
   pub came : HasCome log bytes
   pub finds : FindsComplete mapping.lines bytes findings ⊎ FindsAll mapping.lines bytes findings
-  pub rise : AcceptedRise (map finding_accepts findings)
+  pub rise : AcceptedRise (map finding_accepts (findings_of findings))
   pub last : List ℕ
-  pub last_is : (last ≡ totals_text mapping findings) ⊎ (last ≡ [])
+  pub last_is : (last ≡ totals_text mapping (findings_of findings)) ⊎ (last ≡ [])
   pub size : ℕ
   pub prints : Appended output.before output.after (take size (found_text mapping findings ++ last))
 

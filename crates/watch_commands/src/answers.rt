@@ -1,24 +1,33 @@
 //! The answer to a frame, as it is printed.
-ghost use Rattle.std.specs.Prelude.{◌≡◌, ◌≤◌, ◌<◌, ◌+◌, ◌++◌, true, length, IfSome, vec_len, vec_capacity};
+ghost use Rattle.std.specs.Prelude.{◌≡◌, ◌≤◌, ◌<◌, ◌+◌, ◌*◌, ◌++◌, true, length, IfSome, vec_len, vec_capacity};
 ghost use Rattle.trace_audit.specs.Auditing.{Finding};
 ghost use Rattle.watch_commands.specs.Watching.{told_text};
 ghost use Rattle.watch_commands.specs.Answers.{IsAnswerTo, IsAnswerIn, judged_place};
 ghost use Rattle.watch_commands.specs.Answers.{front_object, said_object, said_values, accepted_values};
 
-use crate::maps::WatchMap;
-use crate::options::WatchOptions;
+use crate::stamps::{Stamp, add_lead};
 use itoa::Buffer;
 use trace_audit::{FrameTally, add_bytes};
+use watch_maps::{WatchMap, WatchOptions};
 
-/// Adds what is printed of the answer to the line with this number of the log, in room for 320 bytes. The answer is
-/// empty if no line of the map judged it. It takes no memory.
-pub fn add_answer(text: &mut Vec<u8>, map: &WatchMap, number: u64, tally: FrameTally, answer: &[u8])
-    requires room { vec_len text.old + 320 ≤ vec_capacity text.old }
+/// Adds what is printed of the answer to the line with this number of the log, in room for 320 bytes, and for 6 bytes
+/// for each byte of the line's stamp. The answer is empty if no line of the map judged it. It takes no memory.
+pub fn add_answer(
+    text: &mut Vec<u8>,
+    map: &WatchMap,
+    number: u64,
+    tally: FrameTally,
+    stamp: &Stamp<'_>,
+    answer: &[u8],
+)
+    requires room { vec_len text.old + 320 + 6 * (length stamp.now.time + length stamp.now.channel)
+        ≤ vec_capacity text.old }
     requires answer { length answer.now ≤ 232 }
     requires answers { (finding : Finding) × IsAnswerIn map.now.lines number tally answer.now finding }
-    ensures told { (finding : Finding) → IsAnswerIn map.now.lines number tally answer.now finding
-        → text.new.items ≡ text.old.items ++ told_text map.now.options finding }
-    ensures few { vec_len text.new ≤ vec_len text.old + 320 }
+    ensures told { (finding : Finding) → IsAnswerIn map.now.lines number tally answer.now finding → text.new.items
+        ≡ text.old.items ++ told_text map.now.options (record { finding = finding; stamp = stamp.now }) }
+    ensures few { vec_len text.new
+        ≤ vec_len text.old + 320 + 6 * (length stamp.now.time + length stamp.now.channel) }
     ensures capacity { vec_capacity text.old ≤ vec_capacity text.new }
 {
     let Some(place) = judging_place(tally) else {
@@ -31,6 +40,7 @@ pub fn add_answer(text: &mut Vec<u8>, map: &WatchMap, number: u64, tally: FrameT
         number,
         head,
         tally.is_accepted(),
+        stamp,
         answer,
     );
 }
@@ -47,27 +57,32 @@ fn judging_place(tally: FrameTally) -> Option<usize>
 }
 
 /// Adds what is printed of the answer to a frame that a line of the map with this head judged: of an accepted one
-/// nothing if these are left out, and an object of JSON or the answer itself.
+/// nothing if these are left out; else its time and channel if they are asked for, and an object of JSON or the answer
+/// itself.
 fn add_judged(
     text: &mut Vec<u8>,
     options: WatchOptions,
     number: u64,
     head: &[u8],
     accepted: bool,
+    stamp: &Stamp<'_>,
     answer: &[u8],
 )
-    requires room { vec_len text.old + 320 ≤ vec_capacity text.old }
+    requires room { vec_len text.old + 320 + 6 * (length stamp.now.time + length stamp.now.channel)
+        ≤ vec_capacity text.old }
     requires head { length head.now ≤ 32 }
     requires answer { length answer.now ≤ 232 }
     requires answers { (finding : Finding) × IsAnswerTo number head.now accepted answer.now finding }
-    ensures told { (finding : Finding) → IsAnswerTo number head.now accepted answer.now finding
-        → text.new.items ≡ text.old.items ++ told_text options finding }
-    ensures few { vec_len text.new ≤ vec_len text.old + 320 }
+    ensures told { (finding : Finding) → IsAnswerTo number head.now accepted answer.now finding → text.new.items
+        ≡ text.old.items ++ told_text options (record { finding = finding; stamp = stamp.now }) }
+    ensures few { vec_len text.new
+        ≤ vec_len text.old + 320 + 6 * (length stamp.now.time + length stamp.now.channel) }
     ensures capacity { vec_capacity text.old ≤ vec_capacity text.new }
 {
     if accepted && options.quiet {
         return;
     }
+    add_lead(text, options, stamp);
     if !options.json {
         add_bytes(text, answer);
         return;
@@ -79,14 +94,14 @@ fn add_judged(
     add_said(text, accepted, said);
 }
 
-/// Adds the number of a frame's line in these digits and the head of the map's line, in room for 31 bytes more.
+/// Adds the number of a frame's line in these digits and the head of the map's line, in room for 30 bytes more.
 fn add_front(text: &mut Vec<u8>, digits: &[u8], head: &[u8])
-    requires room { vec_len text.old + length digits.now + length head.now + 31 ≤ vec_capacity text.old }
+    requires room { vec_len text.old + length digits.now + length head.now + 30 ≤ vec_capacity text.old }
     ensures front { text.new.items ≡ text.old.items ++ front_object digits.now head.now }
-    ensures few { vec_len text.new ≤ vec_len text.old + length digits.now + length head.now + 31 }
+    ensures few { vec_len text.new ≤ vec_len text.old + length digits.now + length head.now + 30 }
     ensures capacity { vec_capacity text.old ≤ vec_capacity text.new }
 {
-    add_bytes(text, b"{\"frame\":");
+    add_bytes(text, b"\"frame\":");
     add_bytes(text, digits);
     add_bytes(text, b",\"name\":\"");
     add_bytes(text, head);

@@ -1,28 +1,21 @@
 //! Laws of the definitions: each function has an empty body, and its contract is the law.
-ghost use Rattle.std.specs.Prelude.{◌≡◌, List, ℕ, map, All, Ok};
+ghost use Rattle.std.specs.Prelude.{◌≡◌, List, ℕ, map, All};
 ghost use Rattle.secured_pdu.specs.Frame.{IsWindow};
 ghost use Rattle.secoc_words.specs.Counting.{AcceptedRise};
 ghost use Rattle.trace_audit.specs.declared.map_lines.MapLine.{MapLine};
-ghost use Rattle.trace_audit.specs.Auditing.{Finding, finding_accepts};
-ghost use Rattle.watch_commands.specs.WatchMaps.{watch_map_of};
-ghost use Rattle.watch_commands.specs.Watching.{WatchesEach};
+ghost use Rattle.trace_audit.specs.Auditing.{finding_accepts};
+ghost use Rattle.watch_commands.specs.Watching.{Found, findings_of, WatchesEach};
 
 /// Of two frames that the same line of the map accepts, the later has the greater freshness.
 pub fn accepted_freshness_rises_per_watched_line()
-    ensures { (mapping : List MapLine) (lines : List (List ℕ)) (findings : List Finding)
-        → WatchesEach mapping lines findings → AcceptedRise (map finding_accepts findings) }
-{}
-
-/// The lines of a map have windows of 1 to 256.
-pub fn watched_lines_have_windows()
-    ensures { (text : List ℕ) (mapping : List MapLine) → watch_map_of text ≡ Ok mapping
-        → All (λ l. IsWindow l.window) mapping }
+    ensures { (mapping : List MapLine) (lines : List (List ℕ)) (findings : List Found)
+        → WatchesEach mapping lines findings → AcceptedRise (map finding_accepts (findings_of findings)) }
 {}
 
 /// Of the lines of a log at most one list of findings is found: so there is one text for all ways in which its bytes
 /// are cut into pieces.
 pub fn one_watch_holds()
-    ensures { (mapping : List MapLine) (lines : List (List ℕ)) (findings findings' : List Finding)
+    ensures { (mapping : List MapLine) (lines : List (List ℕ)) (findings findings' : List Found)
         → All (λ l. IsWindow l.window) mapping
         → WatchesEach mapping lines findings → WatchesEach mapping lines findings' → findings ≡ findings' }
 {}

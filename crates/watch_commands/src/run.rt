@@ -2,28 +2,28 @@
 ghost use Rattle.std.specs.Prelude.{◌≡◌, [], map as each, List, ℕ, None, string_bytes};
 ghost use Rattle.bus_port.specs.Source.{SourceState};
 ghost use Rattle.bus_port.specs.Sink.{SinkState};
-ghost use Rattle.trace_audit.specs.Auditing.{Finding};
+ghost use Rattle.watch_commands.specs.Watching.{Found};
 ghost use Rattle.watch_commands.specs.States.{Watched};
 ghost use Rattle.watch_commands.specs.WatchRows.{EndsLog, EndsUntold};
-ghost use Rattle.watch_commands.specs.Words.{is_only_word, text_asked};
+ghost use Rattle.watch_commands.specs.Words.{text_asked};
 ghost use Rattle.watch_commands.specs.Watches.{Watches};
 ghost use Rattle.watch_commands.specs.WatchSteps.{PreparesWatch, SoFar, Turns};
 
-use crate::maps::read_watch_map;
-use crate::options::{WatchOptions, inputs_of};
 use crate::state::Watch;
 use bus_port::{PortFailed, Sink, Source};
 use program_edge::{DONE, Refusal, WRITE_FAULT, tell, tell_refusal};
 use std::alloc::{AllocError, Global};
 use trace_audit::{PIECE, names_inputs};
+use watch_maps::{WatchOptions, inputs_of, is_only, read_watch_map};
 
-const USAGE: &str = "usage: watch [--quiet] [--json] [--expect FILE] MAP LOG\n";
+const USAGE: &str = "usage: watch [--quiet] [--json] [--time] [--expect FILE] MAP LOG\n";
 
 /// What is printed for `--help`.
-const HELP: &str = "usage: watch [--quiet] [--json] [--expect FILE] MAP LOG
+const HELP: &str = "usage: watch [--quiet] [--json] [--time] [--expect FILE] MAP LOG
 Says of each frame of LOG that MAP names whether its Secured I-PDU verifies (AUTOSAR SecOC, profile 1).
 LOG is a log of candump -L; - is standard input.
 --quiet leaves the answers to accepted frames out. --json prints an object of JSON a line.
+--time prints the time and the channel of the log before each answer.
 --expect compares the output with FILE and prints none: 0 if it is the same, else 1 and the line that differs.
 A line of MAP: CANID ID KEY FRESH LEN [WINDOW [CHANNEL]] [optional] [name=NAME] [# COMMENT]
 Status 0: each mapped frame was accepted, and one at least for each line of MAP that isn't optional.
@@ -41,7 +41,7 @@ const LOG_TOO_LONG: &str = "log: input too long\n";
 
 /// Judges the frames of a log by a map while they come, and gives the status that the program ends with. Two words,
 /// which name the map and the log and may be any text, are the form of the words, the program's name left out; options
-/// may stand before them ([`WatchOptions`](crate::options::WatchOptions)). The map is read whole before the log is
+/// may stand before them ([`WatchOptions`](watch_maps::WatchOptions)). The map is read whole before the log is
 /// asked for. Each complete line of the log is answered on `sink` before the log is read again. Faults are told on
 /// `errors`. Every text that is printed ends with a line feed. `--help` or `--version` alone print a text, with status
 /// 0.
@@ -105,16 +105,6 @@ fn run_untold<S: Source, T: Source, K: Sink>(
     }
 }
 
-/// Whether there is one word, and it is this.
-pub fn is_only(words: &[String], word: &str) -> bool
-    ensures { result ≡ is_only_word word.now (each string_bytes words.now) }
-{
-    match words {
-        [only] => only.as_str() == word,
-        _ => false,
-    }
-}
-
 /// The words and the map: the watch before the log, or the first refusal that applies.
 pub fn prepare<S: Source>(alloc: Global, words: &[String], map: &mut S) -> Result<Watch, Refusal>
     ensures { (log : SourceState) (sink : SinkState) → text_asked (each string_bytes words.now) ≡ None → PreparesWatch
@@ -164,7 +154,7 @@ fn next_piece<T: Source, K: Sink>(
     sink: &mut K,
 ) -> Option<Result<u8, Refusal>>
     ensures mapping { watch.new.mapping ≡ watch.old.mapping }
-    ensures turns { (first : SourceState) (start : SinkState) (bytes : List ℕ) (findings : List Finding)
+    ensures turns { (first : SourceState) (start : SinkState) (bytes : List ℕ) (findings : List Found)
         → SoFar (record {
           log = record { before = first; after = T.state log.old };
           before = start;

@@ -1,11 +1,11 @@
 //! The state between two pieces of a log.
-ghost use Rattle.std.specs.Prelude.{◌≡◌, ◌+◌, ◌<◌, ◌≤◌, ◌++◌, [], ◌∷◌, length, take, replicate, slice_index};
+ghost use Rattle.std.specs.Prelude.{◌≡◌, ◌+◌, ◌*◌, ◌<◌, ◌≤◌, ◌++◌, [], ◌∷◌, length, take, replicate, slice_index};
 ghost use Rattle.std.specs.Prelude.{List, ℕ, IfOk, IfSome, ◌&&◌, if◌then◌else◌, vec_len, vec_capacity};
 ghost use Rattle.std.specs.List.{position_or_len};
 ghost use Rattle.program_edge.specs.Told.{EndingTold};
 ghost use Rattle.text_lines.specs.Lines.{is_line_feed};
-ghost use Rattle.trace_audit.specs.Auditing.{Finding, is_accepted_tally};
-ghost use Rattle.watch_commands.specs.Watching.{found_text, FindsAll};
+ghost use Rattle.trace_audit.specs.Auditing.{is_accepted_tally};
+ghost use Rattle.watch_commands.specs.Watching.{Found, findings_of, found_text, FindsAll};
 ghost use Rattle.watch_commands.specs.WatchTotals.{totals_text, watch_status, total_line_at, is_heard_at, are_heard};
 ghost use Rattle.trace_audit.specs.Pieces.{PutsPiece};
 ghost use Rattle.watch_commands.specs.States.{Watched, FindsMore, JudgesLine, IsPlaced, counts_after};
@@ -13,7 +13,7 @@ ghost use Rattle.watch_commands.specs.States.{raised_at, accepted_place, failed_
 
 use crate::answers::add_answer;
 use crate::counts::{LineCounts, WatchCounts, add_counts, add_line_counts};
-use crate::maps::WatchMap;
+use crate::stamps::Stamp;
 use bus_port::{PortFailed, Sink, write_all};
 use program_edge::tell;
 use std::alloc::{AllocError, Global};
@@ -21,18 +21,24 @@ use std::marker::Model;
 use text_lines::span::Span;
 use text_lines::words::{Words, put_words};
 use trace_audit::{FrameTally, OtherLine, PIECE, add_bytes, counters_of, push_finding, until_feed};
+use watch_maps::WatchMap;
 
 /// The most bytes of a line that is looked at, its line feed not counted.
 const LINE_LIMIT: usize = 4096;
 
-/// The most bytes that are printed for a line, as an object of JSON.
+/// The most bytes that are printed for a line, as an object of JSON, but for its time and channel.
 const FINDING_ROOM: usize = 320;
+
+/// The most bytes that are printed for a byte of a line in its time or its channel: each has at most six as a string of
+/// JSON has it, and neither is longer than the line.
+const STAMP_ROOM: usize = 12;
 
 /// The most bytes of the answer to a frame.
 const ANSWER_ROOM: usize = 232;
 
-/// The most bytes that are printed at the end of a log, or for a piece: each of its bytes could end a line.
-const TEXT_ROOM: usize = FINDING_ROOM * (PIECE + 1);
+/// The most bytes that are printed at the end of a log, or for a piece: each of its bytes could end a line. The first
+/// line may have begun before the piece.
+const TEXT_ROOM: usize = FINDING_ROOM * (PIECE + 1) + STAMP_ROOM * (LINE_LIMIT + 1 + PIECE);
 
 /// What is known of a log after the pieces that were taken: the map, and the line that no line feed has ended yet. For
 /// each line of the map it has the counter, how many frames were accepted and how many weren't. It counts the lines
@@ -74,7 +80,7 @@ impl Model for Watch {
         × (length w.accepted.items ≡ length w.map.lines) × (length w.failed.items ≡ length w.map.lines)
         × (vec_len w.line ≤ 4097)
         × (position_or_len is_line_feed w.line.items ≡ length w.line.items) × (4097 ≤ vec_capacity w.line)
-        × (1311040 ≤ vec_capacity w.text) × (232 ≤ vec_capacity w.answer) × (4097 ≤ vec_capacity w.spans) };
+        × (1409356 ≤ vec_capacity w.text) × (232 ≤ vec_capacity w.answer) × (4097 ≤ vec_capacity w.spans) };
 }
 
 impl Watch {
@@ -110,8 +116,8 @@ impl Watch {
         requires { length piece.now ≤ 4096 }
         ensures mapping { self.new.mapping ≡ self.old.mapping }
         // Whatever pieces came before: the lines are those of all their bytes, wherever they were cut.
-        ensures goes_on { (bytes : List ℕ) (findings : List Finding) → Watched self.old bytes findings
-            → (more : List Finding) × Watched self.new (bytes ++ piece.now) (findings ++ more)
+        ensures goes_on { (bytes : List ℕ) (findings : List Found) → Watched self.old bytes findings
+            → (more : List Found) × Watched self.new (bytes ++ piece.now) (findings ++ more)
             × PutsPiece (K.state sink.old) (K.state sink.new) (found_text self.old.mapping more) result }
     {
         self.find(piece);
@@ -123,8 +129,8 @@ impl Watch {
     pub fn find(&mut self, piece: &[u8])
         requires { length piece.now ≤ 4096 }
         ensures mapping { self.new.mapping ≡ self.old.mapping }
-        ensures goes_on { (bytes : List ℕ) (findings : List Finding) → Watched self.old bytes findings
-            → (more : List Finding) × Watched self.new (bytes ++ piece.now) (findings ++ more)
+        ensures goes_on { (bytes : List ℕ) (findings : List Found) → Watched self.old bytes findings
+            → (more : List Found) × Watched self.new (bytes ++ piece.now) (findings ++ more)
             × (self.new.text ≡ found_text self.old.mapping more) }
     {
         self.text.clear();
@@ -143,11 +149,11 @@ impl Watch {
     /// memory.
     pub fn finish<K: Sink>(&mut self, sink: &mut K) -> u8
         ensures mapping { self.new.mapping ≡ self.old.mapping }
-        ensures ends { (bytes : List ℕ) (findings : List Finding) → Watched self.old bytes findings
-            → (more : List Finding) × FindsAll self.old.mapping.lines bytes (findings ++ more)
+        ensures ends { (bytes : List ℕ) (findings : List Found) → Watched self.old bytes findings
+            → (more : List Found) × FindsAll self.old.mapping.lines bytes (findings ++ more)
             × EndingTold (K.state sink.old) (K.state sink.new)
-            (found_text self.old.mapping more ++ totals_text self.old.mapping (findings ++ more))
-            (watch_status self.old.mapping (findings ++ more)) result }
+            (found_text self.old.mapping more ++ totals_text self.old.mapping (findings_of (findings ++ more)))
+            (watch_status self.old.mapping (findings_of (findings ++ more))) result }
     {
         let status = self.end();
         tell(sink, self.text(), status)
@@ -157,10 +163,11 @@ impl Watch {
     /// the map, and the five numbers. It gives the status that the program ends with, and takes no memory.
     pub fn end(&mut self) -> u8
         ensures mapping { self.new.mapping ≡ self.old.mapping }
-        ensures ends { (bytes : List ℕ) (findings : List Finding) → Watched self.old bytes findings
-            → (more : List Finding) × FindsAll self.old.mapping.lines bytes (findings ++ more)
-            × (self.new.text ≡ found_text self.old.mapping more ++ totals_text self.old.mapping (findings ++ more))
-            × (result ≡ watch_status self.old.mapping (findings ++ more)) }
+        ensures ends { (bytes : List ℕ) (findings : List Found) → Watched self.old bytes findings
+            → (more : List Found) × FindsAll self.old.mapping.lines bytes (findings ++ more)
+            × (self.new.text
+            ≡ found_text self.old.mapping more ++ totals_text self.old.mapping (findings_of (findings ++ more)))
+            × (result ≡ watch_status self.old.mapping (findings_of (findings ++ more))) }
     {
         self.text.clear();
         self.end_line();
@@ -215,10 +222,11 @@ impl Watch {
     /// Takes these bytes up to the first line feed, or all if there is none, and gives their number.
     fn look_at_front(&mut self, bytes: &[u8]) -> usize
         requires some { 0 < length bytes.now }
-        requires room { length self.old.text + 320 ≤ 1311040 }
+        requires room { length self.old.text + 12 * length self.old.line + 320 + 12 * length bytes.now ≤ 1409356 }
         ensures some { 0 < result }
         ensures within { result ≤ length bytes.now }
-        ensures few { length self.new.text ≤ length self.old.text + 320 }
+        ensures few { length self.new.text + 12 * length self.new.line
+            ≤ length self.old.text + 12 * length self.old.line + 320 + 12 * result }
         ensures mapping { self.new.mapping ≡ self.old.mapping }
         ensures goes_on { FindsMore self.old self.new (take result bytes.now) }
     {
@@ -243,8 +251,9 @@ impl Watch {
 
     /// A line feed came: adds what is found of the line, and counts it.
     fn end_line(&mut self)
-        requires { length self.old.text + 320 ≤ 1311040 }
-        ensures few { length self.new.text ≤ length self.old.text + 320 }
+        requires { length self.old.text + 12 * length self.old.line + 320 ≤ 1409356 }
+        ensures few { length self.new.text + 12 * length self.new.line
+            ≤ length self.old.text + 12 * length self.old.line + 320 }
         ensures mapping { self.new.mapping ≡ self.old.mapping }
         ensures goes_on { FindsMore self.old self.new (10 ∷ []) }
     {
@@ -277,8 +286,8 @@ impl Watch {
 
     /// Adds what is found of the line, and tells what it counts as; `None` if it is skipped.
     fn judge_line(&mut self) -> Option<FrameTally>
-        requires { length self.old.text + 320 ≤ 1311040 }
-        ensures few { length self.new.text ≤ length self.old.text + 320 }
+        requires { length self.old.text + 12 * length self.old.line + 320 ≤ 1409356 }
+        ensures few { length self.new.text ≤ length self.old.text + 12 * length self.old.line + 320 }
         ensures judges { JudgesLine self.old self.new result }
         ensures placed { IfSome result (IsPlaced (length self.old.mapping.lines)) }
     {
@@ -290,6 +299,7 @@ impl Watch {
         if words.is_skipped() {
             return None;
         }
+        let stamp = Stamp::of(&words);
         self.answer.clear();
         let tally = push_finding(
             self.map.lines(),
@@ -304,6 +314,7 @@ impl Watch {
             &self.map,
             self.lines,
             tally,
+            &stamp,
             self.answer.as_slice(),
         );
         Some(tally)
@@ -311,7 +322,7 @@ impl Watch {
 
     /// Adds a line for each line of the map, and one for each number.
     fn push_totals(&mut self)
-        requires { length self.old.text ≤ 320 }
+        requires { length self.old.text ≤ 49484 }
         ensures { self.new ≡ record self.old { text = self.old.text ++ end_text self.old } }
     {
         let size = self.map.lines().len();
@@ -324,7 +335,7 @@ impl Watch {
     /// Adds the line of the map's line at a place.
     fn push_line_counts(&mut self, place: usize)
         requires place { place < length self.old.mapping.lines }
-        requires room { length self.old.text + 320 ≤ 1311040 }
+        requires room { length self.old.text + 320 ≤ 1409356 }
         ensures text { self.new ≡ record self.old {
           text = self.old.text ++ total_line_at self.old.mapping (totals_in self.old) place;
         } }

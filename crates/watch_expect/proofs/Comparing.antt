@@ -12,14 +12,14 @@ use Rattle.program_edge.specs.declared.input.InputFault.TheVariants as input
 use Rattle.program_edge.specs.Input.{input_fault_status}
 use Rattle.program_edge.specs.Rows.{Row}
 use Rattle.bus_port.specs.Sink.{SinkState}
-use Rattle.trace_audit.specs.Auditing.{Finding}
 use Rattle.trace_audit.specs.Rows.{AuditInputs}
-use Rattle.watch_commands.specs.WatchMaps.{NumberedMap}
+use Rattle.watch_maps.specs.WatchMaps.{NumberedMap}
 use Rattle.watch_commands.specs.States.{WatchState, Watched}
-use Rattle.watch_commands.specs.Watching.{FindsComplete, FindsAll, found_text, told_text}
+use Rattle.watch_commands.specs.Watching.{Found, findings_of, FindsComplete, FindsAll, found_text, told_text}
 use Rattle.watch_commands.specs.WatchTotals.{totals_text}
 use Rattle.watch_commands.specs.Words.{AsksWatch, text_asked}
-use Rattle.watch_commands.specs.WatchRows.{Writing, WritesWhole, OverMap, ComesOnErrors, no_form, no_map, map_fault, no_log, FailsOfLog, failed, too_long, ReadsToEnd}
+use Rattle.watch_maps.specs.LogRuns.{Writing, WritesWhole, ReadsToEnd}
+use Rattle.watch_commands.specs.WatchRows.{OverMap, ComesOnErrors, no_form, no_map, map_fault, no_log, FailsOfLog, failed, too_long}
 use Rattle.watch_commands.specs.WatchSteps.{SoFar}
 use Rattle.watch_commands.proofs.CallerLemmas.{asks_no_text, complete_of, SoFar-more, at_end}
 use Rattle.watch_expect.specs.Comparing.{difference_text, LeavesAt, PrintsAll, DiffersIn, goes_on, ends, holds_bytes, writes_bytes}
@@ -59,7 +59,7 @@ ended_as mapping log text at found (Some n) prints (few, inr (less, is)) = (few,
 
 -- ---- a turn
 
-module _ (first log later : SourceState) (text : List ℕ) (at : ℕ) (old new : WatchState) (bytes : List ℕ) (findings : List Finding)
+module _ (first log later : SourceState) (text : List ℕ) (at : ℕ) (old new : WatchState) (bytes : List ℕ) (findings : List Found)
     (so_far : SoFar (ports_at (record { before = first; after = log }) text at) old bytes findings) where
   abbrev reading : Reading
   reading = record { before = first; after = later }
@@ -68,7 +68,7 @@ module _ (first log later : SourceState) (text : List ℕ) (at : ℕ) (old new :
   printed = well_is (take at text) (found_text old.mapping findings) so_far.prints
 
   -- what is found of a piece is the text's next
-  pub piece_follows : (next : ℕ) (piece : List ℕ) (more : List Finding) → new.mapping ≡ old.mapping → Came log later piece → later.faults ≡ log.faults
+  pub piece_follows : (next : ℕ) (piece : List ℕ) (more : List Found) → new.mapping ≡ old.mapping → Came log later piece → later.faults ≡ log.faults
       → Watched new (bytes ++ piece) (findings ++ more) → take next text ≡ take at text ++ found_text old.mapping more
       → SoFar (ports_at reading text next) new (bytes ++ piece) (findings ++ more)
   piece_follows next piece more same came calm watched is =
@@ -76,7 +76,7 @@ module _ (first log later : SourceState) (text : List ℕ) (at : ℕ) (old new :
       (well_more (take at text) (found_text old.mapping more) (take next text) is)
 
   -- what is found of a piece leaves the text
-  pub piece_leaves : (n : ℕ) (piece : List ℕ) (more : List Finding) → new.mapping ≡ old.mapping → Came log later piece → later.faults ≡ log.faults
+  pub piece_leaves : (n : ℕ) (piece : List ℕ) (more : List Found) → new.mapping ≡ old.mapping → Came log later piece → later.faults ≡ log.faults
       → Watched new (bytes ++ piece) (findings ++ more) → LeavesAt text (take at text ++ found_text old.mapping more) n
       → DiffersIn old.mapping reading text n
   piece_leaves n piece more same came calm watched leaves =
@@ -86,18 +86,18 @@ module _ (first log later : SourceState) (text : List ℕ) (at : ℕ) (old new :
       (ap (λ (t : List ℕ). t ++ found_text old.mapping more) printed ∙ sym (flat_map-append (told_text old.mapping.options) findings more)) leaves)
 
   -- the log ended
-  pub log_ends : (room left : List ℕ) (more : List Finding) (found : List ℕ) (end : Option ℕ) → HandsOut log later room left 0 → 0 < length room
+  pub log_ends : (room left : List ℕ) (more : List Found) (found : List ℕ) (end : Option ℕ) → HandsOut log later room left 0 → 0 < length room
       → FindsAll old.mapping.lines bytes (findings ++ more)
-      → found ≡ found_text old.mapping more ++ totals_text old.mapping (findings ++ more)
+      → found ≡ found_text old.mapping more ++ totals_text old.mapping (findings_of (findings ++ more))
       → EndsAsKept text at found end → ComparesLog old.mapping reading text (Ok end)
   log_ends room left more found end hands some finds found_is so =
-      let all : List Finding = findings ++ more in
+      let all : List Found = findings ++ more in
       let to_end : ReadsToEnd reading bytes =
       at_end first log later (holds_bytes []) (holds_bytes (take at text)) (holds_bytes []) old new bytes findings room left so_far hands some in
-      let whole_is : take at text ++ found ≡ found_text old.mapping all ++ totals_text old.mapping all =
+      let whole_is : take at text ++ found ≡ found_text old.mapping all ++ totals_text old.mapping (findings_of all) =
       ap (λ (t : List ℕ). t ++ found) printed ∙ ap (λ (t : List ℕ). found_text old.mapping findings ++ t) found_is
-      ∙ sym (append_assoc (found_text old.mapping findings) (found_text old.mapping more) (totals_text old.mapping all))
-      ∙ ap (λ (t : List ℕ). t ++ totals_text old.mapping all) (sym (flat_map-append (told_text old.mapping.options) findings more)) in
+      ∙ sym (append_assoc (found_text old.mapping findings) (found_text old.mapping more) (totals_text old.mapping (findings_of all)))
+      ∙ ap (λ (t : List ℕ). t ++ totals_text old.mapping (findings_of all)) (sym (flat_map-append (told_text old.mapping.options) findings more)) in
       ended_as old.mapping reading text at found end (λ t is. (bytes, all, to_end, finds, is ∙ whole_is)) so
 
 -- ---- the table

@@ -7,7 +7,8 @@ use Rattle.program_edge.specs.Inputs.{Reading, IsUnread, ReadsWhole, Lacks}
 use Rattle.program_edge.specs.Rows.{Row, row_of}
 use Rattle.program_edge.specs.Endings.{EndsInRow}
 use Rattle.trace_audit.specs.Rows.{AuditInputs}
-use Rattle.watch_commands.specs.WatchRows.{Writing, WritesWhole, ending_of, OverMap, ComesOnErrors}
+use Rattle.watch_maps.specs.LogRuns.{Writing, WritesWhole, ending_of}
+use Rattle.watch_commands.specs.WatchRows.{OverMap, ComesOnErrors}
 use Rattle.watch_expect.specs.Comparing.{difference_text, PrintsAll, DiffersIn, writes_bytes}
 
 -- the arguments, the kept text, the map and the log

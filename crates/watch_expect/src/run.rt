@@ -4,7 +4,7 @@ ghost use Rattle.std.specs.Prelude.{vec_capacity};
 ghost use Rattle.bus_port.specs.Source.{SourceState};
 ghost use Rattle.program_edge.specs.Inputs.{ReadsWhole};
 ghost use Rattle.program_edge.specs.Told.{EndingTold};
-ghost use Rattle.trace_audit.specs.Auditing.{Finding};
+ghost use Rattle.watch_commands.specs.Watching.{Found};
 ghost use Rattle.watch_commands.specs.States.{Watched};
 ghost use Rattle.watch_commands.specs.Words.{AsksWatch};
 ghost use Rattle.watch_commands.specs.WatchSteps.{SoFar};
@@ -146,7 +146,7 @@ fn compare_piece<T: Source>(
     requires { at.old ≤ length text.now }
     ensures within { at.new ≤ length text.now }
     ensures mapping { watch.new.mapping ≡ watch.old.mapping }
-    ensures turns { (first : SourceState) (bytes : List ℕ) (findings : List Finding)
+    ensures turns { (first : SourceState) (bytes : List ℕ) (findings : List Found)
         → SoFar (ports_at (record { before = first; after = T.state log.old }) text.now at.old) watch.old bytes findings
         → ComparesPiece watch.old.mapping (record { before = first; after = T.state log.new }) text.now at.new
         watch.new bytes findings result }

@@ -1,7 +1,7 @@
 use Rattle.std.proofs.Common.{inr, map}
 use Rattle.std.specs.Prelude.{string_bytes}
 use Rattle.trace_audit.specs.Rows.{AuditInputs}
-use Rattle.watch_commands.specs.WatchRows.{Writing, WatchEnding}
+use Rattle.watch_maps.specs.LogRuns.{Writing, WatchEnding}
 use Rattle.explain_commands.proofs.ExplainPhases.{Ends-untold}
 use Rattle.explain_commands.proofs.ExplainPromises.{Explains-ends}
 use Rattle.explain_commands.proofs.run.run_explain.Goals as goal

@@ -4,7 +4,7 @@ use Rattle.program_edge.specs.Rows.{row_of}
 use Rattle.program_edge.specs.Told.{EndingTold}
 use Rattle.trace_audit.specs.Rows.{AuditInputs}
 use Rattle.explain_commands.specs.declared.run.TheConstants.{HELP, VERSION}
-use Rattle.watch_commands.specs.Words.{is_only_word}
+use Rattle.watch_maps.specs.OptionWords.{is_only_word}
 use Rattle.explain_commands.specs.ExplainRows.{explain_text_asked, asked}
 use Rattle.explain_commands.proofs.ExplainPhases.{Ends-log}
 use Rattle.explain_commands.proofs.run.run_untold.Goals as goal

@@ -3,7 +3,7 @@ use Rattle.std.specs.Prelude.{Ok}
 use Rattle.std.proofs.lemmas.List.{length-take}
 use Rattle.bus_port.specs.Source.{SourceState, HandsOut}
 use Rattle.bus_port.specs.Sink.{SinkState}
-use Rattle.watch_commands.specs.WatchMaps.{NumberedMap}
+use Rattle.watch_maps.specs.WatchMaps.{NumberedMap}
 use Rattle.watch_commands.specs.WatchRows.{FailsOfLog, EndsLog}
 use Rattle.watch_commands.proofs.Ports.{SoFar-more, Stops-in, Ends-done, Ends-failed}
 use Rattle.watch_commands.proofs.run.next_piece.Goals as goal

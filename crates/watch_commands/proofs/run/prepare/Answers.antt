@@ -4,8 +4,8 @@ use Rattle.std.specs.Prelude.{string_bytes}
 use Rattle.program_edge.specs.declared.input.InputFault.TheVariants as input
 use Rattle.program_edge.proofs.CallerLemmas.{Lacks-whole}
 use Rattle.trace_audit.specs.Rows.{NamesInputs}
-use Rattle.watch_commands.specs.WatchMaps.{IsMapOf}
-use Rattle.watch_commands.specs.declared.options.WatchOptions.{WatchOptions}
+use Rattle.watch_maps.specs.WatchMaps.{IsMapOf}
+use Rattle.watch_maps.specs.declared.options.WatchOptions.{WatchOptions}
 use Rattle.watch_commands.specs.Words.{AsksWatch}
 use Rattle.watch_commands.specs.WatchRows.{ComesOnErrors, no_form, no_map}
 use Rattle.watch_commands.proofs.WatchPhases.{Comes-no_map}

@@ -5,7 +5,8 @@ use Rattle.program_edge.specs.Told.{EndingTold}
 use Rattle.trace_audit.specs.Rows.{AuditInputs}
 use Rattle.watch_commands.specs.declared.run.TheConstants.{HELP, VERSION}
 use Rattle.watch_commands.specs.WatchRows.{asked}
-use Rattle.watch_commands.specs.Words.{is_only_word, text_asked}
+use Rattle.watch_maps.specs.OptionWords.{is_only_word}
+use Rattle.watch_commands.specs.Words.{text_asked}
 use Rattle.watch_commands.proofs.WatchPhases.{Ends-log}
 use Rattle.watch_commands.proofs.run.run_untold.Goals as goal
 

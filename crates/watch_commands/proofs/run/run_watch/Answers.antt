@@ -1,7 +1,7 @@
 use Rattle.std.proofs.Common.{inr, map}
 use Rattle.std.specs.Prelude.{string_bytes}
 use Rattle.trace_audit.specs.Rows.{AuditInputs}
-use Rattle.watch_commands.specs.WatchRows.{Writing, WatchEnding}
+use Rattle.watch_maps.specs.LogRuns.{Writing, WatchEnding}
 use Rattle.watch_commands.proofs.WatchPhases.{Ends-untold}
 use Rattle.watch_commands.proofs.WatchPromises.{Watches-ends}
 use Rattle.watch_commands.proofs.run.run_watch.Goals as goal

@@ -2,7 +2,7 @@ use Rattle.std.proofs.Common.{[], ◌++◌, ◌∙◌, subst, sym, refl, arith}
 use Rattle.std.proofs.lemmas.List.{length-append}
 use Rattle.bus_port.specs.Source.{SourceState}
 use Rattle.bus_port.specs.Sink.{SinkState}
-use Rattle.watch_commands.specs.WatchMaps.{NumberedMap}
+use Rattle.watch_maps.specs.WatchMaps.{NumberedMap}
 use Rattle.watch_commands.specs.WatchRows.{FailsOfLog, EndsLog}
 use Rattle.watch_commands.proofs.Ports.{SoFar-none, Ends-too_long}
 use Rattle.watch_commands.proofs.run.watch_log.Goals as goal

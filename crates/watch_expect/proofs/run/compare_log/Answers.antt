@@ -1,7 +1,7 @@
 use Rattle.std.proofs.Common.{[], ◌++◌, ℕ, List, take, ◌∙◌, subst, sym, refl, arith}
 use Rattle.std.proofs.lemmas.List.{length-append}
 use Rattle.bus_port.specs.Source.{SourceState}
-use Rattle.watch_commands.specs.WatchMaps.{NumberedMap}
+use Rattle.watch_maps.specs.WatchMaps.{NumberedMap}
 use Rattle.watch_commands.specs.WatchRows.{FailsOfLog}
 use Rattle.watch_commands.proofs.CallerLemmas.{SoFar-none, Ends-too_long}
 use Rattle.watch_expect.specs.Comparing.{holds_bytes, writes_bytes}

@@ -3,7 +3,7 @@ use Rattle.std.specs.Prelude.{string_bytes, Option, None, Some, Ok}
 use Rattle.bus_port.specs.Source.{SourceState}
 use Rattle.program_edge.specs.Rows.{Row, row_of}
 use Rattle.program_edge.proofs.CallerLemmas.{AppendedWell-nothing}
-use Rattle.watch_commands.specs.WatchMaps.{NumberedMap}
+use Rattle.watch_maps.specs.WatchMaps.{NumberedMap}
 use Rattle.watch_commands.specs.WatchRows.{FailsOfLog, no_log}
 use Rattle.watch_expect.specs.Comparing.{PrintsAll, DiffersIn, holds_bytes, writes_bytes}
 use Rattle.watch_expect.specs.CompareSteps.{ComparesLog}

@@ -1,8 +1,7 @@
 use Rattle.std.proofs.Common.{◌≡◌, List, [], ◌∷◌, ◌++◌, sym, ap, ◌∙◌, subst}
-use Rattle.watch_commands.specs.WatchMaps.{NumberedMap}
-use Rattle.trace_audit.specs.Auditing.{Finding}
+use Rattle.watch_maps.specs.WatchMaps.{NumberedMap}
 use Rattle.watch_commands.specs.States.{WatchState, Watched, end_text}
-use Rattle.watch_commands.specs.Watching.{found_text}
+use Rattle.watch_commands.specs.Watching.{Found, findings_of, found_text}
 use Rattle.watch_commands.specs.WatchTotals.{totals_text, watch_status}
 use Rattle.watch_commands.specs.contracts.state.Watch.{the_view}
 use Rattle.watch_commands.proofs.Going.{Watched-text, FindsAll-ended, end_text_is, end_status_is}
@@ -14,7 +13,7 @@ returns-clause-ends c = λ bytes findings w.
     let (more, watched, text) = c.end_line.ensures.goes_on bytes findings (Watched-text (the_view c.self.inside) c.clear.new.self.items bytes findings w_old) in
     let ended : WatchState = c.end_line.new.self in
     let last : WatchState = c.push_totals.new.self in
-    let all : List Finding = findings ++ more in
+    let all : List Found = findings ++ more in
     let mapping : NumberedMap = c.args.self.now.mapping in
     let same : ended.mapping ≡ mapping = c.end_line.ensures.mapping ∙ ap (λ (s : WatchState). s.mapping) c.self.view_is in
     let watched_last : Watched last (bytes ++ 10 ∷ []) all =
@@ -23,13 +22,13 @@ returns-clause-ends c = λ bytes findings w.
     let last_same : last.mapping ≡ mapping = ap (λ (s : WatchState). s.mapping) c.push_totals.ensures ∙ same in
     let told : c.end_line.new.self.text ≡ found_text mapping more =
     text ∙ ap (λ t. t ++ found_text (the_view c.self.inside).mapping more) c.clear.ensures.items ∙ ap (λ (s : WatchState). found_text s.mapping more) c.self.view_is in
-    let text_is : last.text ≡ found_text mapping more ++ totals_text mapping all =
+    let text_is : last.text ≡ found_text mapping more ++ totals_text mapping (findings_of all) =
     ap (λ (s : WatchState). s.text) c.push_totals.ensures
     ∙ ap (λ t. t ++ end_text ended) told
     ∙ ap (λ t. found_text mapping more ++ t) (end_text_is ended (bytes ++ 10 ∷ []) all watched)
-    ∙ ap (λ (m : NumberedMap). found_text mapping more ++ totals_text m all) same in
-    let status_is : c.status.result ≡ watch_status mapping all =
-    c.status.ensures ∙ end_status_is last (bytes ++ 10 ∷ []) all watched_last ∙ ap (λ (m : NumberedMap). watch_status m all) last_same in (
+    ∙ ap (λ (m : NumberedMap). found_text mapping more ++ totals_text m (findings_of all)) same in
+    let status_is : c.status.result ≡ watch_status mapping (findings_of all) =
+    c.status.ensures ∙ end_status_is last (bytes ++ 10 ∷ []) all watched_last ∙ ap (λ (m : NumberedMap). watch_status m (findings_of all)) last_same in (
       more,
       FindsAll-ended ended mapping bytes all same watched,
       text_is,

@@ -1,8 +1,7 @@
 use Rattle.std.proofs.Common.{◌≡◌, List, ◌++◌, ◌∙◌, subst}
 use Rattle.program_edge.specs.Told.{EndingTold}
-use Rattle.trace_audit.specs.Auditing.{Finding}
-use Rattle.watch_commands.specs.WatchMaps.{NumberedMap}
-use Rattle.watch_commands.specs.Watching.{found_text}
+use Rattle.watch_maps.specs.WatchMaps.{NumberedMap}
+use Rattle.watch_commands.specs.Watching.{Found, findings_of, found_text}
 use Rattle.watch_commands.specs.WatchTotals.{totals_text}
 use Rattle.watch_commands.proofs.state.Watch.finish.Goals as goal
 
@@ -10,10 +9,10 @@ pub returns-clause-ends : goal.returns-clause-ends
 returns-clause-ends g c = λ bytes findings w.
     let (more, finds, text, status_is) = c.end-status.ensures.ends bytes findings w in
     let mapping : NumberedMap = c.args.self.now.mapping in
-    let all : List Finding = findings ++ more in
-    let text_is : c.text.result.now ≡ found_text mapping more ++ totals_text mapping all = c.text.ensures ∙ text in (
+    let all : List Found = findings ++ more in
+    let text_is : c.text.result.now ≡ found_text mapping more ++ totals_text mapping (findings_of all) = c.text.ensures ∙ text in (
       more,
       finds,
-      subst (λ status. EndingTold (g.K.Sink.state c.args.sink.now) (g.K.Sink.state c.tell.new.sink) (found_text mapping more ++ totals_text mapping all) status c.tell.result) status_is
+      subst (λ status. EndingTold (g.K.Sink.state c.args.sink.now) (g.K.Sink.state c.tell.new.sink) (found_text mapping more ++ totals_text mapping (findings_of all)) status c.tell.result) status_is
           (subst (λ t. EndingTold (g.K.Sink.state c.args.sink.now) (g.K.Sink.state c.tell.new.sink) t c.end-status.result c.tell.result) text_is c.tell.ensures),
     )

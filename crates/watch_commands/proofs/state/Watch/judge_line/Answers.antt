@@ -10,6 +10,7 @@ use Rattle.trace_audit.specs.declared.auditing.FrameTally.TheVariants as tally
 use Rattle.trace_audit.specs.Findings.{AddsFinding}
 use Rattle.trace_audit.proofs.CallerLemmas.{put_back}
 use Rattle.trace_audit.specs.Auditing.{finding_text}
+use Rattle.watch_commands.specs.Stamps.{LineStamp, stamp_of}
 use Rattle.watch_commands.specs.Watching.{told_text}
 use Rattle.watch_commands.proofs.Answering.{answer_in}
 use Rattle.watch_commands.specs.States.{WatchState, JudgesLine}
@@ -74,8 +75,10 @@ returns-clause-judges c =
     let shown : List ℕ = c.as_slice-4.result.now in
     let is_text : shown ≡ finding_text finding = c.as_slice-4.ensures.value ∙ text_is ∙ ap (λ (e : List ℕ). e ++ finding_text finding) c.clear.ensures.items in
     let told : List ℕ = c.add_answer.new.text.items in
-    let told_is : told ≡ old.text ++ told_text old.mapping.options finding =
-    c.add_answer.ensures.told finding (answer_in old.mapping.lines (slice_index old.counters) (record { number = old.lines; words = words_of line }) c.unwrap-tally.result shown finding audits counts_is is_text) in
+    let stamp_is : c.of-stamp.result ≡ stamp_of (words_of line) = c.of-stamp.ensures ∙ ap stamp_of words_are in
+    let told_is : told ≡ old.text ++ told_text old.mapping.options (record { finding = finding; stamp = stamp_of (words_of line) }) =
+    subst (λ (s : LineStamp). told ≡ old.text ++ told_text old.mapping.options (record { finding = finding; stamp = s })) stamp_is
+    (c.add_answer.ensures.told finding (answer_in old.mapping.lines (slice_index old.counters) (record { number = old.lines; words = words_of line }) c.unwrap-tally.result shown finding audits counts_is is_text)) in
     subst (λ (s : WatchState). JudgesLine s (record old { counters = left; text = told }) (Some c.unwrap-tally.result)) c.self.view_is
     (subst (λ cs. JudgesLine old (record old { counters = cs; text = told }) (Some c.unwrap-tally.result)) (sym counters_are)
     (JudgesLine-found old new told c.unwrap-tally.result finding few kept audits counts_is as_many behind told_is))

@@ -1,0 +1,5 @@
+pub mod LinesAhead
+pub mod Fitting
+pub mod Accepting
+pub mod LocatePhases
+pub mod LocatePromises

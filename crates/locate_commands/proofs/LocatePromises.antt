@@ -1,0 +1,332 @@
+-- What a run that ends so promises
+use Rattle.std.proofs.Common.{◌≡◌, ◌⊎◌, ℕ, ◌<◌, ◌≤◌, Bool, true, false, List, [], inl, inr, refl, sym, ◌∙◌, ap, subst, arith}
+use Rattle.std.specs.Prelude.{None, Some, Ok, Err, if◌then◌else◌, ◌==◌}
+use Rattle.bus_port.specs.Source.{SourceState}
+use Rattle.bus_port.specs.Sink.{SinkState}
+use Rattle.text_lines.specs.Readings.{Fault}
+use Rattle.program_edge.specs.Input.{input_fault_status}
+use Rattle.program_edge.specs.declared.input.InputFault.TheVariants as input
+use Rattle.program_edge.specs.Rows.{Row}
+use Rattle.program_edge.specs.Inputs.{Reading, IsUnread, ReadsWhole, Lacks, SourceFailed, CountsFault, GivesTooMuch, CountsTooMuch, Offers}
+use Rattle.program_edge.proofs.CallerLemmas.{Lacks-whole, CountsFault-is, CountsTooMuch-is, Offers-is, Offers-whole}
+use Rattle.program_edge.specs.Endings.{EndsInRow, EndsIn, MayEndIn, PrintsFront, SinkFailed, CountsWriteFault}
+use Rattle.program_edge.proofs.CallerLemmas.{EndsInRow-at, EndsInRow-front, EndsInRow-rose, EndsInRow-only, EndsInRow-may, EndsInRow-well}
+use Rattle.trace_audit.specs.declared.map_lines.MapLine.{MapLine}
+use Rattle.trace_audit.specs.Pieces.{log_lines}
+use Rattle.trace_audit.specs.Rows.{AuditInputs}
+use Rattle.watch_maps.specs.MapFaults.{map_fault_text, map_input_text}
+use Rattle.watch_maps.specs.WatchMaps.{NumberedMap, watch_map_of}
+use Rattle.watch_maps.specs.LogRuns.{IsUnwritten, WritesWhole, WatchEnding, on_output, on_errors}
+use Rattle.locate_commands.specs.LocateOptions.{locate_asked}
+use Rattle.locate_commands.specs.Locating.{zeroed, FoundIn, fresh_of, are_settled, located_text, locate_status}
+use Rattle.locate_commands.specs.LocateRows.{locate_usage, log_input_text, ReadsAskingMap, IsAskingMapFault, AsksLocate, OverLocate}
+use Rattle.locate_commands.specs.LocateRows.{LocateOnOutput, done, LocateOnErrors, no_form, no_map, map_fault, no_log, no_memory, EndsLocate}
+use Rattle.locate_commands.specs.Locates.{IsMapPrinted, Locates}
+
+-- ---- statuses
+
+one_test : (b : Bool) → IsMapPrinted (if b then 0 else 1)
+one_test true = inl refl
+one_test false = inr refl
+
+found_status : (text : List ℕ) (f : FoundIn) → IsMapPrinted (locate_status text f)
+found_status text f = one_test (are_settled (fresh_of f) 1 (log_lines text))
+
+found_few : (status : ℕ) → IsMapPrinted status → status ≤ 1
+found_few status (inl zero) = omega (arith, zero)
+found_few status (inr one) = omega (arith, one)
+
+above_1 : (status : ℕ) → 1 < status → ¬ IsMapPrinted status
+above_1 status above = λ is. omega (arith, above, found_few status is)
+
+module _ (i : AuditInputs) (e : WatchEnding) where
+  -- ---- rows by their status
+
+  output_status : (row : Row) → LocateOnOutput i row → IsMapPrinted row.status
+  output_status row (done _ (asked, text, f, names, same, reads, whole, is)) = subst (λ (r : Row). IsMapPrinted r.status) (sym is) (found_status text f)
+
+  output_never_6 : (row : Row) → LocateOnOutput i row → ¬ (row.status ≡ 6)
+  output_never_6 row comes = λ six. omega (arith, six, found_few row.status (output_status row comes))
+
+  errors_above_1 : (row : Row) → LocateOnErrors i row → 1 < row.status
+  errors_above_1 row (no_form other map log) = omega arith
+  errors_above_1 row (no_map input.ReadFault asks lacks unread) = omega arith
+  errors_above_1 row (no_map input.TooLong asks lacks unread) = omega arith
+  errors_above_1 row (no_map input.Memory asks lacks unread) = omega arith
+  errors_above_1 row (map_fault fault asks is unread) = omega arith
+  errors_above_1 row (no_log input.ReadFault text mapping asks reads lacks) = omega arith
+  errors_above_1 row (no_log input.TooLong text mapping asks reads lacks) = omega arith
+  errors_above_1 row (no_log input.Memory text mapping asks reads lacks) = omega arith
+  errors_above_1 row (no_memory asks map log) = omega arith
+
+  errors_never_6 : (row : Row) → LocateOnErrors i row → ¬ (row.status ≡ 6)
+  errors_never_6 row (no_form other map log) = λ six. omega (arith, six)
+  errors_never_6 row (no_map input.ReadFault asks lacks unread) = λ six. omega (arith, six)
+  errors_never_6 row (no_map input.TooLong asks lacks unread) = λ six. omega (arith, six)
+  errors_never_6 row (no_map input.Memory asks lacks unread) = λ six. omega (arith, six)
+  errors_never_6 row (map_fault fault asks is unread) = λ six. omega (arith, six)
+  errors_never_6 row (no_log input.ReadFault text mapping asks reads lacks) = λ six. omega (arith, six)
+  errors_never_6 row (no_log input.TooLong text mapping asks reads lacks) = λ six. omega (arith, six)
+  errors_never_6 row (no_log input.Memory text mapping asks reads lacks) = λ six. omega (arith, six)
+  errors_never_6 row (no_memory asks map log) = λ six. omega (arith, six)
+
+  -- what is printed at the status of a fault
+  fault_at : EndsLocate i e → (n : ℕ) → (n == 6) ≡ false → 1 < n → {A : Type 0}
+      → ((row : Row) → LocateOnErrors i row → row.status ≡ n → IsUnwritten e.output → WritesWhole e.errors row.text → A) → e.status ≡ n → A
+  fault_at (inl (ends, unwritten)) n other above each is =
+      absurd (EndsInRow-at ends n other (λ row comes at prints. above_1 n above (subst IsMapPrinted at (output_status row comes))) is)
+  fault_at (inr (ends, unwritten)) n other above each is = EndsInRow-at ends n other (λ row comes at prints. each row comes at unwritten prints) is
+
+  at_2 : (row : Row) → LocateOnErrors i row → row.status ≡ 2 → IsUnwritten e.output → WritesWhole e.errors row.text
+      → (locate_asked i.words ≡ None) × IsUnread i.map × IsUnread i.log × IsUnwritten e.output × WritesWhole e.errors locate_usage
+  at_2 row (no_form other map log) two unwritten prints = (other, map, log, unwritten, prints)
+  at_2 row (no_map input.ReadFault asks lacks unread) two unwritten prints = absurd (omega (arith, two))
+  at_2 row (no_map input.TooLong asks lacks unread) two unwritten prints = absurd (omega (arith, two))
+  at_2 row (no_map input.Memory asks lacks unread) two unwritten prints = absurd (omega (arith, two))
+  at_2 row (map_fault fault asks is unread) two unwritten prints = absurd (omega (arith, two))
+  at_2 row (no_log input.ReadFault text mapping asks reads lacks) two unwritten prints = absurd (omega (arith, two))
+  at_2 row (no_log input.TooLong text mapping asks reads lacks) two unwritten prints = absurd (omega (arith, two))
+  at_2 row (no_log input.Memory text mapping asks reads lacks) two unwritten prints = absurd (omega (arith, two))
+  at_2 row (no_memory asks map log) two unwritten prints = absurd (omega (arith, two))
+
+  at_4 : (row : Row) → LocateOnErrors i row → row.status ≡ 4 → IsUnwritten e.output → WritesWhole e.errors row.text
+      → AsksLocate i.words × IsUnread i.log × IsUnwritten e.output × ((fault : Fault) × IsAskingMapFault i.map fault × WritesWhole e.errors (map_fault_text fault))
+  at_4 row (no_form other map log) four unwritten prints = absurd (omega (arith, four))
+  at_4 row (no_map input.ReadFault asks lacks unread) four unwritten prints = absurd (omega (arith, four))
+  at_4 row (no_map input.TooLong asks lacks unread) four unwritten prints = absurd (omega (arith, four))
+  at_4 row (no_map input.Memory asks lacks unread) four unwritten prints = absurd (omega (arith, four))
+  at_4 row (map_fault fault asks is unread) four unwritten prints = (asks, unread, unwritten, (fault, is, prints))
+  at_4 row (no_log input.ReadFault text mapping asks reads lacks) four unwritten prints = absurd (omega (arith, four))
+  at_4 row (no_log input.TooLong text mapping asks reads lacks) four unwritten prints = absurd (omega (arith, four))
+  at_4 row (no_log input.Memory text mapping asks reads lacks) four unwritten prints = absurd (omega (arith, four))
+  at_4 row (no_memory asks map log) four unwritten prints = absurd (omega (arith, four))
+
+  abbrev AtFive : Type 0
+  AtFive = AsksLocate i.words × IsUnwritten e.output
+      × ((SourceFailed i.map × IsUnread i.log × WritesWhole e.errors (map_input_text input.ReadFault))
+      ⊎ (SourceFailed i.log × WritesWhole e.errors (log_input_text input.ReadFault)))
+
+  at_5 : (row : Row) → LocateOnErrors i row → row.status ≡ 5 → IsUnwritten e.output → WritesWhole e.errors row.text → AtFive
+  at_5 row (no_form other map log) five unwritten prints = absurd (omega (arith, five))
+  at_5 row (no_map input.ReadFault asks lacks unread) five unwritten prints = (asks, unwritten, inl (lacks.0, unread, prints))
+  at_5 row (no_map input.TooLong asks lacks unread) five unwritten prints = absurd (omega (arith, five))
+  at_5 row (no_map input.Memory asks lacks unread) five unwritten prints = absurd (omega (arith, five))
+  at_5 row (map_fault fault asks is unread) five unwritten prints = absurd (omega (arith, five))
+  at_5 row (no_log input.ReadFault text mapping asks reads lacks) five unwritten prints = (asks, unwritten, inr (lacks.0, prints))
+  at_5 row (no_log input.TooLong text mapping asks reads lacks) five unwritten prints = absurd (omega (arith, five))
+  at_5 row (no_log input.Memory text mapping asks reads lacks) five unwritten prints = absurd (omega (arith, five))
+  at_5 row (no_memory asks map log) five unwritten prints = absurd (omega (arith, five))
+
+  at_7 : (row : Row) → LocateOnErrors i row → row.status ≡ 7 → IsUnwritten e.output → WritesWhole e.errors row.text
+      → AsksLocate i.words × Lacks i.map input.Memory × IsUnwritten e.output × WritesWhole e.errors []
+  at_7 row (no_form other map log) seven unwritten prints = absurd (omega (arith, seven))
+  at_7 row (no_map input.ReadFault asks lacks unread) seven unwritten prints = absurd (omega (arith, seven))
+  at_7 row (no_map input.TooLong asks lacks unread) seven unwritten prints = absurd (omega (arith, seven))
+  at_7 row (no_map input.Memory asks lacks unread) seven unwritten prints = (asks, lacks, unwritten, prints)
+  at_7 row (map_fault fault asks is unread) seven unwritten prints = absurd (omega (arith, seven))
+  at_7 row (no_log input.ReadFault text mapping asks reads lacks) seven unwritten prints = absurd (omega (arith, seven))
+  at_7 row (no_log input.TooLong text mapping asks reads lacks) seven unwritten prints = absurd (omega (arith, seven))
+  at_7 row (no_log input.Memory text mapping asks reads lacks) seven unwritten prints = (asks, Lacks-whole i.map text reads.0, unwritten, prints)
+  at_7 row (no_memory asks map log) seven unwritten prints = (asks, map, unwritten, prints)
+
+  abbrev AtEight : Type 0
+  AtEight = AsksLocate i.words × IsUnwritten e.output
+      × ((GivesTooMuch i.map × IsUnread i.log × WritesWhole e.errors (map_input_text input.TooLong))
+      ⊎ (GivesTooMuch i.log × WritesWhole e.errors (log_input_text input.TooLong)))
+
+  at_8 : (row : Row) → LocateOnErrors i row → row.status ≡ 8 → IsUnwritten e.output → WritesWhole e.errors row.text → AtEight
+  at_8 row (no_form other map log) eight unwritten prints = absurd (omega (arith, eight))
+  at_8 row (no_map input.ReadFault asks lacks unread) eight unwritten prints = absurd (omega (arith, eight))
+  at_8 row (no_map input.TooLong asks lacks unread) eight unwritten prints = (asks, unwritten, inl (lacks.1, unread, prints))
+  at_8 row (no_map input.Memory asks lacks unread) eight unwritten prints = absurd (omega (arith, eight))
+  at_8 row (map_fault fault asks is unread) eight unwritten prints = absurd (omega (arith, eight))
+  at_8 row (no_log input.ReadFault text mapping asks reads lacks) eight unwritten prints = absurd (omega (arith, eight))
+  at_8 row (no_log input.TooLong text mapping asks reads lacks) eight unwritten prints = (asks, unwritten, inr (lacks.1, prints))
+  at_8 row (no_log input.Memory text mapping asks reads lacks) eight unwritten prints = absurd (omega (arith, eight))
+  at_8 row (no_memory asks map log) eight unwritten prints = absurd (omega (arith, eight))
+
+  -- ---- which rows come
+
+  asks_clash : locate_asked i.words ≡ None → AsksLocate i.words → ⊥
+  asks_clash other (asked, is) = let clash : None ≡ Some asked = sym other ∙ is in cc
+
+  unread_faults : (r : Reading) → IsUnread r → r.before.faults < r.after.faults → ⊥
+  unread_faults r unread counts = omega (arith, counts, ap (λ (s : SourceState). s.faults) unread)
+
+  unread_not_long : (r : Reading) → CountsTooMuch r → IsUnread r → ⊥
+  unread_not_long r counts unread = omega (arith, counts.1, ap (λ (s : SourceState). s.taken) unread)
+
+  whole_not_long : (r : Reading) (text : List ℕ) → CountsTooMuch r → ReadsWhole r text → ⊥
+  whole_not_long r text counts whole =
+      let clash : input.Memory ≡ input.TooLong = CountsTooMuch-is r input.Memory counts (Lacks-whole r text whole) in cc
+
+  unwritten_faults : (before after : SinkState) → after ≡ before → before.faults < after.faults → ⊥
+  unwritten_faults before after unwritten counts = omega (arith, counts, ap (λ (s : SinkState). s.faults) unwritten)
+
+  ok_is_err : (m : List MapLine) (fault : Fault) (read text : List ℕ) → read ≡ text → watch_map_of (zeroed read) ≡ Ok m → watch_map_of (zeroed text) ≡ Err fault → ⊥
+  ok_is_err m fault read text same ok err = let clash : Ok m ≡ Err fault = sym ok ∙ ap (λ t. watch_map_of (zeroed t)) same ∙ err in cc
+
+  map_is_err : (text : List ℕ) (fault : Fault) → Offers i.map text → watch_map_of (zeroed text) ≡ Err fault
+      → (read : List ℕ) (mapping : NumberedMap) → ReadsAskingMap i read mapping → ⊥
+  map_is_err text fault offers is read mapping (whole, read_is) =
+      ok_is_err mapping.lines fault read text (Offers-whole i.map text read offers whole) read_is.0 is
+
+  only_2 : locate_asked i.words ≡ None → (row : Row) → LocateOnErrors i row → row.status ≡ 2
+  only_2 other row (no_form free map log) = refl
+  only_2 other row (no_map fault asks lacks unread) = absurd (asks_clash other asks)
+  only_2 other row (map_fault fault asks is unread) = absurd (asks_clash other asks)
+  only_2 other row (no_log fault text mapping asks reads lacks) = absurd (asks_clash other asks)
+  only_2 other row (no_memory asks map log) = absurd (asks_clash other asks)
+
+  only_4 : (text : List ℕ) (fault : Fault) → AsksLocate i.words → Offers i.map text → watch_map_of (zeroed text) ≡ Err fault → (row : Row) → LocateOnErrors i row
+      → (row.status ≡ 4) ⊎ (row.status ≡ 7)
+  only_4 text fault names offers is row (no_form other map log) = absurd (asks_clash other names)
+  only_4 text fault names offers is row (no_map lack asks lacks unread) = inr (ap input_fault_status (Offers-is i.map text lack offers lacks))
+  only_4 text fault names offers is row (map_fault first asks first_is unread) = inl refl
+  only_4 text fault names offers is row (no_log lack read mapping asks reads lacks) = absurd (map_is_err text fault offers is read mapping reads)
+  only_4 text fault names offers is row (no_memory asks map log) = inr refl
+
+  map_faults : CountsFault i.map → (row : Row) → LocateOnErrors i row → row.status ≡ 5
+  map_faults counts row (no_form other map log) = absurd (unread_faults i.map map counts)
+  map_faults counts row (no_map fault asks lacks unread) = ap input_fault_status (CountsFault-is i.map fault counts lacks)
+  map_faults counts row (map_fault fault asks (text, whole, is) unread) = absurd (omega (arith, counts, whole.no_fault))
+  map_faults counts row (no_log fault text mapping asks (whole, is) lacks) = absurd (omega (arith, counts, whole.no_fault))
+  map_faults counts row (no_memory asks map log) = ap input_fault_status (CountsFault-is i.map input.Memory counts map)
+
+  log_faults : CountsFault i.log → (row : Row) → LocateOnErrors i row → row.status ≡ 5
+  log_faults counts row (no_form other map log) = absurd (unread_faults i.log log counts)
+  log_faults counts row (no_map fault asks lacks unread) = absurd (unread_faults i.log unread counts)
+  log_faults counts row (map_fault fault asks is unread) = absurd (unread_faults i.log unread counts)
+  log_faults counts row (no_log fault text mapping asks reads lacks) = ap input_fault_status (CountsFault-is i.log fault counts lacks)
+  log_faults counts row (no_memory asks map log) = ap input_fault_status (CountsFault-is i.log input.Memory counts log)
+
+  map_long : CountsTooMuch i.map → (row : Row) → LocateOnErrors i row → row.status ≡ 8
+  map_long counts row (no_form other map log) = absurd (unread_not_long i.map counts map)
+  map_long counts row (no_map fault asks lacks unread) = ap input_fault_status (CountsTooMuch-is i.map fault counts lacks)
+  map_long counts row (map_fault fault asks (text, whole, is) unread) = absurd (whole_not_long i.map text counts whole)
+  map_long counts row (no_log fault text mapping asks (whole, is) lacks) = absurd (whole_not_long i.map text counts whole)
+  map_long counts row (no_memory asks map log) = ap input_fault_status (CountsTooMuch-is i.map input.Memory counts map)
+
+  log_long : CountsTooMuch i.log → (row : Row) → LocateOnErrors i row → row.status ≡ 8
+  log_long counts row (no_form other map log) = absurd (unread_not_long i.log counts log)
+  log_long counts row (no_map fault asks lacks unread) = absurd (unread_not_long i.log counts unread)
+  log_long counts row (map_fault fault asks is unread) = absurd (unread_not_long i.log counts unread)
+  log_long counts row (no_log fault text mapping asks reads lacks) = ap input_fault_status (CountsTooMuch-is i.log fault counts lacks)
+  log_long counts row (no_memory asks map log) = ap input_fault_status (CountsTooMuch-is i.log input.Memory counts log)
+
+  -- nothing on standard output is told beside a source's fault, or too long an input
+  output_map_calm : CountsFault i.map → (row : Row) → LocateOnOutput i row → ⊥
+  output_map_calm counts row (done _ (asked, text, f, names, same, (whole, map_is), log, is)) = omega (arith, counts, whole.no_fault)
+
+  output_log_calm : CountsFault i.log → (row : Row) → LocateOnOutput i row → ⊥
+  output_log_calm counts row (done _ (asked, text, f, names, same, reads, log, is)) = omega (arith, counts, log.no_fault)
+
+  output_map_short : CountsTooMuch i.map → (row : Row) → LocateOnOutput i row → ⊥
+  output_map_short counts row (done _ (asked, text, f, names, same, (whole, map_is), log, is)) = whole_not_long i.map text counts whole
+
+  output_log_short : CountsTooMuch i.log → (row : Row) → LocateOnOutput i row → ⊥
+  output_log_short counts row (done _ (asked, text, f, names, same, reads, log, is)) = whole_not_long i.log f.log counts log
+
+  output_asks : locate_asked i.words ≡ None → (row : Row) → LocateOnOutput i row → ⊥
+  output_asks other row (done _ (asked, text, f, names, same, reads, log, is)) = asks_clash other (asked, names)
+
+  output_refuses : (text : List ℕ) (fault : Fault) → Offers i.map text → watch_map_of (zeroed text) ≡ Err fault → (row : Row) → LocateOnOutput i row → ⊥
+  output_refuses text fault offers refused row (done _ (asked, read, f, names, same, reads, log, is)) = map_is_err text fault offers refused read f.mapping reads
+
+  completes : (text log : List ℕ) (mapping : List MapLine) → AsksLocate i.words → Offers i.map text → watch_map_of (zeroed text) ≡ Ok mapping → Offers i.log log
+      → (row : Row) → LocateOnErrors i row → row.status ≡ 7
+  completes text log mapping names offers is log_offers row (no_form other map unread) = absurd (asks_clash other names)
+  completes text log mapping names offers is log_offers row (no_map lack asks lacks unread) = ap input_fault_status (Offers-is i.map text lack offers lacks)
+  completes text log mapping names offers is log_offers row (map_fault fault asks (read, whole, read_is) unread) =
+      absurd (ok_is_err mapping fault text read (sym (Offers-whole i.map text read offers whole)) is read_is)
+  completes text log mapping names offers is log_offers row (no_log lack read m asks reads lacks) = ap input_fault_status (Offers-is i.log log lack log_offers lacks)
+  completes text log mapping names offers is log_offers row (no_memory asks map lacks) = refl
+
+  -- ---- the promises
+
+  abbrev Found : Type 0
+  Found = OverLocate i (λ text f. (e.status ≡ locate_status text f) × WritesWhole e.output (located_text text f) × IsUnwritten e.errors)
+
+  found_row : IsUnwritten e.errors → (row : Row) → LocateOnOutput i row → e.status ≡ row.status → WritesWhole e.output row.text → Found
+  found_row unwritten row (done _ (asked, text, f, names, same, reads, log, is)) status_is prints = (
+    asked,
+    text,
+    f,
+    names,
+    same,
+    reads,
+    log,
+    (
+      status_is ∙ ap (λ (r : Row). r.status) is,
+      subst (λ (r : Row). WritesWhole e.output r.text) is prints,
+      unwritten,
+    ),
+  )
+
+  found_at : IsUnwritten e.errors → EndsInRow (LocateOnOutput i) (on_output e) → (n : ℕ) → (n == 6) ≡ false → e.status ≡ n → Found
+  found_at unwritten ends n other is = EndsInRow-at ends n other (λ row comes at prints. found_row unwritten row comes (is ∙ sym at) prints) is
+
+  errors_found : EndsInRow (LocateOnErrors i) (on_errors e) → (n : ℕ) → (n == 6) ≡ false → n ≤ 1 → e.status ≡ n → ⊥
+  errors_found ends n other few is = EndsInRow-at ends n other (λ row comes at prints. omega (arith, at, few, errors_above_1 row comes)) is
+
+  ends_found : EndsLocate i e → IsMapPrinted e.status → Found
+  ends_found (inl (ends, unwritten)) (inl zero) = found_at unwritten ends 0 refl zero
+  ends_found (inl (ends, unwritten)) (inr one) = found_at unwritten ends 1 refl one
+  ends_found (inr (ends, unwritten)) (inl zero) = absurd (errors_found ends 0 refl (omega arith) zero)
+  ends_found (inr (ends, unwritten)) (inr one) = absurd (errors_found ends 1 refl (omega arith) one)
+
+  ends_usage : EndsLocate i e → locate_asked i.words ≡ None → EndsIn 2 (on_errors e)
+  ends_usage (inl (ends, unwritten)) other = absurd (output_asks other ends.row ends.comes)
+  ends_usage (inr (ends, unwritten)) other = EndsInRow-only ends 2 (only_2 other)
+
+  ends_refused : EndsLocate i e → (text : List ℕ) (fault : Fault) → AsksLocate i.words → Offers i.map text → watch_map_of (zeroed text) ≡ Err fault → MayEndIn 4 (on_errors e)
+  ends_refused (inl (ends, unwritten)) text fault names offers is = absurd (output_refuses text fault offers is ends.row ends.comes)
+  ends_refused (inr (ends, unwritten)) text fault names offers is = EndsInRow-may ends 4 (only_4 text fault names offers is)
+
+  ends_read_fault : EndsLocate i e → CountsFault i.map ⊎ CountsFault i.log → EndsIn 5 (on_errors e)
+  ends_read_fault (inl (ends, unwritten)) (inl map) = absurd (output_map_calm map ends.row ends.comes)
+  ends_read_fault (inl (ends, unwritten)) (inr log) = absurd (output_log_calm log ends.row ends.comes)
+  ends_read_fault (inr (ends, unwritten)) (inl map) = EndsInRow-only ends 5 (map_faults map)
+  ends_read_fault (inr (ends, unwritten)) (inr log) = EndsInRow-only ends 5 (log_faults log)
+
+  ends_too_long : EndsLocate i e → CountsTooMuch i.map ⊎ CountsTooMuch i.log → EndsIn 8 (on_errors e)
+  ends_too_long (inl (ends, unwritten)) (inl map) = absurd (output_map_short map ends.row ends.comes)
+  ends_too_long (inl (ends, unwritten)) (inr log) = absurd (output_log_short log ends.row ends.comes)
+  ends_too_long (inr (ends, unwritten)) (inl map) = EndsInRow-only ends 8 (map_long map)
+  ends_too_long (inr (ends, unwritten)) (inr log) = EndsInRow-only ends 8 (log_long log)
+
+  ends_write_fault : EndsLocate i e → e.status ≡ 6
+      → (SinkFailed (on_output e) × PrintsFront (LocateOnOutput i) (on_output e)) ⊎ (SinkFailed (on_errors e) × PrintsFront (LocateOnErrors i) (on_errors e))
+  ends_write_fault (inl (ends, unwritten)) six = inl (EndsInRow-front ends output_never_6 six)
+  ends_write_fault (inr (ends, unwritten)) six = inr (EndsInRow-front ends errors_never_6 six)
+
+  ends_counts : EndsLocate i e → CountsWriteFault (on_output e) ⊎ CountsWriteFault (on_errors e) → e.status ≡ 6
+  ends_counts (inl (ends, unwritten)) (inl output) = EndsInRow-rose ends output
+  ends_counts (inl (ends, unwritten)) (inr errors) = absurd (unwritten_faults e.errors.before e.errors.after unwritten errors)
+  ends_counts (inr (ends, unwritten)) (inl output) = absurd (unwritten_faults e.output.before e.output.after unwritten output)
+  ends_counts (inr (ends, unwritten)) (inr errors) = EndsInRow-rose ends errors
+
+  ends_complete : EndsLocate i e → (text log : List ℕ) (mapping : List MapLine) → AsksLocate i.words → Offers i.map text → watch_map_of (zeroed text) ≡ Ok mapping
+      → Offers i.log log → ¬ SinkFailed (on_output e) → ¬ SinkFailed (on_errors e) → IsMapPrinted e.status ⊎ (e.status ≡ 7)
+  ends_complete (inl (ends, unwritten)) text log mapping names offers is log_offers well well_errors =
+      let (row, comes, status_is, prints) = EndsInRow-well ends well in inl (subst IsMapPrinted (sym status_is) (output_status row comes))
+  ends_complete (inr (ends, unwritten)) text log mapping names offers is log_offers well well_errors =
+      let (row, comes, status_is, prints) = EndsInRow-well ends well_errors in inr (status_is ∙ completes text log mapping names offers is log_offers row comes)
+
+  pub Locates-ends : EndsLocate i e → Locates i e
+  Locates-ends ends = record {
+    ends = ends;
+    found = ends_found ends;
+    usage = fault_at ends 2 refl (omega arith) at_2;
+    usage_only = ends_usage ends;
+    refused = fault_at ends 4 refl (omega arith) at_4;
+    refused_only = ends_refused ends;
+    read_fault = fault_at ends 5 refl (omega arith) at_5;
+    read_fault_only = ends_read_fault ends;
+    write_fault = ends_write_fault ends;
+    write_fault_only = ends_counts ends;
+    no_memory = fault_at ends 7 refl (omega arith) at_7;
+    too_long = fault_at ends 8 refl (omega arith) at_8;
+    too_long_only = ends_too_long ends;
+    complete = ends_complete ends;
+  }

@@ -1,0 +1,5 @@
+pub mod LocateOptions
+pub mod Locating
+pub mod LocateRows
+pub mod Locates
+pub mod LocateSteps

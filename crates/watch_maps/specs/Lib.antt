@@ -1,0 +1,4 @@
+pub mod OptionWords
+pub mod MapFaults
+pub mod WatchMaps
+pub mod LogRuns
