@@ -112,37 +112,9 @@ told_full options stamp number head accepted answer (verdict n p can outcome) is
     told_in_full (is_accepted_tally (tally_of (verdict n p can outcome)) && options.quiet) (lead_text options stamp ++ answer_text options.json (verdict n p can outcome))
     (ap (λ (b : Bool). b && options.quiet) (accepted_of number head accepted answer (verdict n p can outcome) is) ∙ told)
 
-left_out : (b : Bool) (text : List ℕ) → b ≡ true → [] ≡ (if b then [] else text)
-left_out true text is = refl
-left_out false text is = cc
-
--- of one that is left out nothing is
-pub told_nothing : (options : WatchOptions) (stamp : LineStamp) (number : ℕ) (head : List ℕ) (accepted : Bool) (answer : List ℕ) (f : Finding)
-    → IsAnswerTo number head accepted answer f → (accepted && options.quiet) ≡ true → [] ≡ told_text options (record { finding = f; stamp = stamp })
-told_nothing options stamp number head accepted answer (other kind) is quiet = absurd is
-told_nothing options stamp number head accepted answer (too_short n p can) is quiet =
-    left_out (is_accepted_tally (tally_of (too_short n p can)) && options.quiet) (lead_text options stamp ++ answer_text options.json (too_short n p can))
-    (ap (λ (b : Bool). b && options.quiet) (accepted_of number head accepted answer (too_short n p can) is) ∙ quiet)
-told_nothing options stamp number head accepted answer (verdict n p can outcome) is quiet =
-    left_out (is_accepted_tally (tally_of (verdict n p can outcome)) && options.quiet) (lead_text options stamp ++ answer_text options.json (verdict n p can outcome))
-    (ap (λ (b : Bool). b && options.quiet) (accepted_of number head accepted answer (verdict n p can outcome) is) ∙ quiet)
-
 as_object : (json : Bool) (object words : List ℕ) → json ≡ true → object ≡ (if json then object else words)
 as_object true object words is = refl
 as_object false object words is = cc
-
-as_words : (json : Bool) (object words : List ℕ) → json ≡ false → words ≡ (if json then object else words)
-as_words true object words is = cc
-as_words false object words is = refl
-
--- in words the answer is the text of the finding
-pub told_words : (json : Bool) (number : ℕ) (head : List ℕ) (accepted : Bool) (answer : List ℕ) (f : Finding)
-    → IsAnswerTo number head accepted answer f → json ≡ false → answer ≡ answer_text json f
-told_words json number head accepted answer (other kind) is words = absurd is
-told_words json number head accepted answer (too_short n p can) (number_is, can_is, accepted_is, is) words =
-    is ∙ as_words json (finding_object (too_short n p can)) (finding_text (too_short n p can)) words
-told_words json number head accepted answer (verdict n p can outcome) (number_is, can_is, accepted_is, is) words =
-    is ∙ as_words json (finding_object (verdict n p can outcome)) (finding_text (verdict n p can outcome)) words
 
 said_in : (digits head said answer : List ℕ) → answer ≡ (((digits ++ codes " ") ++ head) ++ codes " ") ++ (said ++ 10 ∷ [])
     → take (length answer - 1 - (length digits + length head + 2)) (drop (length digits + length head + 2) answer) ≡ said

@@ -8,7 +8,7 @@ use Rattle.trace_audit.specs.declared.map_lines.MapLine.{MapLine}
 use Rattle.trace_audit.specs.declared.frames.OtherLine.TheVariants as kind
 use Rattle.trace_audit.specs.Auditing.{Finding, other, finding_accepts, first_counters, counter_of_place}
 use Rattle.trace_audit.proofs.CallerLemmas.{Keeps, keeps_one, above}
-use Rattle.watch_commands.specs.Watching.{Found, stamped, findings_of, WatchesLine, WatchesEach, none, more}
+use Rattle.watch_commands.specs.Watching.{Found, findings_of, WatchesLine, WatchesEach, none, more}
 use Rattle.watch_commands.proofs.Stamping.{findings_more}
 use Rattle.trace_audit.specs.Pieces.{in_64_bits}
 

@@ -1,9 +1,8 @@
 -- No word of a line is longer than the line
-use Rattle.std.proofs.Common.{◌≡◌, ℕ, zero, suc, ◌+◌, ◌*◌, ◌-◌, ◌≤◌, List, [], ◌∷◌, length, take, drop, map, get_or, ap, arith}
+use Rattle.std.proofs.Common.{◌≡◌, ℕ, zero, suc, ◌+◌, ◌*◌, ◌-◌, ◌≤◌, List, [], ◌∷◌, length, drop, map, get_or, ap, arith}
 use Rattle.std.proofs.lemmas.List.{length-take, length-drop}
 use Rattle.text_lines.specs.declared.span.Span.{Span}
 use Rattle.text_lines.specs.Spans.{word_at}
-use Rattle.text_lines.specs.Readings.{nth_word}
 use Rattle.watch_commands.specs.Stamps.{LineStamp, stamp_of}
 
 fits : (line : List ℕ) (spans : List Span) (k : ℕ) → length (get_or (map (word_at line) spans) k []) ≤ length line

@@ -2,8 +2,6 @@ pub mod Words
 pub mod Stamps
 pub mod Objects
 pub mod Answers
-pub mod MapFaults
-pub mod WatchMaps
 pub mod WatchTotals
 pub mod Watching
 pub mod States

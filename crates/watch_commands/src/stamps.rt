@@ -1,5 +1,5 @@
 //! The time and the channel of a line of a log, as they stand before its answer.
-ghost use Rattle.std.specs.Prelude.{◌≡◌, ◌≤◌, ◌<◌, ◌+◌, ◌*◌, ◌++◌, length, vec_len, vec_capacity};
+ghost use Rattle.std.specs.Prelude.{◌≡◌, ◌≤◌, ◌<◌, ◌+◌, ◌*◌, ◌++◌, if◌then◌else◌, length, vec_len, vec_capacity};
 ghost use Rattle.text_lines.specs.Readings.{nth_word};
 ghost use Rattle.watch_commands.specs.Stamps.{stamp_of, within_ends, is_plain, escaped_byte, escaped};
 ghost use Rattle.watch_commands.specs.Stamps.{stamp_words, stamp_object, lead_text};

@@ -210,6 +210,7 @@ impl Watch {
     fn look_at(&mut self, piece: &[u8])
         requires short { length piece.now ≤ 4096 }
         requires empty { self.old.text ≡ [] }
+        requires line { length self.old.line ≤ 4097 }
         ensures mapping { self.new.mapping ≡ self.old.mapping }
         ensures goes_on { FindsMore self.old self.new piece.now }
     {

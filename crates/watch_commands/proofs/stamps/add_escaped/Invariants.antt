@@ -6,7 +6,7 @@ use Rattle.watch_commands.proofs.stamps.add_escaped.Given as goal
 
 abbrev pub invariant-loop-byte : goal.invariant-loop-byte
 invariant-loop-byte l = record {
-  so_far : l.text.items ≡ l.initial.text.items ++ escaped (take l.byte-index l.byte-items);
+  so_far : l.text.items ≡ l.initial.text.items ++ escaped (take l.byte-index l.bytes);
   few : vec_len l.text ≤ vec_len l.initial.text + 6 * l.byte-index;
   capacity : vec_capacity l.initial.text ≤ vec_capacity l.text;
 }

@@ -1,4 +1,3 @@
-use Rattle.std.proofs.Common.{◌++◌, List, ℕ}
 use Rattle.std.specs.Prelude.{codes}
 use Rattle.watch_commands.proofs.Parts.{four_parts}
 use Rattle.watch_commands.proofs.stamps.add_words.Goals as goal

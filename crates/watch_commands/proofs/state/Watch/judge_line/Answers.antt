@@ -1,4 +1,4 @@
-use Rattle.std.proofs.Common.{◌≡◌, ◌≤◌, ◌++◌, ℕ, List, false, length, take, drop, map, sym, ap, ◌∙◌, subst, arith}
+use Rattle.std.proofs.Common.{◌≡◌, ◌≤◌, ◌+◌, ◌*◌, ◌++◌, ℕ, List, false, length, take, drop, map, sym, ap, ◌∙◌, subst, arith}
 use Rattle.std.specs.Prelude.{Some, slice_index}
 use Rattle.std.proofs.lemmas.Result.{IfOk-at_ok}
 use Rattle.text_lines.specs.Lines.{words_of, is_skipped}
@@ -13,6 +13,7 @@ use Rattle.trace_audit.specs.Auditing.{finding_text}
 use Rattle.watch_commands.specs.Stamps.{LineStamp, stamp_of}
 use Rattle.watch_commands.specs.Watching.{told_text}
 use Rattle.watch_commands.proofs.Answering.{answer_in}
+use Rattle.watch_commands.proofs.WordSizes.{stamp_fits}
 use Rattle.watch_commands.specs.States.{WatchState, JudgesLine}
 use Rattle.watch_commands.specs.contracts.state.Watch.{the_view}
 use Rattle.watch_commands.proofs.Going.{JudgesLine-long, JudgesLine-found}
@@ -21,6 +22,20 @@ use Rattle.watch_commands.proofs.state.Watch.judge_line.Goals as goal
 pub returns-then-len-gt-LINE_LIMIT-clause-judges : goal.returns-then-len-gt-LINE_LIMIT-clause-judges
 returns-then-len-gt-LINE_LIMIT-clause-judges c =
     subst (λ (s : WatchState). JudgesLine s s (Some (tally.Other kind.Malformed))) c.self.view_is (JudgesLine-long (the_view c.self.inside) (omega (arith, c.self.inside.line.ok.0)))
+
+pub add_answer-requires-clause-room : goal.add_answer-requires-clause-room
+add_answer-requires-clause-room c =
+    let stamp : LineStamp = c.of-stamp.result in
+    let fits : length stamp.time + length stamp.channel ≤ 2 * length c.as_slice-2.result.now =
+    stamp_fits c.as_slice-2.result.now c.as_slice-3.result.now stamp (c.of-stamp.ensures ∙ ap stamp_of c.of-words.ensures) in
+    omega (arith, fits, ap length c.as_slice-2.ensures.value, ap (λ (s : WatchState). length s.text) c.self.view_is, ap (λ (s : WatchState). length s.line) c.self.view_is)
+
+pub returns-clause-few : goal.returns-clause-few
+returns-clause-few c =
+    let stamp : LineStamp = c.of-stamp.result in
+    let fits : length stamp.time + length stamp.channel ≤ 2 * length c.as_slice-2.result.now =
+    stamp_fits c.as_slice-2.result.now c.as_slice-3.result.now stamp (c.of-stamp.ensures ∙ ap stamp_of c.of-words.ensures) in
+    omega (arith, fits, c.add_answer.ensures.few, ap length c.as_slice-2.ensures.value, ap (λ (s : WatchState). length s.text) c.self.view_is, ap (λ (s : WatchState). length s.line) c.self.view_is)
 
 pub add_answer-requires-clause-answers : goal.add_answer-requires-clause-answers
 add_answer-requires-clause-answers c =

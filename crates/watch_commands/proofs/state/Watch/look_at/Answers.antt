@@ -1,6 +1,6 @@
 use Rattle.std.proofs.Common.{◌≡◌, ◌-◌, ℕ, List, length, take, drop, sym, ap, ◌∙◌, subst, refl, arith, take_all}
 use Rattle.std.proofs.Math.Seq.{take-add}
-use Rattle.std.proofs.lemmas.List.{length-drop}
+use Rattle.std.proofs.lemmas.List.{length-take, length-drop}
 use Rattle.watch_commands.specs.States.{FindsMore}
 use Rattle.watch_commands.proofs.Going.{FindsMore-nothing, FindsMore-more}
 use Rattle.watch_commands.proofs.state.Watch.look_at.Goals as goal
@@ -8,10 +8,16 @@ use Rattle.watch_commands.proofs.state.Watch.look_at.Goals as goal
 pub loop-at-init : goal.loop-at-init
 loop-at-init c = record {
   in_range = omega arith;
-  room = omega (arith, ap length c.requires.empty);
+  room = omega (arith, ap length c.requires.empty, c.requires.line);
   mapping = refl;
   goes_on = FindsMore-nothing c.args.self.now;
 }
+
+pub look_at_front-at-requires-clause-room : goal.look_at_front-at-requires-clause-room
+look_at_front-at-requires-clause-room c =
+    let piece : List ℕ = c.args.piece.now in
+    let at : ℕ = c.loop-at.at in
+    omega (arith, c.loop-at.invariant.room, c.requires.short, length-take (length piece - at) (drop at piece), length-drop at piece)
 
 pub loop-at-preserved : goal.loop-at-preserved
 loop-at-preserved c =
