@@ -52,10 +52,10 @@ pub record RunsOverMade (Asks : List (List ℕ) → Type 0) (count : ℕ)
   pub runs : Runs (left ≡ made) i (record { before = disk_states made.items; after = disk_states left.items }) e
 
 -- a worked example: its words, over sources that tell its bus file and its script, and don't fail
-pub record IsExample (words : List (List ℕ)) (bus script : List ℕ) (i : BusInputs) : Type 0 where
+pub record IsExample (words : List (List ℕ)) (bus_text script_text : List ℕ) (i : BusInputs) : Type 0 where
   pub words_are : i.words ≡ words
-  pub config : Offers i.config bus
-  pub script : Offers i.script script
+  pub config : Offers i.config bus_text
+  pub script : Offers i.script script_text
 
 -- the example ran so
 pub record RunsExample (Example : BusInputs → Type 0) (Runs : BusInputs → Ending → Type 0) (e : Ending) : Type 0 where
