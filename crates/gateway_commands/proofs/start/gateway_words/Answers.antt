@@ -21,12 +21,12 @@ returns-in_default-clause-usage_only g c = λ some other. absurd (other c.in_def
 pub returns-in_default-disks_if-clause-words : goal.returns-in_default-disks_if-clause-words
 returns-in_default-disks_if-clause-words g c =
     let none = c.unopened-in_default-disks_if.ensures in
-    let asks = asks_from_is_some (map string_bytes c.args.words.now) c.in-Ok.asked c.in-Ok.ensures.asked c.in_default-disks_if.ensures.wanted in
+    let asks = asks_from_is_some (map string_bytes c.args.words.now) c.in-Ok.asked c.in-Ok.ensures.asked (sym c.is_some-2.ensures ∙ c.in_default-disks_if.ensures.wanted) in
     ran_nothing (inl asks) (record { status_is = none.status; unwritten = refl; unopened = refl; config_missing = none.config; script_missing = none.script })
 
 pub returns-in_default-disks_if-clause-usage_only : goal.returns-in_default-disks_if-clause-usage_only
 returns-in_default-disks_if-clause-usage_only g c = λ some other.
-    let asks = asks_from_is_some (map string_bytes c.args.words.now) c.in-Ok.asked c.in-Ok.ensures.asked c.in_default-disks_if.ensures.wanted in
+    let asks = asks_from_is_some (map string_bytes c.args.words.now) c.in-Ok.asked c.in-Ok.ensures.asked (sym c.is_some-2.ensures ∙ c.in_default-disks_if.ensures.wanted) in
     absurd (other asks.0 asks.1)
 
 pub returns-clause-words : goal.returns-clause-words
@@ -47,7 +47,7 @@ returns-clause-words g c =
         has = record {
           made = c.in-Ok-disks_if.disks;
           left = c.run_asked-status.new.disks;
-          given = λ asks. c.in-Ok-disks_if.ensures.given (is_some_from_asks words c.in-Ok.asked c.in-Ok.ensures.asked asks);
+          given = λ asks. c.in-Ok-disks_if.ensures.given (c.is_some-2.ensures ∙ is_some_from_asks words c.in-Ok.asked c.in-Ok.ensures.asked asks);
           runs = c.run_asked-status.ensures words c.in-Ok.ensures.asked;
         };
       };
@@ -65,6 +65,6 @@ returns-clause-starts g c =
     over_starts _ _ (record {
       made = c.in-Ok-disks_if.disks;
       left = c.run_asked-status.new.disks;
-      given = λ asks. c.in-Ok-disks_if.ensures.given (is_some_from_asks words c.in-Ok.asked c.in-Ok.ensures.asked asks);
+      given = λ asks. c.in-Ok-disks_if.ensures.given (c.is_some-2.ensures ∙ is_some_from_asks words c.in-Ok.asked c.in-Ok.ensures.asked asks);
       runs = c.run_asked-status.ensures words c.in-Ok.ensures.asked;
     })
