@@ -164,7 +164,8 @@ fn push_bound(
     end_line(text)
 }
 
-fn direction_name(direction: Direction) -> &'static [u8]
+/// The word of a direction.
+pub fn direction_name(direction: Direction) -> &'static [u8]
     ensures { result.now ≡ direction_word direction }
 {
     match direction {

@@ -10,6 +10,7 @@ mod cells;
 mod checking;
 pub mod laws;
 mod listing;
+mod over_routes;
 mod reading;
 mod refusals;
 mod replying;

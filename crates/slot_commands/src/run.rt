@@ -71,7 +71,7 @@ fn do_task(alloc: Global, task: &SlotTask, bytes: &[u8]) -> Result<(Vec<u8>, u8)
             Ok((text, DONE))
         }
         SlotTask::Check => {
-            let (text, good) = check_bytes(alloc, bytes)?;
+            let (text, good) = check_bytes(alloc, bytes, None)?;
             if good {
                 Ok((text, DONE))
             } else {
