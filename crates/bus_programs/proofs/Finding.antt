@@ -1,7 +1,7 @@
 -- The bus of a bus file, and the events of a script, put together
-use Rattle.std.specs.Prelude.{◌≡◌, ℕ, List, Some, Result, Ok, Err, Vec}
+use Rattle.std.specs.Prelude.{◌≡◌, ℕ, List, [], ◌∷◌, length, get_or, Some, Result, Ok, Err, Vec}
 use Rattle.std.specs.declared.alloc.Global.{Global}
-use Rattle.std.proofs.Common.{inl, inr, sym, subst}
+use Rattle.std.proofs.Common.{ap, ◌∙◌, arith, inl, inr, sym, subst}
 use Rattle.program_edge.specs.declared.input.InputFault.TheVariants as input
 use Rattle.program_edge.specs.Rows.{Row, memory_row}
 use Rattle.program_edge.specs.Inputs.{Reading, ReadsWhole}
@@ -12,6 +12,8 @@ use Rattle.bus_config.specs.BusFile.{bus_of}
 use Rattle.bus_config.specs.FaultTexts.{config_fault_text}
 use Rattle.bus_config.specs.Answers.{IsFaultOf}
 use Rattle.bus_config.specs.Buses.{NamedBus}
+use Rattle.bus_config.specs.declared.node_lines.NodeLine.{NodeLine}
+use Rattle.bus_script.specs.EventForms.{node_line_at}
 use Rattle.bus_machine.specs.declared.events.Event.{Event}
 use Rattle.bus_programs.proofs.CallerLemmas.{LacksLines-read}
 use Rattle.bus_programs.specs.Scripts.{ScriptMeaning, HasScript, FindsScript}
@@ -46,3 +48,8 @@ pub FindsScript-read : (meaning : ScriptMeaning) (bus : NamedBus) (script : Read
     → ReadsWhole script text → HasScript meaning bus text result → FindsScript meaning bus script result
 FindsScript-read meaning bus script text (Ok events) whole is = ((text, whole, is.0), is.1)
 FindsScript-read meaning bus script text (Err row) whole is = LacksLines-read (meaning bus.nodes) script text row whole is
+
+-- the one node of a bus
+pub first_config : (nodes all : List NodeLine) (n : NodeLine) → nodes ≡ all → length all ≡ 1 → n ≡ get_or nodes 0 n → n.config ≡ (node_line_at all 0).config
+first_config nodes [] n same one is = absurd (let no : ⊥ = omega (arith, one) in no)
+first_config nodes (x ∷ xs) n same one is = ap (λ (l : NodeLine). l.config) (is ∙ ap (λ (ns : List NodeLine). get_or ns 0 n) same)

@@ -18,9 +18,10 @@ use Rattle.bus_world.specs.declared.start.Start.TheVariants.{Attach}
 use Rattle.bus_world.specs.Starts.{HasRoom}
 use Rattle.bus_world.proofs.CallerLemmas.{no_room_fault, start_without_room, start_complete}
 use Rattle.bus_world.specs.StartAnswers.{DiskStates, ComesOfStart, disks_refused, store_refused, start_without_memory, BusHasDisks}
+use Rattle.bus_programs.specs.BusRoutes.{routes_of}
 use Rattle.endpoint_commands.specs.declared.rules.FrameRule.{FrameRule}
 use Rattle.endpoint_commands.specs.Rules.{rules_of}
-use Rattle.endpoint_commands.specs.Rows.{EndpointInputs, AsksEndpoint, AsksBoot, routes_of, ReadsImage, SetsEndpoint, LacksEndpointInput, of_config, of_map, of_image, HasConfigFault, HasOtherNodes, HasMapFault, HasOtherImage}
+use Rattle.endpoint_commands.specs.Rows.{EndpointInputs, AsksEndpoint, AsksBoot, ReadsImage, SetsEndpoint, LacksEndpointInput, of_config, of_map, of_image, HasConfigFault, HasOtherNodes, HasMapFault, HasOtherImage}
 use Rattle.endpoint_commands.specs.Rows.{ComesBeforeLog, no_form, no_source, config_fault, other_nodes, map_fault, other_image, no_room, OffersNode, OffersRules, OffersImage, OffersEndpoint}
 use Rattle.endpoint_commands.specs.Promises.{ComesUnlogged, of_inputs, unstarted}
 

@@ -1,16 +1,15 @@
 -- The inputs of an endpoint, put together
-use Rattle.std.specs.Prelude.{◌≡◌, ◌≢◌, ℕ, Bool, true, false, List, [], ◌∷◌, length, get_or, codes, Option, None, Some, Result, Ok, Err, Vec}
+use Rattle.std.specs.Prelude.{◌≡◌, ◌≢◌, ℕ, Bool, true, false, List, length, codes, Option, None, Some, Result, Ok, Err, Vec}
 use Rattle.std.specs.declared.alloc.Global.{Global}
-use Rattle.std.proofs.Common.{refl, sym, ap, ◌∙◌, subst, arith, inl, inr}
+use Rattle.std.proofs.Common.{refl, sym, subst, arith, inl, inr}
 use Rattle.std.proofs.lemmas.Option.{same_Some, none-some}
 use Rattle.text_lines.specs.Texts.{line}
 use Rattle.program_edge.specs.Rows.{Row, row_of}
 use Rattle.program_edge.specs.Inputs.{Reading, ReadsWhole, IsUnread}
 use Rattle.secoc_node.specs.Words.{IsImage}
-use Rattle.bus_config.specs.declared.node_lines.NodeLine.{NodeLine}
 use Rattle.bus_config.specs.Buses.{NamedBus}
-use Rattle.bus_script.specs.EventForms.{node_line_at}
 use Rattle.bus_programs.specs.BusFiles.{ReadsBus, LacksBus, no_file, file_refused}
+use Rattle.bus_programs.specs.BusRoutes.{routes_of}
 use Rattle.bus_programs.specs.Scripts.{LacksLines, no_lines, lines_refused, ReadsLinesAs}
 use Rattle.freshness_routes.specs.declared.routes.Route.{Route}
 use Rattle.bus_programs.proofs.CallerLemmas.{LacksLines-read}
@@ -18,7 +17,7 @@ use Rattle.endpoint_commands.specs.declared.rules.FrameRule.{FrameRule}
 use Rattle.endpoint_commands.specs.declared.run.EndpointForm.{EndpointForm}
 use Rattle.endpoint_commands.specs.declared.run.EndpointForm.TheVariants.{Plain, Boots}
 use Rattle.endpoint_commands.specs.Rules.{rules_of}
-use Rattle.endpoint_commands.specs.Rows.{EndpointInputs, AsksEndpoint, AsksBoot, AsksForm, does_boot, routes_of, ReadsImage, of_config, of_map, of_image, ComesBeforeLog, no_source, config_fault, other_nodes, map_fault, other_image}
+use Rattle.endpoint_commands.specs.Rows.{EndpointInputs, AsksEndpoint, AsksBoot, AsksForm, does_boot, ReadsImage, of_config, of_map, of_image, ComesBeforeLog, no_source, config_fault, other_nodes, map_fault, other_image}
 use Rattle.endpoint_commands.specs.Steps.{HasRules, FindsRules, LacksImage, unread_image, other_length, FindsImage}
 
 -- a map that was read whole
@@ -83,12 +82,6 @@ finds_image words source true (Some bytes) asks boots plain finds = (boots refl,
 pub image_is : (words : List (List ℕ)) (source : Reading) (image : Option (List ℕ)) → ReadsImage words source image → (bytes : List ℕ) → image ≡ Some bytes → IsImage bytes
 image_is words source None reads bytes is = absurd (none-some bytes is)
 image_is words source (Some found) reads bytes is = subst IsImage (same_Some found bytes is) reads.2
-
--- ---- the one node of the bus
-
-pub first_config : (nodes all : List NodeLine) (n : NodeLine) → nodes ≡ all → length all ≡ 1 → n ≡ get_or nodes 0 n → n.config ≡ (node_line_at all 0).config
-first_config nodes [] n same one is = absurd (let no : ⊥ = omega (arith, one) in no)
-first_config nodes (x ∷ xs) n same one is = ap (λ (l : NodeLine). l.config) (is ∙ ap (λ (ns : List NodeLine). get_or ns 0 n) same)
 
 -- ---- the form of the words
 

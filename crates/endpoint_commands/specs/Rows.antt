@@ -6,13 +6,12 @@ use Rattle.program_edge.specs.Rows.{Row, row_of, input_row, memory_row}
 use Rattle.program_edge.specs.Inputs.{Reading, IsUnread, ReadsWhole, Lacks, Offers}
 use Rattle.text_lines.specs.LineRows.{line_row}
 use Rattle.text_lines.specs.Readings.{Fault}
-use Rattle.freshness_routes.specs.declared.routes.Route.{Route}
 use Rattle.secoc_node.specs.Words.{IsImage}
 use Rattle.bus_config.specs.declared.fault.ConfigFault.{ConfigFault}
 use Rattle.bus_config.specs.FaultTexts.{config_fault_text}
 use Rattle.bus_config.specs.Buses.{NamedBus}
-use Rattle.bus_script.specs.EventForms.{node_line_at}
 use Rattle.bus_programs.specs.BusFiles.{ReadsBus, OffersBus, IsConfigFault}
+use Rattle.bus_programs.specs.BusRoutes.{routes_of}
 use Rattle.bus_programs.specs.Scripts.{ReadsLinesAs}
 use Rattle.endpoint_commands.specs.declared.rules.FrameRule.{FrameRule}
 use Rattle.endpoint_commands.specs.declared.run.EndpointForm.{EndpointForm}
@@ -46,10 +45,6 @@ does_boot Boots = true
 
 abbrev pub endpoint_usage : List ℕ
 endpoint_usage = line (codes "usage: endpoint B MAP LOG DISK [IMAGE]")
-
--- the routes of the one node of a bus
-abbrev pub routes_of : NamedBus → List Route
-routes_of bus = (node_line_at bus.nodes 0).config.routes
 
 -- the words are of the form, and the bus file was read whole and has a bus of one node, of which this holds
 abbrev pub OverNode : EndpointInputs → (NamedBus → Type 0) → Type 0

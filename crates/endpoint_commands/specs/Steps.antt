@@ -1,5 +1,5 @@
 -- What the steps of a run of `endpoint` say to one another
-use Rattle.std.specs.Prelude.{◌≡◌, ◌≢◌, ℕ, ◌<◌, Bool, true, false, Option, None, Some, Result, Ok, Err}
+use Rattle.std.specs.Prelude.{◌≡◌, ℕ, ◌<◌, Bool, true, false, Option, None, Some, Result, Ok, Err}
 use Rattle.std.specs.Prelude.{List, ◌++◌, length, codes, Vec}
 use Rattle.std.specs.declared.alloc.Global.{Global}
 use Rattle.bus_port.specs.Source.{Came}
@@ -12,7 +12,7 @@ use Rattle.program_edge.specs.Inputs.{Reading, IsUnread, ReadsWhole, Lacks}
 use Rattle.program_edge.specs.Told.{AppendedWell}
 use Rattle.freshness_routes.specs.declared.routes.Route.{Route}
 use Rattle.secoc_node.specs.Words.{IsImage}
-use Rattle.bus_config.specs.Buses.{NamedBus, IsNamedBus}
+use Rattle.bus_config.specs.Buses.{IsNamedBus}
 use Rattle.secoc_node.specs.State.{NodeState}
 use Rattle.bus_programs.specs.Scripts.{LacksLines, ReadsLinesAs}
 use Rattle.endpoint_commands.specs.declared.rules.FrameRule.{FrameRule}
@@ -26,11 +26,6 @@ use Rattle.endpoint_commands.specs.Logs.{EndsLines}
 use Rattle.endpoint_commands.specs.Rows.{EndpointInputs, SetsEndpoint, ComesBeforeLog}
 
 -- ---- the inputs
-
--- the bus has one node, or is refused
-abbrev pub HasOneNode : NamedBus → Result (Unit {0}) Row → Type 0
-HasOneNode bus (Ok _) = length bus.nodes ≡ 1
-HasOneNode bus (Err row) = (length bus.nodes ≢ 1) × (row ≡ row_of 3 (line (codes "config: nodes")))
 
 -- the rules of a map, or why there are none
 abbrev pub HasRules : List Route → List ℕ → Result (Vec FrameRule Global) Row → Type 0

@@ -23,11 +23,12 @@ use Rattle.bus_world.specs.declared.start.StartFault.{StartFault}
 use Rattle.bus_world.specs.Starts.{HasRoom, FindsRoom}
 use Rattle.bus_world.specs.StartRows.{start_row, CanStart, StoreCause, LeavesEach}
 use Rattle.bus_world.specs.StartAnswers.{DiskStates, CountsDiskFault, failed_row, BusHasDisks}
+use Rattle.bus_programs.specs.BusRoutes.{routes_of}
 use Rattle.endpoint_commands.specs.declared.rules.FrameRule.{FrameRule}
 use Rattle.endpoint_commands.specs.Rules.{rules_of}
 use Rattle.endpoint_commands.specs.Running.{LineMoment, answers_behind, closing_text, tells_failed_disk}
 use Rattle.endpoint_commands.specs.Logs.{Unfailed, LogRead, LinesRead}
-use Rattle.endpoint_commands.specs.Rows.{EndpointInputs, AsksEndpoint, AsksBoot, endpoint_usage, routes_of}
+use Rattle.endpoint_commands.specs.Rows.{EndpointInputs, AsksEndpoint, AsksBoot, endpoint_usage}
 use Rattle.endpoint_commands.specs.Rows.{OverEndpoint}
 use Rattle.endpoint_commands.specs.Rows.{LacksEndpointInput, HasConfigFault, HasOtherNodes, HasMapFault, HasOtherImage}
 use Rattle.endpoint_commands.specs.Rows.{OffersNode, OffersRules, OffersEndpoint}

@@ -1,42 +1,13 @@
 //! What the sources of an endpoint have, or why they have it not.
-ghost use Rattle.std.specs.Prelude.{◌≡◌, ◌<◌, ◌^◌, length};
-ghost use Rattle.endpoint_commands.specs.Rows.{routes_of};
-ghost use Rattle.endpoint_commands.specs.Steps.{HasOneNode, HasRules, FindsRules};
+ghost use Rattle.std.specs.Prelude.{◌<◌, ◌^◌, length};
+ghost use Rattle.endpoint_commands.specs.Steps.{HasRules, FindsRules};
 
 use crate::rules::{FrameRule, read_rules};
-use bus_config::BusConfig;
 use bus_port::Source;
-use freshness_routes::{NodeConfig, Route};
+use freshness_routes::Route;
 use program_edge::{Refusal, read_input};
 use std::alloc::Global;
 use text_lines::line_refusal;
-
-/// Whether the bus has one node, or the refusal.
-pub fn check_bus(bus: &BusConfig) -> Result<(), Refusal>
-    ensures { HasOneNode bus.now result }
-{
-    if bus.nodes().len() != 1 {
-        return Err(Refusal::fixed(3, "config: nodes\n"));
-    }
-    Ok(())
-}
-
-/// The routes of the one node of a bus.
-pub fn node_routes(bus: &BusConfig) -> &[Route]
-    requires { length bus.now.nodes ≡ 1 }
-    ensures { result.now ≡ routes_of bus.now }
-{
-    let nodes = bus.nodes();
-    let node = &nodes[0];
-    routes_in(&node.config)
-}
-
-/// The routes of a configuration.
-fn routes_in(config: &NodeConfig) -> &[Route]
-    ensures { result.now ≡ config.now.routes }
-{
-    config.routes.as_slice()
-}
 
 /// The rules of the map that a source gives, over a node with these routes, or the refusal of the source or of a line.
 pub fn rules_from<S: Source>(

@@ -15,13 +15,13 @@ ghost use Rattle.endpoint_commands.specs.Steps.{EndsOverPorts, IsStop};
 
 use crate::boot::image_from;
 use crate::endpoint::{Endpoint, EndpointStop, Room};
-use crate::inputs::{check_bus, node_routes, rules_from};
+use crate::inputs::rules_from;
 use crate::laws::endpoints_are_runs;
 use crate::rules::FrameRule;
 use basics::Bytes;
 use bus_config::BusConfig;
 use bus_port::{PortFailed, Sink, Source};
-use bus_programs::bus_from;
+use bus_programs::{bus_from, check_bus, node_routes};
 use bus_world::{Start, close_nodes, open_nodes, start_refusal};
 use cell_store::CutCells;
 use cut_disk::CutDisk;

@@ -1,7 +1,7 @@
 use Rattle.std.proofs.Common.{ap, ◌∙◌}
 use Rattle.freshness_routes.specs.Config.{Config}
-use Rattle.endpoint_commands.proofs.Preparing.{first_config}
-use Rattle.endpoint_commands.proofs.inputs.node_routes.Goals as goal
+use Rattle.bus_programs.proofs.Finding.{first_config}
+use Rattle.bus_programs.proofs.one_node.node_routes.Goals as goal
 
 pub returns : goal.returns
 returns c =
