@@ -130,7 +130,7 @@ found_all routes x found old text next (findings, finds, is) more =
       findings ++ lacking,
       record { of_places = findings; finds = finds; all = refl },
       more ∙ ap (λ (l : List ℕ). l ++ written_lines lacking) is ∙ append_assoc old (written_lines findings) (written_lines lacking)
-      ∙ ap (λ (l : List ℕ). old ++ l) (sym (flat_map-append written findings lacking)),
+          ∙ ap (λ (l : List ℕ). old ++ l) (sym (flat_map-append written findings lacking)),
     )
 
 -- ---- nothing was added exactly if nothing was found
