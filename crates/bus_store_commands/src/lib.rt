@@ -2,7 +2,7 @@
 //! SecOC, freshness).
 //!
 //! [`run_bus_check`] answers `check FILE BUS` over the bytes of two files, which are only read: the record
-//! `ChecksOverBus` says what each status means and what is printed. It names what `check FILE` names, and each cell that
+//! `ChecksOverBus` says what each status means and what is printed. It names what `check FILE` names, each cell that
 //! isn't the bound of its route, each cell that no route has, and each route that has no cell.
 #![tactic(auto)]
 

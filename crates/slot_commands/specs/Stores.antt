@@ -69,7 +69,8 @@ pub data IsUnreadable (x : List ℕ) : Row → Type 0 where
 -- ---- a check, by itself or over the routes of the unit's node
 
 -- the findings of the places from one on, in their order: `what` says what stands at a place
-pub data FindsFrom (routes : Option (List Route)) (what : ℕ → Option (List ℕ)) : ℕ → ℕ → List (List (List ℕ)) → Type 0 where
+pub data FindsFrom (routes : Option (List Route)) (what : ℕ → Option (List ℕ))
+    : ℕ → ℕ → List (List (List ℕ)) → Type 0 where
   at_end : (n : ℕ) → FindsFrom routes what n n []
   a_finding : (place n : ℕ) (words : List (List ℕ)) (rest : List (List (List ℕ))) → place < n
       → FindsAt routes place (what place) (Some words) → FindsFrom routes what (1 + place) n rest
@@ -78,9 +79,9 @@ pub data FindsFrom (routes : Option (List Route)) (what : ℕ → Option (List �
       → FindsAt routes place (what place) None → FindsFrom routes what (1 + place) n rest
       → FindsFrom routes what place n rest
 
--- What a check finds in the places of a store. In a twin store each cell has its copies, and each is looked at. In a log
--- store the cells stand in one bank and its records: if a place of it is damaged there is no list, and that place is the
--- finding.
+-- What a check finds in the places of a store. In a twin store each cell has its copies, and each is looked at. In a
+-- log store the cells stand in one bank and its records: if a place of it is damaged there is no list, and that place is
+-- the finding.
 pub data FindsInPlaces (routes : Option (List Route)) (x : List ℕ) (found : CountingStore)
     : List (List (List ℕ)) → Type 0 where
   of_twin : (findings : List (List (List ℕ))) → found.kind ≡ Twin
