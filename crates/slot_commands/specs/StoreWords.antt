@@ -22,10 +22,14 @@ abbrev pub version_number : Version → ℕ
 version_number One = 1
 version_number Two = 2
 
+-- `NAME KIND VERSION CELLS`
+abbrev pub store_line_words : List ℕ → Kind → Version → ℕ → List (List ℕ)
+store_line_words name kind version cells =
+    name ∷ kind_word kind ∷ decimal (version_number version) ∷ decimal cells ∷ []
+
 -- `store KIND VERSION CELLS`
 abbrev pub store_words : Kind → Version → ℕ → List (List ℕ)
-store_words kind version cells =
-    codes "store" ∷ kind_word kind ∷ decimal (version_number version) ∷ decimal cells ∷ []
+store_words kind version cells = store_line_words (codes "store") kind version cells
 
 -- the name if the flag is set
 abbrev pub named_if : Bool → List ℕ → List (List ℕ)

@@ -20,7 +20,8 @@ mod tasks;
 
 pub use cells::{Meaning, meaning_of};
 pub use checking::check_bytes;
-pub use listing::list_bytes;
+pub use listing::{list_bytes, push_store_line};
+pub use refusals::store_refusal;
 pub use replying::reply_from;
 pub use run::run_slots;
 pub use start::slots_words;
