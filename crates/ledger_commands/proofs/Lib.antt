@@ -4,3 +4,4 @@ pub mod FileLaws
 pub mod Promises
 pub mod Pushing
 pub mod Endings
+pub mod CallerLemmas

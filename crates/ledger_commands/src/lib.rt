@@ -17,5 +17,7 @@ mod texts;
 
 pub use laws::{bytes_are_a_ledger_or_none, bytes_stand_for_one_ledger};
 pub use reading::read_ledger;
+pub use refusals::{bad_entry_refusal, store_refusal};
 pub use start::ledgers_words;
-pub use tasks::{ReadTask, task_in};
+pub use tasks::{ReadTask, task_in, word_at};
+pub use texts::push_entry_rest;

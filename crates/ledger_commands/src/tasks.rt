@@ -77,7 +77,7 @@ fn asks_some(words: &[String], name: &str) -> bool
 }
 
 /// The argument with this number, from 1; empty if there are fewer.
-fn word_at(words: &[String], number: usize) -> &str
+pub fn word_at(words: &[String], number: usize) -> &str
     requires { 1 ≤ number }
     ensures { result.now ≡ nth_word (each string_bytes words.now) number }
 {

@@ -22,12 +22,12 @@ pub fn push_entry(text: &mut Vec<u8>, entry: &LedgerEntry) -> Result<(), AllocEr
     ensures { OnOk result (text.new.items ≡ text.old.items ++ written (entry_words entry.now)) }
 {
     push_digits(text, entry.uid.bytes())?;
-    push_rest(text, entry)?;
+    push_entry_rest(text, entry)?;
     end_line(text)
 }
 
-/// Adds the words after the unit, each with a space before it.
-fn push_rest(text: &mut Vec<u8>, entry: &LedgerEntry) -> Result<(), AllocError>
+/// Adds the words of an entry after its unit, each with a space before it.
+pub fn push_entry_rest(text: &mut Vec<u8>, entry: &LedgerEntry) -> Result<(), AllocError>
     ensures { OnOk result (text.new.items ≡ text.old.items ++ spaced (drop 1 (entry_words entry.now))) }
 {
     push_number(text, u32::from(entry.id.number()))?;

@@ -1,10 +1,11 @@
 //! `station`: a key loading station (SHE specification, memory update protocol, secure booting): what stores and ledgers
-//! hold, lost replies, and keys from files.
+//! hold, lost replies, entries that a ledger takes over, and keys from files.
 //!
 //! [`station_commands::station_words`] is the program, with `RunsStation`. Here it is handed the arguments, the files,
 //! standard input and standard output.
 #![tactic(auto)]
 
+use file_disk::DiskPaths;
 use program_edge::{NO_MEMORY, Paths, StdSink, StdSource, arguments};
 use station_commands::station_words;
 use std::alloc::AllocError;
@@ -13,12 +14,14 @@ use std::process::ExitCode;
 fn main(rt: HostRuntime) -> ExitCode {
     let mut sink = StdSink::new(rt.stdout());
     let mut opener = Paths::of(&rt);
+    let mut disk_opener = DiskPaths::of(&rt);
     let mut input = Some(StdSource::new(rt.stdin()));
     let status = match arguments(&rt) {
         Ok(words) => {
             let (status, _files) = station_words(
                 rt.alloc(),
                 &mut opener,
+                &mut disk_opener,
                 &mut input,
                 words.as_slice(),
                 &mut sink,

@@ -2,33 +2,40 @@
 ghost use Rattle.std.specs.Prelude.{◌≡◌, drop, map as each, string_bytes, option_map};
 ghost use Rattle.program_edge.specs.NamedSources.{word_source, openings};
 ghost use Rattle.program_edge.specs.Told.{EndingTold};
-ghost use Rattle.station_commands.specs.Station.{part_named, part_of, RunsStation, station_usage};
+ghost use Rattle.station_commands.specs.Station.{part_named, part_of, ledger_part, RunsStation, station_usage};
 
+use adopt_commands::adopts_words;
 use bus_port::{Sink, Source};
+use cut_disk::CutDisk;
+use file_disk::DiskOpener;
 use keyfile_commands::keyfile_words;
-use ledger_commands::ledgers_words;
+use ledger_commands::{ledgers_words, word_at};
 use program_edge::{Opener, Refusal, WordSource, tell_refusal};
 use slot_commands::slots_words;
 use std::alloc::Global;
 
-/// What the first argument names.
+/// What the first two arguments name.
 #[derive(Clone, Copy, Debug, PartialEq, Eq)]
 pub enum StationPart {
     /// `slots`: what a unit's store holds.
     Slots,
     /// `ledger`: what ledgers hold.
     Ledger,
+    /// `ledger adopt` and `merge`: entries that a ledger takes over.
+    Adoption,
     /// `key`: messages and boot MACs with keys from files.
     Key,
 }
 
-/// The sources of the files that the other arguments named, as the run left them.
+/// The sources of the files that the other arguments named, and the disks, as the run left them.
 #[derive(Drop)]
-pub enum StationFiles<O: Source, I: Source> {
+pub enum StationFiles<O: Source, I: Source, D: CutDisk> {
     /// That of a unit's store.
     Store(WordSource<O, I>),
     /// Those of the ledgers that were opened.
     Ledgers(Vec<WordSource<O, I>>),
+    /// That of a file whose entries a ledger was to take over, and the ledger's disk; each at most one.
+    Adopted(Vec<WordSource<O, I>>, Vec<D>),
     /// Those of two key files, or of a key file and an image.
     Keys(WordSource<O, I>, WordSource<O, I>),
     /// Nothing was asked for.
@@ -36,19 +43,26 @@ pub enum StationFiles<O: Source, I: Source> {
 }
 
 /// Runs what the arguments ask for over the files that they name. It gives the status that the program ends with, and
-/// the sources of the files as the run left them. `-` names the input, which is taken then; a second `-` is a missing
-/// source. If the first argument is another one nothing is opened, and the status is 2, or 6 if the sink failed.
-pub fn station_words<O: Opener, I: Source + Drop, K: Sink>(
+/// the sources of the files and the disks as the run left them. `-` names the input, which is taken then; a second `-`
+/// is a missing source. If the first argument is another one nothing is opened, and the status is 2, or 6 if the sink
+/// failed.
+pub fn station_words<O: Opener, P: DiskOpener, I: Source + Drop, K: Sink>(
     alloc: Global,
     opener: &mut O,
+    disk_opener: &mut P,
     input: &mut Option<I>,
     words: &[String],
     sink: &mut K,
-) -> (u8, StationFiles<O::Opened, I>)
-    ensures { RunsStation (O.opens opener.old) (word_source O.Opened.state I.state) (each string_bytes words.now)
-        (openings (O.opened opener.old) (option_map I.state input.old))
-        (openings (O.opened opener.new) (option_map I.state input.new)) result.1
-        (record { before = K.state sink.old; after = K.state sink.new; status = result.0 }) }
+) -> (u8, StationFiles<O::Opened, I, P::Opened>)
+    ensures { RunsStation (O.opens opener.old) (P.opens disk_opener.old) (word_source O.Opened.state I.state)
+        P.Opened.state (each string_bytes words.now)
+        (record {
+          before = openings (O.opened opener.old) (option_map I.state input.old);
+          after = openings (O.opened opener.new) (option_map I.state input.new);
+          disks_before = P.opened disk_opener.old;
+          disks_after = P.opened disk_opener.new;
+        })
+        result.1 (record { before = K.state sink.old; after = K.state sink.new; status = result.0 }) }
 {
     let rest = after_part(words);
     let Some(part) = part_of(words) else {
@@ -63,6 +77,11 @@ pub fn station_words<O: Opener, I: Source + Drop, K: Sink>(
         StationPart::Ledger => {
             let (status, files) = ledgers_words(alloc, opener, input, rest, sink);
             (status, StationFiles::Ledgers(files))
+        }
+        StationPart::Adoption => {
+            let (status, files, disks) =
+                adopts_words(alloc, opener, disk_opener, input, rest, sink);
+            (status, StationFiles::Adopted(files, disks))
         }
         StationPart::Key => {
             let (status, first, second) = keyfile_words(alloc, opener, input, rest, sink);
@@ -81,30 +100,38 @@ fn tell_usage<K: Sink>(sink: &mut K) -> u8
     )
 }
 
-/// What the first argument names.
+/// What the first two arguments name.
 fn part_of(words: &[String]) -> Option<StationPart>
     ensures { result ≡ part_of (each string_bytes words.now) }
 {
-    match words {
-        [] => None,
-        [name, ..] => part_named(name.as_str()),
-    }
+    part_named(word_at(words, 1), word_at(words, 2))
 }
 
-/// The part of this name.
-fn part_named(name: &str) -> Option<StationPart>
-    ensures { result ≡ part_named name.now }
+/// The part of these names.
+fn part_named(name: &str, next: &str) -> Option<StationPart>
+    ensures { result ≡ part_named name.now next.now }
 {
     if name == "slots" {
         return Some(StationPart::Slots);
     }
     if name == "ledger" {
-        return Some(StationPart::Ledger);
+        return Some(ledger_part(next));
     }
     if name == "key" {
         Some(StationPart::Key)
     } else {
         None
+    }
+}
+
+/// What this argument after `ledger` names.
+fn ledger_part(name: &str) -> StationPart
+    ensures { result ≡ ledger_part name.now }
+{
+    if name == "adopt" || name == "merge" {
+        StationPart::Adoption
+    } else {
+        StationPart::Ledger
     }
 }
 

@@ -1,8 +1,8 @@
 use Rattle.std.proofs.Common.{◌≡◌, Some, None, map, refl, rules}
 use Rattle.std.specs.Prelude.{string_bytes, option_map}
 use Rattle.program_edge.specs.NamedSources.{word_source, openings}
-use Rattle.station_commands.specs.declared.run.StationPart.TheVariants.{Slots, Ledger, Key}
-use Rattle.station_commands.specs.declared.run.StationFiles.TheVariants.{Store, Ledgers, Keys, Nothing}
+use Rattle.station_commands.specs.declared.run.StationPart.TheVariants.{Slots, Ledger, Adoption, Key}
+use Rattle.station_commands.specs.declared.run.StationFiles.TheVariants.{Store, Ledgers, Adopted, Keys, Nothing}
 use Rattle.station_commands.specs.Station.{part_of}
 use Rattle.station_commands.proofs.Parts.{of_part}
 use Rattle.station_commands.proofs.run.station_words.Goals as goal
@@ -10,39 +10,74 @@ use Rattle.station_commands.proofs.run.station_words.Goals as goal
 pub returns-in_default : goal.returns-in_default
 returns-in_default g c =
     let part_is : None ≡ part_of (map string_bytes c.args.words.now) = search rules in
-    of_part (g.O.Opener.opens c.args.opener.now) (word_source g.O.Opened.Source.state g.I.Source.state) (map string_bytes c.args.words.now)
-    (map string_bytes c.after_part-rest.result.now)
-    (openings (g.O.Opener.opened c.args.opener.now) (option_map g.I.Source.state c.args.input.now))
-    (openings (g.O.Opener.opened c.args.opener.now) (option_map g.I.Source.state c.args.input.now)) None Nothing
+    of_part (g.O.Opener.opens c.args.opener.now) (g.P.DiskOpener.opens c.args.disk_opener.now) (word_source g.O.Opened.Source.state g.I.Source.state)
+    g.P.Opened.Disk.state (map string_bytes c.args.words.now) (map string_bytes c.after_part-rest.result.now)
+    (record {
+      before = openings (g.O.Opener.opened c.args.opener.now) (option_map g.I.Source.state c.args.input.now);
+      after = openings (g.O.Opener.opened c.args.opener.now) (option_map g.I.Source.state c.args.input.now);
+      disks_before = g.P.DiskOpener.opened c.args.disk_opener.now;
+      disks_after = g.P.DiskOpener.opened c.args.disk_opener.now;
+    })
+    None Nothing
     (record { before = g.K.Sink.state c.args.sink.now; after = g.K.Sink.state c.tell_usage-status.new.sink; status = c.tell_usage-status.result })
-    part_is c.after_part-rest.ensures (refl, c.tell_usage-status.ensures)
+    part_is c.after_part-rest.ensures (record { sources = refl; disks = refl }, c.tell_usage-status.ensures)
 
 pub returns-in-Slots : goal.returns-in-Slots
 returns-in-Slots g c =
     let part_is : Some Slots ≡ part_of (map string_bytes c.args.words.now) = cc (c.in-Some.ensures, c.in-Slots.is) in
-    of_part (g.O.Opener.opens c.args.opener.now) (word_source g.O.Opened.Source.state g.I.Source.state) (map string_bytes c.args.words.now)
-    (map string_bytes c.after_part-rest.result.now)
-    (openings (g.O.Opener.opened c.args.opener.now) (option_map g.I.Source.state c.args.input.now))
-    (openings (g.O.Opener.opened c.slots_words-status.new.opener) (option_map g.I.Source.state c.slots_words-status.new.input)) (Some Slots) (Store c.slots_words-status.result.1)
+    of_part (g.O.Opener.opens c.args.opener.now) (g.P.DiskOpener.opens c.args.disk_opener.now) (word_source g.O.Opened.Source.state g.I.Source.state)
+    g.P.Opened.Disk.state (map string_bytes c.args.words.now) (map string_bytes c.after_part-rest.result.now)
+    (record {
+      before = openings (g.O.Opener.opened c.args.opener.now) (option_map g.I.Source.state c.args.input.now);
+      after = openings (g.O.Opener.opened c.slots_words-status.new.opener) (option_map g.I.Source.state c.slots_words-status.new.input);
+      disks_before = g.P.DiskOpener.opened c.args.disk_opener.now;
+      disks_after = g.P.DiskOpener.opened c.args.disk_opener.now;
+    })
+    (Some Slots) (Store c.slots_words-status.result.1)
     (record { before = g.K.Sink.state c.args.sink.now; after = g.K.Sink.state c.slots_words-status.new.sink; status = c.slots_words-status.result.0 })
-    part_is c.after_part-rest.ensures c.slots_words-status.ensures
+    part_is c.after_part-rest.ensures (c.slots_words-status.ensures, refl)
 
 pub returns-in-Ledger : goal.returns-in-Ledger
 returns-in-Ledger g c =
     let part_is : Some Ledger ≡ part_of (map string_bytes c.args.words.now) = cc (c.in-Some.ensures, c.in-Ledger.is) in
-    of_part (g.O.Opener.opens c.args.opener.now) (word_source g.O.Opened.Source.state g.I.Source.state) (map string_bytes c.args.words.now)
-    (map string_bytes c.after_part-rest.result.now)
-    (openings (g.O.Opener.opened c.args.opener.now) (option_map g.I.Source.state c.args.input.now))
-    (openings (g.O.Opener.opened c.ledgers_words-status.new.opener) (option_map g.I.Source.state c.ledgers_words-status.new.input)) (Some Ledger) (Ledgers c.ledgers_words-status.result.1)
+    of_part (g.O.Opener.opens c.args.opener.now) (g.P.DiskOpener.opens c.args.disk_opener.now) (word_source g.O.Opened.Source.state g.I.Source.state)
+    g.P.Opened.Disk.state (map string_bytes c.args.words.now) (map string_bytes c.after_part-rest.result.now)
+    (record {
+      before = openings (g.O.Opener.opened c.args.opener.now) (option_map g.I.Source.state c.args.input.now);
+      after = openings (g.O.Opener.opened c.ledgers_words-status.new.opener) (option_map g.I.Source.state c.ledgers_words-status.new.input);
+      disks_before = g.P.DiskOpener.opened c.args.disk_opener.now;
+      disks_after = g.P.DiskOpener.opened c.args.disk_opener.now;
+    })
+    (Some Ledger) (Ledgers c.ledgers_words-status.result.1)
     (record { before = g.K.Sink.state c.args.sink.now; after = g.K.Sink.state c.ledgers_words-status.new.sink; status = c.ledgers_words-status.result.0 })
-    part_is c.after_part-rest.ensures c.ledgers_words-status.ensures
+    part_is c.after_part-rest.ensures (c.ledgers_words-status.ensures, refl)
+
+pub returns-in-Adoption : goal.returns-in-Adoption
+returns-in-Adoption g c =
+    let part_is : Some Adoption ≡ part_of (map string_bytes c.args.words.now) = cc (c.in-Some.ensures, c.in-Adoption.is) in
+    of_part (g.O.Opener.opens c.args.opener.now) (g.P.DiskOpener.opens c.args.disk_opener.now) (word_source g.O.Opened.Source.state g.I.Source.state)
+    g.P.Opened.Disk.state (map string_bytes c.args.words.now) (map string_bytes c.after_part-rest.result.now)
+    (record {
+      before = openings (g.O.Opener.opened c.args.opener.now) (option_map g.I.Source.state c.args.input.now);
+      after = openings (g.O.Opener.opened c.adopts_words-status.new.opener) (option_map g.I.Source.state c.adopts_words-status.new.input);
+      disks_before = g.P.DiskOpener.opened c.args.disk_opener.now;
+      disks_after = g.P.DiskOpener.opened c.adopts_words-status.new.disk_opener;
+    })
+    (Some Adoption) (Adopted c.adopts_words-status.result.1 c.adopts_words-status.result.2)
+    (record { before = g.K.Sink.state c.args.sink.now; after = g.K.Sink.state c.adopts_words-status.new.sink; status = c.adopts_words-status.result.0 })
+    part_is c.after_part-rest.ensures c.adopts_words-status.ensures
 
 pub returns-in-Key : goal.returns-in-Key
 returns-in-Key g c =
     let part_is : Some Key ≡ part_of (map string_bytes c.args.words.now) = cc (c.in-Some.ensures, c.in-Key.is) in
-    of_part (g.O.Opener.opens c.args.opener.now) (word_source g.O.Opened.Source.state g.I.Source.state) (map string_bytes c.args.words.now)
-    (map string_bytes c.after_part-rest.result.now)
-    (openings (g.O.Opener.opened c.args.opener.now) (option_map g.I.Source.state c.args.input.now))
-    (openings (g.O.Opener.opened c.keyfile_words-status.new.opener) (option_map g.I.Source.state c.keyfile_words-status.new.input)) (Some Key) (Keys c.keyfile_words-status.result.1 c.keyfile_words-status.result.2)
+    of_part (g.O.Opener.opens c.args.opener.now) (g.P.DiskOpener.opens c.args.disk_opener.now) (word_source g.O.Opened.Source.state g.I.Source.state)
+    g.P.Opened.Disk.state (map string_bytes c.args.words.now) (map string_bytes c.after_part-rest.result.now)
+    (record {
+      before = openings (g.O.Opener.opened c.args.opener.now) (option_map g.I.Source.state c.args.input.now);
+      after = openings (g.O.Opener.opened c.keyfile_words-status.new.opener) (option_map g.I.Source.state c.keyfile_words-status.new.input);
+      disks_before = g.P.DiskOpener.opened c.args.disk_opener.now;
+      disks_after = g.P.DiskOpener.opened c.args.disk_opener.now;
+    })
+    (Some Key) (Keys c.keyfile_words-status.result.1 c.keyfile_words-status.result.2)
     (record { before = g.K.Sink.state c.args.sink.now; after = g.K.Sink.state c.keyfile_words-status.new.sink; status = c.keyfile_words-status.result.0 })
-    part_is c.after_part-rest.ensures c.keyfile_words-status.ensures
+    part_is c.after_part-rest.ensures (c.keyfile_words-status.ensures, refl)

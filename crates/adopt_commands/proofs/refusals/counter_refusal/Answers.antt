@@ -1,0 +1,9 @@
+use Rattle.std.proofs.Common.{sym, ap, ◌∙◌, ◌++◌, arith}
+use Rattle.std.specs.Prelude.{codes}
+use Rattle.std.proofs.lemmas.Fmt.{decimal_digit}
+use Rattle.text_lines.specs.Texts.{line}
+use Rattle.program_edge.specs.Rows.{row_of}
+use Rattle.adopt_commands.proofs.refusals.counter_refusal.Goals as goal
+
+pub returns : goal.returns
+returns c = c.fixed.ensures ∙ ap (λ d. row_of 3 (line (codes "value " ++ d))) (sym (decimal_digit 4 (omega arith)))

@@ -1,0 +1,37 @@
+use Rattle.std.proofs.Common.{List, ℕ, refl, map, sym, ap, subst, ◌∙◌, ◌++◌, ◌∷◌, []}
+use Rattle.std.proofs.lemmas.List.{map-append}
+use Rattle.program_edge.specs.Inputs.{Reading}
+use Rattle.program_edge.specs.Rows.{Row}
+use Rattle.program_edge.specs.NamedSources.{word_source}
+use Rattle.adopt_commands.specs.declared.tasks.AdoptTask.TheVariants.{Merge}
+use Rattle.adopt_commands.specs.AdoptRows.{LacksEntries, unroomed, no_other}
+use Rattle.adopt_commands.specs.AdoptFiles.{in_row, with_entries}
+use Rattle.adopt_commands.proofs.Naming.{over_none_named, over_one_named}
+use Rattle.adopt_commands.proofs.start.merge_other.Goals as goal
+
+pub returns-in-Err : goal.returns-in-Err
+returns-in-Err g c =
+    over_none_named _ _ _ _ _ _ refl (ap (map (word_source g.O.Opened.Source.state g.I.Source.state)) c.new-unopened.ensures.items)
+    (in_row (record {
+      row = c.no_memory-refusal.result;
+      comes = subst (LacksEntries Merge []) (sym c.no_memory-refusal.ensures) (unroomed refl);
+      told = c.tell_refusal.ensures;
+    }) refl (ap (map g.P.Opened.Disk.state) c.new-no_disk.ensures.items))
+
+pub returns-in-Ok-entries : goal.returns-in-Ok-entries
+returns-in-Ok-entries g c =
+    let state = word_source g.O.Opened.Source.state g.I.Source.state in
+    let r : Reading = record { before = state c.open_word-file.result; after = state c.entries_of-entries.new.file } in
+    over_one_named _ _ _ c.word_at.result.now _ _ _ r c.word_at.ensures c.open_word-file.ensures.named c.open_word-file.ensures.left
+    (ap (map state) (c.push_reserved.ensures.items ∙ ap (λ l. l ++ c.entries_of-entries.new.file ∷ []) c.in-Ok.ensures.items))
+    (with_entries c.in-Ok-entries.entries.items (r, refl, c.in-Ok-entries.ensures.gives)
+    (rw (c.as_slice.ensures.value, c.word_at-ledger.ensures) at c.adopt_into-status.ensures))
+
+pub returns-in-Err-entries : goal.returns-in-Err-entries
+returns-in-Err-entries g c =
+    let state = word_source g.O.Opened.Source.state g.I.Source.state in
+    let r : Reading = record { before = state c.open_word-file.result; after = state c.entries_of-entries.new.file } in
+    over_one_named _ _ _ c.word_at.result.now _ _ _ r c.word_at.ensures c.open_word-file.ensures.named c.open_word-file.ensures.left
+    (ap (map state) (c.push_reserved.ensures.items ∙ ap (λ l. l ++ c.entries_of-entries.new.file ∷ []) c.in-Ok.ensures.items))
+    (in_row (record { row = c.in-Err-entries.refusal; comes = no_other r c.in-Err-entries.refusal refl refl c.in-Err-entries.ensures.refused; told = c.tell_refusal-in-Err-entries.ensures })
+    refl (ap (map g.P.Opened.Disk.state) c.new-no_disk-in-Err-entries.ensures.items))

@@ -1,0 +1,90 @@
+-- The table of answers of `ledger adopt`, `import` and `merge`: its rows, and when each comes
+use Rattle.std.specs.Prelude.{◌≡◌, ◌⊎◌, ℕ, Bool, true, false, Option, Some, None, List, [], ◌∷◌, Result, Ok, Err, codes}
+use Rattle.cut_disk.specs.State.{DiskState}
+use Rattle.program_edge.specs.Rows.{Row, row_of, memory_row}
+use Rattle.program_edge.specs.Inputs.{Reading}
+use Rattle.program_edge.specs.Endings.{Ending, EndsInRow}
+use Rattle.key_campaign.specs.declared.entries.LedgerEntry.{LedgerEntry}
+use Rattle.key_campaign.specs.State.{LedgerState}
+use Rattle.campaign_commands.specs.declared.opening.NoLedgerCause.{NoLedgerCause}
+use Rattle.campaign_commands.specs.declared.opening.NoLedgerCause.TheVariants.{Store, BadEntry}
+use Rattle.campaign_commands.specs.Opening.{LedgerOpened, LacksLedger}
+use Rattle.ledger_commands.specs.EntryTexts.{held_entries}
+use Rattle.ledger_commands.specs.LedgerBytes.{cause_row, bad_entry_row}
+use Rattle.ledger_commands.specs.LedgerRows.{ReadsLedger, LacksLedgerFile, ledger_usage, ledger_value_text}
+use Rattle.ledger_commands.specs.StoreRows.{IsStoreRow}
+use Rattle.adopt_commands.specs.declared.tasks.AdoptTask.{AdoptTask}
+use Rattle.adopt_commands.specs.declared.tasks.AdoptTask.TheVariants as adopt
+use Rattle.adopt_commands.specs.AdoptTurns.{KeeperState}
+use Rattle.adopt_commands.specs.Adoptions.{EndsAdopting}
+
+-- ---- arguments
+
+-- the row of arguments that are malformed, or have a wrong value
+abbrev pub AsksNoAdoption : Option (Result AdoptTask ℕ) → Row → Type 0
+AsksNoAdoption None row = row ≡ row_of 2 ledger_usage
+AsksNoAdoption (Some (Ok task)) row = ⊥
+AsksNoAdoption (Some (Err number)) row = row ≡ row_of 3 (ledger_value_text number)
+
+-- the task of values, or the row that names the first wrong one
+abbrev pub GivesOne : Result AdoptTask ℕ → Result AdoptTask Row → Type 0
+GivesOne asked (Ok task) = asked ≡ Ok task
+GivesOne asked (Err row) = (number : ℕ) × (asked ≡ Err number) × (row ≡ row_of 3 (ledger_value_text number))
+
+-- ---- the entries
+
+-- the file was read whole and has a ledger with these entries
+abbrev pub GivesOfFile : Reading → List LedgerEntry → Type 0
+GivesOfFile r entries = (places : List (Option LedgerEntry)) × ReadsLedger r places × (entries ≡ held_entries places)
+
+-- these are the entries that a ledger is to take over: the one of the arguments, or all of a ledger whose file was read
+-- whole
+abbrev pub GivesEntries : AdoptTask → List Reading → List LedgerEntry → Type 0
+GivesEntries (adopt.One entry) files entries = (files ≡ []) × (entries ≡ entry ∷ [])
+GivesEntries adopt.Merge files entries =
+    (r : Reading) × (files ≡ r ∷ []) × GivesOfFile r entries
+
+-- there are none, and the row that says why: no memory, or the file gives no ledger
+pub data LacksEntries (asked : AdoptTask) (files : List Reading) : Row → Type 0 where
+  unroomed : files ≡ [] → LacksEntries asked files memory_row
+  no_other : (r : Reading) (row : Row) → asked ≡ adopt.Merge → files ≡ r ∷ [] → LacksLedgerFile r row
+      → LacksEntries asked files row
+
+-- ---- the disk
+
+abbrev pub no_ledger_disk_row : Row
+no_ledger_disk_row = cause_row (codes "no disk")
+
+-- the row of a disk without a ledger: 10 if it failed, 9 and the cause, or 7 if memory was out
+abbrev pub IsLedgerRow : NoLedgerCause → Row → Type 0
+IsLedgerRow (Store fault) row = IsStoreRow fault row
+IsLedgerRow (BadEntry bad) row = (row ≡ bad_entry_row bad) ⊎ (row ≡ memory_row)
+
+-- why a disk gives no ledger, by what was known of it before and after
+abbrev pub RefusesLedger : DiskState → DiskState → Row → Type 0
+RefusesLedger before after row = (cause : NoLedgerCause) × LacksLedger before after cause × IsLedgerRow cause row
+
+-- a ledger that is to take over entries, of which none was refused yet
+abbrev pub first_keeper : LedgerState → Bool → KeeperState
+first_keeper ledger strict = record { ledger = ledger; strict = strict; refused = false }
+
+-- the ledger of the disk was opened, and taking over these entries ends so
+pub record AdoptsInto (strict : Bool) (entries : List LedgerEntry) (e : Ending) (old new : DiskState) : Type 0 where
+  pub opened : LedgerState
+  pub left : KeeperState
+  pub opens : LedgerOpened old opened
+  pub ends : EndsAdopting (first_keeper opened strict) entries left e
+  pub handed_back : new ≡ left.ledger.store.disk
+
+-- how it ends over a disk: in a row, or in lines
+pub data EndsOnLedger (strict : Bool) (entries : List LedgerEntry) (e : Ending) (old new : DiskState) : Type 0 where
+  not_opened : EndsInRow (RefusesLedger old new) e → EndsOnLedger strict entries e old new
+  adopts_into : AdoptsInto strict entries e old new → EndsOnLedger strict entries e old new
+
+-- how it ends over these disks: in the row if there is none, or over the first; the others are as before
+pub data EndsOverLedgers (strict : Bool) (entries : List LedgerEntry) (e : Ending)
+    (before after : List DiskState) : Type 0 where
+  without_disk : before ≡ [] → after ≡ [] → EndsInRow (λ row. row ≡ no_ledger_disk_row) e
+      → EndsOverLedgers strict entries e before after
+  on_first_disk : (old new : DiskState) (others : List DiskState) → before ≡ old ∷ others → after ≡ new ∷ others
+      → EndsOnLedger strict entries e old new → EndsOverLedgers strict entries e before after

@@ -1,0 +1,5 @@
+pub mod AdoptTasks
+pub mod AdoptTurns
+pub mod Adoptions
+pub mod AdoptRows
+pub mod AdoptFiles

@@ -1,0 +1,22 @@
+//! Entries that the ledger of a key loading station takes over (updates after the SHE specification): `ledger adopt`
+//! and `merge`.
+//!
+//! [`adopts_words`] does what the arguments ask. The other ledger is read whole first. Then the ledger on the disk
+//! takes over one entry after another, and the line of each is written before the next is done. Each entry is put whole
+//! or not at all, whatever a power cut leaves; no entry goes, and no counter falls. The same arguments again finish
+//! what a kill left.
+#![tactic(auto)]
+
+mod adopting;
+mod entries;
+mod keeper;
+mod lines;
+mod refusals;
+mod start;
+mod tasks;
+
+pub use adopting::adopt_over;
+pub use entries::entries_of;
+pub use lines::{AdoptLine, AdoptText};
+pub use start::adopts_words;
+pub use tasks::{AdoptTask, task_in};

@@ -1,0 +1,167 @@
+//! The arguments after `ledger`: the ledger that they name takes over entries.
+ghost use Rattle.std.specs.Prelude.{◌≡◌, ◌<◌, ◌^◌, [], ◌∷◌, true, All, map as each, string_bytes, option_map, length};
+ghost use Rattle.text_lines.specs.Readings.{nth_word};
+ghost use Rattle.ledger_commands.specs.Named.{OverAllNamed};
+ghost use Rattle.file_disk.specs.NamedDisks.{OpenedByWords};
+ghost use Rattle.program_edge.specs.NamedSources.{word_source, openings};
+ghost use Rattle.key_campaign.specs.Entries.{IsEntry};
+ghost use Rattle.adopt_commands.specs.AdoptFiles.{EndsAdoptWords, EndsAdoptTask, EndsInto};
+
+use crate::adopting::adopt_over;
+use crate::entries::{entries_of, one_entry};
+use crate::tasks::{AdoptTask, task_in};
+use bus_port::{Sink, Source};
+use file_disk::{DiskOpener, open_disk};
+use key_campaign::LedgerEntry;
+use ledger_commands::word_at;
+use program_edge::{Opener, Refusal, WordSource, open_word, tell_refusal};
+use std::alloc::{AllocError, Global};
+
+/// Lets the ledger that the second argument names take over what the arguments say. It gives the status that the
+/// program ends with, and the source of the file and the disk as they were left. `-` names the input, which is taken
+/// then. The file is read whole before the disk is opened, so that one that is refused makes no file.
+///
+/// The statuses are looked for in the order 2, 3, then 5, 8 and 9 of the file, 9 and 10 of the disk, 1.
+pub fn adopts_words<O: Opener, P: DiskOpener, I: Source + Drop, K: Sink>(
+    alloc: Global,
+    opener: &mut O,
+    disk_opener: &mut P,
+    input: &mut Option<I>,
+    words: &[String],
+    sink: &mut K,
+) -> (u8, Vec<WordSource<O::Opened, I>>, Vec<P::Opened>)
+    ensures { EndsAdoptWords (O.opens opener.old) (P.opens disk_opener.old)
+        (record {
+          before = openings (O.opened opener.old) (option_map I.state input.old);
+          after = openings (O.opened opener.new) (option_map I.state input.new);
+          disks_before = P.opened disk_opener.old;
+          disks_after = P.opened disk_opener.new;
+        })
+        (each string_bytes words.now)
+        (each (word_source O.Opened.state I.state) result.1.items) (each P.Opened.state result.2.items)
+        (record { before = K.state sink.old; after = K.state sink.new; status = result.0 }) }
+{
+    match task_in(words) {
+        Ok(AdoptTask::One(entry)) => {
+            let unopened = Vec::new(alloc);
+            let (status, disks) = adopt_one(alloc, disk_opener, &entry, words, sink);
+            (status, unopened, disks)
+        }
+        Ok(AdoptTask::Merge) => merge_other(alloc, opener, disk_opener, input, words, sink),
+        Err(refusal) => {
+            let unopened = Vec::new(alloc);
+            let no_disk = Vec::new(alloc);
+            (tell_refusal(sink, &refusal), unopened, no_disk)
+        }
+    }
+}
+
+/// Takes over the entry of the arguments.
+fn adopt_one<P: DiskOpener, K: Sink>(
+    alloc: Global,
+    disk_opener: &mut P,
+    entry: &LedgerEntry,
+    words: &[String],
+    sink: &mut K,
+) -> (u8, Vec<P::Opened>)
+    requires { IsEntry entry.now }
+    ensures { EndsInto (P.opens disk_opener.old) (P.opened disk_opener.old) (P.opened disk_opener.new)
+        (nth_word (each string_bytes words.now) 2) true (entry.now ∷ []) (each P.Opened.state result.1.items)
+        (record { before = K.state sink.old; after = K.state sink.new; status = result.0 }) }
+{
+    match one_entry(alloc, entry) {
+        Ok(entries) => {
+            let ledger = word_at(words, 2);
+            adopt_into(alloc, disk_opener, ledger, entries.as_slice(), true, sink)
+        }
+        Err(refusal) => {
+            let no_disk = Vec::new(alloc);
+            (tell_refusal(sink, &refusal), no_disk)
+        }
+    }
+}
+
+/// Takes over the entries of the ledger that the third argument names.
+fn merge_other<O: Opener, P: DiskOpener, I: Source + Drop, K: Sink>(
+    alloc: Global,
+    opener: &mut O,
+    disk_opener: &mut P,
+    input: &mut Option<I>,
+    words: &[String],
+    sink: &mut K,
+) -> (u8, Vec<WordSource<O::Opened, I>>, Vec<P::Opened>)
+    ensures { OverAllNamed (O.opens opener.old)
+        (openings (O.opened opener.old) (option_map I.state input.old))
+        (openings (O.opened opener.new) (option_map I.state input.new))
+        (nth_word (each string_bytes words.now) 3 ∷ [])
+        (each (word_source O.Opened.state I.state) result.1.items)
+        (EndsAdoptTask (P.opens disk_opener.old)
+        (record {
+          before = openings (O.opened opener.old) (option_map I.state input.old);
+          after = openings (O.opened opener.new) (option_map I.state input.new);
+          disks_before = P.opened disk_opener.old;
+          disks_after = P.opened disk_opener.new;
+        })
+        (each string_bytes words.now) AdoptTask.Merge (each P.Opened.state result.2.items)
+        (record { before = K.state sink.old; after = K.state sink.new; status = result.0 })) }
+{
+    let mut files = match Vec::with_capacity(alloc, 1) {
+        Ok(files) => files,
+        Err(AllocError) => {
+            let refusal = Refusal::no_memory();
+            let unopened = Vec::new(alloc);
+            let no_disk = Vec::new(alloc);
+            return (tell_refusal(sink, &refusal), unopened, no_disk);
+        }
+    };
+    let mut file = open_word(opener, input, Some(word_at(words, 3)));
+    let entries = entries_of(alloc, &mut file);
+    files.push_reserved(file);
+    match entries {
+        Ok(entries) => {
+            let ledger = word_at(words, 2);
+            let (status, disks) = adopt_into(
+                alloc,
+                disk_opener,
+                ledger,
+                entries.as_slice(),
+                false,
+                sink,
+            );
+            (status, files, disks)
+        }
+        Err(refusal) => {
+            let no_disk = Vec::new(alloc);
+            (tell_refusal(sink, &refusal), files, no_disk)
+        }
+    }
+}
+
+/// Lets the ledger that this argument names take over these entries.
+fn adopt_into<P: DiskOpener, K: Sink>(
+    alloc: Global,
+    disk_opener: &mut P,
+    word: &str,
+    entries: &[LedgerEntry],
+    strict: bool,
+    sink: &mut K,
+) -> (u8, Vec<P::Opened>)
+    requires few { length entries.now < 2 ^ 32 }
+    requires are { All IsEntry entries.now }
+    ensures { EndsInto (P.opens disk_opener.old) (P.opened disk_opener.old) (P.opened disk_opener.new) word.now strict
+        entries.now (each P.Opened.state result.1.items)
+        (record { before = K.state sink.old; after = K.state sink.new; status = result.0 }) }
+{
+    match open_disk(alloc, disk_opener, word) {
+        Ok(opened) => {
+            let mut disks = opened;
+            let status = adopt_over(alloc, entries, strict, sink, &mut disks);
+            (status, disks)
+        }
+        Err(AllocError) => {
+            let refusal = Refusal::no_memory();
+            let no_disk = Vec::new(alloc);
+            (tell_refusal(sink, &refusal), no_disk)
+        }
+    }
+}

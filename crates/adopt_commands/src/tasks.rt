@@ -1,0 +1,85 @@
+//! What the arguments after `ledger` ask for, if entries are to be taken over.
+ghost use Rattle.std.specs.Prelude.{◌≡◌, map as each, string_bytes, Some, Ok, IfOk, IfErr};
+ghost use Rattle.adopt_commands.specs.AdoptTasks.{adoption_asked, asks_of, entry_slot_form, entry_counter_form};
+ghost use Rattle.adopt_commands.specs.AdoptTasks.{one_asked, IsOneEntry};
+ghost use Rattle.adopt_commands.specs.AdoptRows.{AsksNoAdoption, GivesOne};
+
+use crate::refusals::{counter_refusal, slot_refusal, unit_refusal, usage_refusal};
+use key_campaign::LedgerEntry;
+use key_slots::{Counter28, SlotId};
+use ledger_commands::word_at;
+use program_edge::Refusal;
+
+/// Which entries a ledger is to take over.
+#[derive(Clone, Copy, Debug, PartialEq, Eq, Drop)]
+pub enum AdoptTask {
+    /// This one, which is confirmed.
+    One(LedgerEntry),
+    /// Those of another ledger.
+    Merge,
+}
+
+/// The task of these arguments, or the first refusal: 2 if they are malformed, 3 with the first value that isn't of its
+/// form. The ledger is value 1.
+#[tactic(auto, unfolding(crate::specs::AdoptTasks::adoption_asked))]
+pub fn task_in(words: &[String]) -> Result<AdoptTask, Refusal>
+    ensures task { IfOk result (λ task. adoption_asked (each string_bytes words.now) ≡ Some (Ok task)) }
+    ensures one { IfOk result IsOneEntry }
+    ensures refused { IfErr result (AsksNoAdoption (adoption_asked (each string_bytes words.now))) }
+{
+    if asks_of(words, "merge", 3) {
+        return Ok(AdoptTask::Merge);
+    }
+    if asks_of(words, "adopt", 5) {
+        return one_in(word_at(words, 3), word_at(words, 4), word_at(words, 5));
+    }
+    Err(usage_refusal())
+}
+
+/// Whether there are so many arguments, the first of which is this one.
+fn asks_of(words: &[String], name: &str, count: usize) -> bool
+    ensures { result ≡ asks_of (each string_bytes words.now) name.now count }
+{
+    words.len() == count && word_at(words, 1) == name
+}
+
+fn one_in(uid: &str, id: &str, counter: &str) -> Result<AdoptTask, Refusal>
+    ensures gives { GivesOne (one_asked uid.now id.now counter.now) result }
+    ensures one { IfOk result IsOneEntry }
+{
+    let Some(uid) = secoc_words::engine_uid(uid.as_bytes()) else {
+        return Err(unit_refusal());
+    };
+    let Some(id) = entry_slot(id.as_bytes()) else {
+        return Err(slot_refusal());
+    };
+    let Some(counter) = entry_counter(counter.as_bytes()) else {
+        return Err(counter_refusal());
+    };
+    Ok(AdoptTask::One(LedgerEntry {
+        uid,
+        id,
+        counter,
+        confirmed: true,
+    }))
+}
+
+/// SLOT of an entry, 1 to 13.
+pub fn entry_slot(word: &[u8]) -> Option<SlotId>
+    ensures { result ≡ entry_slot_form word.now }
+{
+    let id = secoc_words::slot(word)?;
+    if id.number() == 0 { None } else { Some(id) }
+}
+
+/// COUNTER of an entry, 1 to 268435455.
+pub fn entry_counter(word: &[u8]) -> Option<Counter28>
+    ensures { result ≡ entry_counter_form word.now }
+{
+    let counter = secoc_words::counter(word)?;
+    if counter.number() == 0 {
+        None
+    } else {
+        Some(counter)
+    }
+}
