@@ -1,5 +1,5 @@
 -- Why a store isn't found in bytes, or isn't read
-use Rattle.std.proofs.Common.{◌≡◌, ◌⊎◌, ◌∙◌, ℕ, ◌<◌, ◌≤◌, List, [], ◌∷◌, ◌++◌, length, refl, sym, ap, subst, inl, inr, arith, lit<, codes, append-nil}
+use Rattle.std.proofs.Common.{◌≡◌, ◌⊎◌, ◌∙◌, ℕ, ◌<◌, ◌≤◌, List, [], ◌∷◌, ◌++◌, length, refl, sym, ap, subst, inl, inr, arith, lit<, append-nil}
 use Rattle.std.specs.Prelude.{Result, Ok, Err, OnOk, IfErr, Option, Some, None, ◌^◌, ◌-◌, slice_index_or, take, drop}
 use Rattle.cut_disk.specs.State.{DiskState, Told}
 use Rattle.cut_disk.specs.Images.{firm}
@@ -22,7 +22,7 @@ use Rattle.key_commands.specs.declared.finding.CountingStore.{CountingStore}
 use Rattle.key_commands.specs.Counting.{StoreThatCounts, moved_up, not_moved, only_second, no_store}
 use Rattle.key_commands.specs.Finding.{NotLooked, no_header, not_read}
 use Rattle.key_commands.specs.Opening.{TellsStoreFault, layout_of, few_cells_row, fault_row}
-use Rattle.slot_commands.specs.StoreWords.{cell_words}
+use Rattle.slot_commands.specs.StoreWords.{damaged_place_words}
 use Rattle.slot_commands.specs.Cells.{slot_count}
 use Rattle.slot_commands.specs.Checked.{PushesDamage, PushesFindings, PushesPlaces}
 use Rattle.slot_commands.specs.StillDisks.{IsStill, HasFound}
@@ -120,9 +120,9 @@ module _ (x : List ℕ) (found : CountingStore) (before after : DiskState) (has 
   -- the first damaged place of a log store is what a check finds
   damaged_found : (routes : Option (List Route)) (n : ℕ) (to : ℕ → ℕ) (fault : StoreFault) (place : ℕ) (old new : List ℕ) → found.kind ≡ Log
       → NotAttached (layout_of found) n to found.cells before after fault → fault ≡ store.Damaged place
-      → new ≡ old ++ written (cell_words place (codes "Damaged")) → PushesPlaces routes x found old new
+      → new ≡ old ++ written (damaged_place_words place) → PushesPlaces routes x found old new
   damaged_found routes n to fault place old new log not is more =
-      let words = cell_words place (codes "Damaged") in (
+      let words = damaged_place_words place in (
         words ∷ [],
         of_damaged_log place log ((subst (NotAttached (layout_of found) n to found.cells before after) is not).finds (firm x) has.still.told).1,
         more ∙ ap (λ (l : List ℕ). old ++ l) (sym (append-nil (written words))),

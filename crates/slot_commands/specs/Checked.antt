@@ -1,11 +1,11 @@
 -- What a check found, and whether it found nothing
-use Rattle.std.specs.Prelude.{ℕ, ◌↔◌, ◌≡◌, ◌⊎◌, ◌++◌, Bool, List, [], IsTrue, Option, None, Some, codes}
+use Rattle.std.specs.Prelude.{ℕ, ◌↔◌, ◌≡◌, ◌⊎◌, ◌++◌, Bool, List, [], IsTrue, Option, None, Some}
 use Rattle.std.specs.Prelude.{Result, Ok, Err}
 use Rattle.cell_store.specs.declared.faults.StoreFault.{StoreFault}
 use Rattle.cell_store.specs.declared.faults.StoreFault.TheVariants as store
 use Rattle.program_edge.specs.Rows.{Row, memory_row}
 use Rattle.key_commands.specs.Opening.{TellsStoreFault}
-use Rattle.slot_commands.specs.StoreWords.{cell_words}
+use Rattle.slot_commands.specs.StoreWords.{damaged_place_words}
 use Rattle.text_lines.specs.Written.{written}
 use Rattle.freshness_routes.specs.declared.routes.Route.{Route}
 use Rattle.slot_commands.specs.RouteFindings.{FindsAt}
@@ -42,6 +42,6 @@ PushesFinding routes place there old new =
 -- memory may come of each
 abbrev pub PushesDamage : StoreFault → List ℕ → List ℕ → Result (Unit {0}) Row → Type 0
 PushesDamage fault old new (Ok done) =
-    (place : ℕ) × (fault ≡ store.Damaged place) × (new ≡ old ++ written (cell_words place (codes "Damaged")))
+    (place : ℕ) × (fault ≡ store.Damaged place) × (new ≡ old ++ written (damaged_place_words place))
 PushesDamage fault old new (Err row) =
     (row ≡ memory_row) ⊎ (TellsStoreFault fault row × ((place : ℕ) → ¬ (fault ≡ store.Damaged place)))

@@ -65,3 +65,7 @@ bound_words cell id direction bound =
 -- `cell CELL CAUSE`
 abbrev pub cell_words : ℕ → List ℕ → List (List ℕ)
 cell_words cell cause = codes "cell" ∷ decimal cell ∷ cause ∷ []
+
+-- `place PLACE Damaged`: of a log store, 0 if no bank counts, and P if its record P - 1 is damaged
+abbrev pub damaged_place_words : ℕ → List (List ℕ)
+damaged_place_words place = codes "place" ∷ decimal place ∷ codes "Damaged" ∷ []

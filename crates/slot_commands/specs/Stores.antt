@@ -1,6 +1,6 @@
 -- What bytes are as the store of a unit: the list of what it holds, what is wrong with it, or why they are no store
 use Rattle.std.specs.Prelude.{◌≡◌, ℕ, ◌+◌, ◌<◌, ◌≤◌, Option, Some, None, List, [], ◌∷◌}
-use Rattle.std.specs.Prelude.{length, slice_index_or, codes, ◌++◌}
+use Rattle.std.specs.Prelude.{length, slice_index_or, ◌++◌}
 use Rattle.std.specs.List.{flat_map}
 use Rattle.cell_store.specs.declared.kinds.Kind.TheVariants.{Twin, Log}
 use Rattle.cell_store.specs.declared.faults.StoreFault.TheVariants as store
@@ -13,7 +13,7 @@ use Rattle.text_lines.specs.Written.{written}
 use Rattle.key_commands.specs.declared.finding.CountingStore.{CountingStore}
 use Rattle.key_commands.specs.Counting.{StoreThatCounts}
 use Rattle.key_commands.specs.Opening.{layout_of, fault_row, few_cells_row}
-use Rattle.slot_commands.specs.StoreWords.{store_words, cell_words}
+use Rattle.slot_commands.specs.StoreWords.{store_words, damaged_place_words}
 use Rattle.slot_commands.specs.Cells.{slot_count, SaysCell}
 use Rattle.slot_commands.specs.RouteFindings.{FindsAt, lacking_lines}
 
@@ -92,7 +92,7 @@ pub data FindsInPlaces (routes : Option (List Route)) (x : List ℕ) (found : Co
       → FindsFrom routes (λ place. Some (slice_index_or cells place [])) 0 found.cells findings
       → FindsInPlaces routes x found findings
   of_damaged_log : (place : ℕ) → found.kind ≡ Log → FirstDamaged (layout_of found) x found.cells place
-      → FindsInPlaces routes x found (cell_words place (codes "Damaged") ∷ [])
+      → FindsInPlaces routes x found (damaged_place_words place ∷ [])
 
 -- all that it finds: of each place, and then each route that has no cell
 pub record FindsInStore (routes : Option (List Route)) (x : List ℕ) (found : CountingStore)

@@ -14,7 +14,7 @@ ghost use Rattle.slot_commands.specs.StillDisks.{HasFound};
 ghost use Rattle.slot_commands.specs.Stores.{NoStoreIn, head_words};
 ghost use Rattle.text_lines.specs.Written.{written};
 
-use crate::cells::{Meaning, meaning_of, push_bad};
+use crate::cells::{Meaning, meaning_of, push_bad, push_damaged_place};
 use crate::listing::push_head;
 use crate::over_routes::{push_lacking, push_over_routes};
 use crate::reading::store_in;
@@ -181,7 +181,7 @@ fn push_damaged(alloc: Global, text: &mut Vec<u8>, fault: StoreFault) -> Result<
     ensures { PushesDamage fault text.old.items text.new.items result }
 {
     match fault {
-        StoreFault::Damaged(place) => match push_bad(text, place, b"Damaged") {
+        StoreFault::Damaged(place) => match push_damaged_place(text, place) {
             Ok(()) => Ok(()),
             Err(AllocError) => Err(Refusal::no_memory()),
         },
