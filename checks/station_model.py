@@ -153,7 +153,7 @@ def slots(name, data, values, routes=None):
     cells, damaged = cells_of(kind, count, store)
     head = f"store {('twin', 'log')[kind - 1]} {version} {count}\n"
     if name == "check":
-        lines = [f"cell {damaged} Damaged\n"] if cells is None else [finding(place, cell, routes) for place, cell in enumerate(cells)]
+        lines = [f"place {damaged} Damaged\n"] if cells is None else [finding(place, cell, routes) for place, cell in enumerate(cells)]
         lines += [f"route {it.hex()} {'sends' if direction == 1 else 'receives'} NoCell\n" for it, direction in (routes or [])[count - 14:]]
         return (1 if any(lines) else 0), head + "".join(lines)
     if damaged is not None:
