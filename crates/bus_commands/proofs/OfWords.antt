@@ -21,7 +21,7 @@ use Rattle.program_edge.specs.NamedSources.{Openings}
 use Rattle.bus_programs.specs.Blank.{disk_states}
 use Rattle.bus_programs.proofs.CallerLemmas.{blank_has_room, blank_no_cause}
 use Rattle.bus_programs.specs.Inputs.{BusInputs}
-use Rattle.bus_programs.specs.Named.{SourcesBack}
+use Rattle.bus_programs.specs.Named.{SourcesBack, inputs_had}
 use Rattle.bus_commands.specs.declared.words.Command.TheVariants.{World}
 use Rattle.bus_commands.specs.declared.words.WorldCommand.{WorldCommand}
 use Rattle.bus_commands.specs.declared.words.WorldCommand.TheVariants.{Replay, Trial}
@@ -76,14 +76,11 @@ given_starts : (opens : List ℕ → SourceState → Type 0) (before after : Ope
     (words : List (List ℕ)) (e : Ending)
     → RunsGiven opens before after back words e → (e.status ≡ 9) ⊎ (e.status ≡ 10) → ⊥
 given_starts opens before after back words e ran (inl nine) =
-    let given = subst (λ (w : List (List ℕ)). AreGiven w ran.made.items) (sym ran.over.words_are) ran.given in
-    never_9 ran.over.inputs ran.made.items (disk_states ran.used.items) _ given (ran.over.runs.0.valid.disks_refused nine)
+    never_9 (inputs_had ran.over) ran.made.items (disk_states ran.used.items) _ ran.given
+    (ran.over.over.has.0.valid.disks_refused nine)
 given_starts opens before after back words e ran (inr ten) =
-    let given = subst (λ (w : List (List ℕ)). AreGiven w ran.made.items) (sym ran.over.words_are) ran.given in
-    let none =
-    subst (λ (w : List (List ℕ)). (name : List ℕ) → ¬ NamesDisk w name) (sym ran.over.words_are) ran.no_disk in
-    never_10 ran.over.inputs ran.made.items (disk_states ran.used.items) _ given none
-    (ran.over.runs.0.valid.store_refused ten)
+    never_10 (inputs_had ran.over) ran.made.items (disk_states ran.used.items) _ ran.given ran.no_disk
+    (ran.over.over.has.0.valid.store_refused ten)
 
 -- ---- over a disk that tells its bytes
 
@@ -127,35 +124,21 @@ module _ {D : Type 0} (state : D → DiskState) (opens : List ℕ → SourceStat
     opened = opened;
     opened_once = once;
     over = over;
-    one_run = λ result. node_run over.inputs _ e result opened.disk opened.one opened.tells
-        (subst (λ (w : List (List ℕ)). Asks w (World (Replay Attach))) (sym over.words_are)
-        (names_node words name names));
+    one_run = λ result. node_run (inputs_had over) _ e result opened.disk opened.one opened.tells (names_node words name names);
   }
 
   -- ---- either
 
-  usage_of : {V : Type 0} (i : BusInputs) (d : CommandDisks V) → i.words ≡ words → RunsBus i d e → e.status ≡ 2
-      → AsksNothing words
-  usage_of i d are (command, machine) two = subst (λ (w : List (List ℕ)). AsksNothing w) are (command.inputs.usage_told two).0
-
   pub words_usage : RunsNamed state opens opens_disk o back left words e → e.status ≡ 2 → AsksNothing words
-  words_usage (ran_in_memory none empty ran) two =
-      usage_of ran.over.inputs (made_disks ran.made ran.used) ran.over.words_are ran.over.runs two
-  words_usage (ran_over_disk ran) two = usage_of ran.over.inputs _ ran.over.words_are ran.over.runs two
+  words_usage (ran_in_memory none empty ran) two = (ran.over.over.has.0.inputs.usage_told two).0
+  words_usage (ran_over_disk ran) two = (ran.over.over.has.0.inputs.usage_told two).0
   words_usage (wanted_disks none empty wants) two =
       absurd (let no : ⊥ = omega (arith, wants.wants.status_is, two) in no)
 
-  usage_only_of : {V : Type 0} (i : BusInputs) (d : CommandDisks V) → i.words ≡ words → RunsBus i d e
-      → AsksNothing words → (e.status ≡ 2) ⊎ (e.status ≡ 6)
-  usage_only_of i d are (command, machine) nothing =
-      command.inputs.usage_only (subst (λ (w : List (List ℕ)). AsksNothing w) (sym are) nothing)
-
   pub words_usage_only : RunsNamed state opens opens_disk o back left words e → AsksNothing words
       → (e.status ≡ 2) ⊎ (e.status ≡ 6)
-  words_usage_only (ran_in_memory none empty ran) nothing =
-      usage_only_of ran.over.inputs (made_disks ran.made ran.used) ran.over.words_are ran.over.runs nothing
-  words_usage_only (ran_over_disk ran) nothing =
-      usage_only_of ran.over.inputs _ ran.over.words_are ran.over.runs nothing
+  words_usage_only (ran_in_memory none empty ran) nothing = ran.over.over.has.0.inputs.usage_only nothing
+  words_usage_only (ran_over_disk ran) nothing = ran.over.over.has.0.inputs.usage_only nothing
   words_usage_only (wanted_disks none empty wants) nothing = absurd (nothing (World wants.asks.0) wants.asks.1)
 
   pub words_start : RunsNamed state opens opens_disk o back left words e → (e.status ≡ 9) ⊎ (e.status ≡ 10)

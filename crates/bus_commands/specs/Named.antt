@@ -14,26 +14,23 @@ use Rattle.bus_world.specs.Starts.{StartsOver}
 use Rattle.bus_world.specs.StartAnswers.{DiskStates}
 use Rattle.bus_programs.specs.Blank.{AreBlank, disk_states}
 use Rattle.bus_programs.specs.Inputs.{BusInputs}
-use Rattle.bus_programs.specs.Named.{SourcesAreNamed, SourcesBack, AreHandedBack, WantsMemory}
+use Rattle.bus_programs.specs.Named.{SourcesBack, HadOverNamed, inputs_had, WantsMemory}
 use Rattle.bus_commands.specs.Words.{NamesConfig, NamesScript, NamesDisk, IsTheWord}
 use Rattle.bus_commands.specs.Inputs.{AsksWorld, OverReplayOf}
 use Rattle.bus_commands.specs.StartRows.{CommandDisks, disks_between}
 use Rattle.bus_commands.specs.Rows.{ReplaysScript}
 use Rattle.bus_commands.specs.Commands.{RunsBus, WrittenRun}
 
+-- which of the arguments name the bus file and the lines
+abbrev pub NamesSources : List (List ℕ) → Option (List ℕ) → Option (List ℕ) → Type 0
+NamesSources words config script = IsTheWord (NamesConfig words) config × IsTheWord (NamesScript words) script
+
 -- all that a command promises holds of these arguments, over these disks and over the sources that the arguments name.
 -- Each is opened once, and no other. A source that no word names is missing. The sources are handed back
-pub record RunsOver {V : Type 0} (opens : List ℕ → SourceState → Type 0) (before after : Openings) (back : SourcesBack)
-    (words : List (List ℕ)) (d : CommandDisks V) (e : Ending) : Type 0 where
-  pub inputs : BusInputs
-  pub words_are : inputs.words ≡ words
-  pub config : Option (List ℕ)
-  pub script : Option (List ℕ)
-  pub names_config : IsTheWord (NamesConfig words) config
-  pub names_script : IsTheWord (NamesScript words) script
-  pub named : SourcesAreNamed opens before after config script inputs
-  pub handed_back : AreHandedBack inputs back
-  pub runs : RunsBus inputs d e
+abbrev pub RunsOver : {V : Type 0} → (List ℕ → SourceState → Type 0) → Openings → Openings → SourcesBack
+    → List (List ℕ) → CommandDisks V → Ending → Type 0
+RunsOver opens before after back words d e =
+    HadOverNamed opens before after back words (NamesSources words) (λ i. RunsBus i d e)
 
 -- ---- disks in memory
 
@@ -77,8 +74,8 @@ pub record RunsOpened {D : Type 0} (state : D → DiskState) (opens : List ℕ �
   pub over : RunsOver opens o.before o.after back words (disks_between state disks left) e
   -- at 0, and at 6 or 7 after its start, what it did is one run
   pub one_run : (result : Result (Unit {0}) Unwritten)
-      → ReplaysScript over.inputs (disks_between state disks left).states e result
-      → NodeIsRun over.inputs (disks_between state disks left).states e result
+      → ReplaysScript (inputs_had over) (disks_between state disks left).states e result
+      → NodeIsRun (inputs_had over) (disks_between state disks left).states e result
 
 -- ---- either
 

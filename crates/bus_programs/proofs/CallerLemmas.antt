@@ -1,7 +1,8 @@
 -- The lemmas that crates above cite.
 use Rattle.std.specs.Prelude.{◌≡◌, ℕ, zero, suc, ◌-◌, ◌≤◌, List, [], ◌∷◌, length, get_or, replicate, All, ◌⊎◌, ◌+◌, ◌<◌}
-use Rattle.std.specs.Prelude.{Result, Ok, Err}
+use Rattle.std.specs.Prelude.{Result, Ok, Err, ◌≢◌, ◌==◌, false, map}
 use Rattle.std.proofs.Common.{refl, ap, subst, arith, sym, ◌∙◌, inl, inr}
+use Rattle.std.proofs.lemmas.Bool.{true≢false}
 use Rattle.std.proofs.lemmas.List.{length-map, length-replicate}
 use Rattle.cut_disk.specs.declared.mem_disk.MemDisk.{MemDisk}
 use Rattle.cut_disk.specs.State.{DiskState}
@@ -25,12 +26,15 @@ use Rattle.program_edge.specs.Input.{input_limit, input_fault_status}
 use Rattle.program_edge.specs.declared.input.InputFault.{InputFault}
 use Rattle.program_edge.specs.Rows.{Row}
 use Rattle.program_edge.specs.Inputs.{Reading, IsUnread, ReadsWhole, Lacks, Offers, CountsFault, CountsTooMuch}
+use Rattle.program_edge.specs.Endings.{Ending}
 use Rattle.program_edge.proofs.CallerLemmas.{Lacks-whole, Offers-whole, Offers-is}
 use Rattle.bus_config.specs.declared.fault.ConfigFault.{ConfigFault}
 use Rattle.bus_config.specs.BusFile.{bus_of}
 use Rattle.text_lines.specs.LineRows.{NoLines}
 use Rattle.text_lines.specs.Readings.{Fault}
 use Rattle.bus_programs.specs.BusFiles.{ReadsBus, IsConfigFault, OffersBus}
+use Rattle.bus_programs.specs.Inputs.{BusInputs}
+use Rattle.bus_programs.specs.Named.{RunsExample}
 use Rattle.bus_programs.specs.Scripts.{LacksLines, no_lines, lines_refused}
 use Rattle.bus_machine.specs.declared.events.Event.{Event}
 use Rattle.bus_config.specs.declared.node_lines.NodeLine.{NodeLine}
@@ -242,3 +246,22 @@ can_be_done (event.Fail node calls) has = has.0
 pub all_can_be_done : (nodes : List NodeLine) (events : List Event) → All (IsScriptEvent nodes) events
     → All CanBeDone events
 all_can_be_done nodes events are k d inside = can_be_done (get_or events k d) (are k d inside).fields
+
+-- ---- what comes of the words of a program that has an example
+
+-- some words are some texts
+pub some_words : {A : Type 0} (f : A → List ℕ) (words : List A) → (length words == 0) ≡ false → map f words ≢ []
+some_words f [] some none = absurd (true≢false some)
+some_words f (w ∷ words) some none =
+    absurd (let empty : length (map f (w ∷ words)) ≡ 0 = ap length none in omega (arith, empty))
+
+-- the disks were enough, and didn't fail as the bus started
+abbrev pub DisksServe : Ending → Type 0
+DisksServe e = (e.status ≢ 9) × (e.status ≢ 10)
+
+pub example_starts : {Example : BusInputs → Type 0} {Runs : BusInputs → Ending → Type 0} {e : Ending}
+    → ((i : BusInputs) → Runs i e → DisksServe e)
+    → RunsExample Example Runs e ⊎ ((e.status ≡ 7) × (e.after ≡ e.before)) → DisksServe e
+example_starts each (inl example) = each example.inputs example.ran
+example_starts each (inr (seven, same)) =
+    (λ nine. let no : ⊥ = omega (arith, seven, nine) in no, λ ten. let no : ⊥ = omega (arith, seven, ten) in no)

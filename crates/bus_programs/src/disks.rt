@@ -1,5 +1,5 @@
 //! Blank disks in memory.
-ghost use Rattle.std.specs.Prelude.{◌≤◌, ◌^◌, IfOk};
+ghost use Rattle.std.specs.Prelude.{◌≡◌, ◌≤◌, ◌^◌, [], IsTrue, IfOk, IfErr};
 ghost use Rattle.bus_programs.specs.Blank.{AreBlank};
 
 use cut_disk::MemDisk;
@@ -18,4 +18,16 @@ pub fn blank_disks(alloc: Global, count: usize, size: usize) -> Result<Vec<MemDi
         }
     }
     Ok(disks)
+}
+
+/// So many blank disks of 65,536 bytes, if they are wanted; otherwise none, without taking memory.
+pub fn disks_if(alloc: Global, wanted: bool, count: usize) -> Result<Vec<MemDisk>, AllocError>
+    ensures given { IfOk result (λ disks. IsTrue wanted → AreBlank count 65536 disks.items) }
+    ensures none { IfOk result (λ disks. ¬ IsTrue wanted → disks.items ≡ []) }
+    ensures wanted { IfErr result (λ _. IsTrue wanted) }
+{
+    if wanted {
+        return blank_disks(alloc, count, 65_536);
+    }
+    Ok(Vec::new(alloc))
 }

@@ -5,20 +5,32 @@ use Rattle.std.specs.declared.alloc.Global.{Global}
 use Rattle.program_edge.specs.declared.input.InputFault.{InputFault}
 use Rattle.program_edge.specs.declared.input.InputFault.TheVariants as input
 use Rattle.program_edge.specs.Rows.{Row, row_of, input_row, memory_row}
-use Rattle.program_edge.specs.Inputs.{IsUnread, ReadsWhole, Lacks}
+use Rattle.program_edge.specs.Inputs.{Reading, IsUnread, ReadsWhole, Lacks}
 use Rattle.program_edge.specs.Endings.{Ending}
 use Rattle.program_edge.specs.Told.{EndingTold}
 use Rattle.program_edge.proofs.CallerLemmas.{Lacks-whole}
 use Rattle.freshness_routes.specs.declared.routes.Route.{Route}
 use Rattle.bus_config.specs.Buses.{NamedBus}
-use Rattle.bus_programs.specs.BusRoutes.{routes_of}
+use Rattle.bus_programs.specs.BusFiles.{ReadsBus}
+use Rattle.bus_programs.specs.BusRoutes.{routes_of, HasOneNode}
 use Rattle.slot_commands.specs.Checked.{Checked}
-use Rattle.slot_commands.specs.Stores.{ChecksStore}
-use Rattle.bus_store_commands.specs.NodeBuses.{ReadsNodeBus, LacksNodeBus}
-use Rattle.bus_store_commands.specs.CheckRows.{BusCheckInputs, AsksBusCheck, DoesBusCheck, found_nothing, found, ComesOfBusCheck, no_node, done, AnswersBusCheck}
+use Rattle.slot_commands.specs.Stores.{ChecksStore, NoStoreIn}
+use Rattle.bus_store_commands.specs.NodeBuses.{ReadsNodeBus, LacksNodeBus, other_nodes}
+use Rattle.bus_store_commands.specs.BusWords.{asks_over_bus}
+use Rattle.bus_store_commands.specs.CheckRows.{BusCheckInputs, AsksBusCheck, DoesBusCheck, found_nothing, found, not_checked, bus_check_usage}
+use Rattle.bus_store_commands.specs.CheckRows.{ComesOfBusCheck, no_form, no_node, done, AnswersBusCheck}
 use Rattle.bus_store_commands.specs.CheckRows as rows
 use Rattle.bus_store_commands.specs.ChecksOverBus.{ChecksOverBus}
 use Rattle.bus_store_commands.proofs.CheckPromises.{checks_row}
+
+-- malformed arguments
+pub words_refused : (i : BusCheckInputs) (row : Row) → asks_over_bus (codes "check") i.words ≡ false → IsUnread i.bus → IsUnread i.file
+    → row ≡ row_of 2 bus_check_usage → ComesOfBusCheck i row
+words_refused i row none bus_unread unread is = subst (ComesOfBusCheck i) (sym is) (no_form none bus_unread unread)
+
+-- a bus that hasn't one node
+pub others_lack : (config : Reading) (bus : NamedBus) (row : Row) → ReadsBus config bus → HasOneNode bus (Err row) → LacksNodeBus config row
+others_lack config bus row reads (others, is) = subst (LacksNodeBus config) (sym is) (other_nodes bus reads others)
 
 -- a bus file that gives no bus of one node
 pub node_lacking : (i : BusCheckInputs) (cause row : Row) → AsksBusCheck i.words → LacksNodeBus i.bus cause → IsUnread i.file → row ≡ cause
@@ -54,6 +66,11 @@ pub check_bad : (routes : List Route) (x text : List ℕ) (good : Bool) → Chec
     → DoesBusCheck routes x (row_of 1 text)
 check_bad routes x text good (findings, checks, decides) is =
     found findings text (λ none. let clash : false ≡ true = sym is ∙ decides.1 none in cc clash) checks
+
+pub check_refused : (routes : List Route) (x : List ℕ) (row : Row) → NoStoreIn x row ⊎ (row ≡ memory_row)
+    → DoesBusCheck routes x row ⊎ (row ≡ memory_row)
+check_refused routes x row (inl none) = inl (not_checked row none)
+check_refused routes x row (inr memory) = inr memory
 
 -- ---- a run
 

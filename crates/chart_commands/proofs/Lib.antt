@@ -3,5 +3,4 @@ pub mod Facts
 pub mod Promised
 pub mod Preparing
 pub mod Drawing
-pub mod WorkedExample
 pub mod OfWords

@@ -1,15 +1,15 @@
 //! The worked example.
-ghost use Rattle.std.specs.Prelude.{◌≡◌, ◌⊎◌, length, map, string_bytes, Some, IfOk};
-ghost use Rattle.bus_port.specs.MemSource.{clean_source};
-ghost use Rattle.bus_programs.specs.Blank.{AreBlank};
+ghost use Rattle.std.specs.Prelude.{◌≡◌, ◌⊎◌};
 ghost use Rattle.chart_commands.specs.Named.{ChartsExample};
 
 use crate::run::run_chart;
-use bus_port::{CleanSource, Sink};
-use bus_programs::blank_disks;
-use cut_disk::MemDisk;
+use bus_port::Sink;
+use bus_programs::example_inputs;
 use program_edge::NO_MEMORY;
-use std::alloc::{AllocError, Global};
+use std::alloc::Global;
+
+/// The arguments of the example.
+const WORDS: [&str; 2] = ["-", "-"];
 
 /// Its bus file: three nodes. The pedal sends its position to the brake and the cluster; the brake sends its state to
 /// the cluster.
@@ -73,7 +73,7 @@ pub fn run_example<K: Sink>(alloc: Global, sink: &mut K) -> u8
     ensures { ChartsExample (record { before = K.state sink.old; after = K.state sink.new; status = result })
         ⊎ ((result ≡ 7) × (K.state sink.new ≡ K.state sink.old)) }
 {
-    let Ok(example) = example(alloc) else {
+    let Ok(example) = example_inputs(alloc, &WORDS, BUS, SCRIPT, 8) else {
         return NO_MEMORY;
     };
     let (words, mut config, mut script, mut disks) = example;
@@ -85,22 +85,4 @@ pub fn run_example<K: Sink>(alloc: Global, sink: &mut K) -> u8
         sink,
         &mut disks,
     )
-}
-
-/// Two words, sources of the bus file and of the script, and the disks.
-fn example(
-    alloc: Global,
-) -> Result<(Vec<String>, CleanSource, CleanSource, Vec<MemDisk>), AllocError>
-    ensures words { IfOk result (λ made. length (made.0.items) ≡ 2) }
-    ensures bus { IfOk result (λ made. (clean_source made.1).told ≡ Some BUS.now) }
-    ensures script { IfOk result (λ made. (clean_source made.2).told ≡ Some SCRIPT.now) }
-    ensures disks { IfOk result (λ made. AreBlank 8 65536 made.3.items) }
-{
-    let mut words = Vec::new(alloc);
-    words.push(String::from_str(alloc, "-")?)?;
-    words.push(String::from_str(alloc, "-")?)?;
-    let config = CleanSource::new(Vec::from_slice(alloc, BUS)?);
-    let script = CleanSource::new(Vec::from_slice(alloc, SCRIPT)?);
-    let disks = blank_disks(alloc, 8, 65_536)?;
-    Ok((words, config, script, disks))
 }

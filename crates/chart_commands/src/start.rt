@@ -1,18 +1,16 @@
 //! The arguments of the command line, the program's name left out: the run that they name is drawn, and without one the
 //! example.
-ghost use Rattle.std.specs.Prelude.{◌≡◌, ◌≢◌, ◌⊎◌, [], map, string_bytes, option_map, IfOk, IfErr};
+ghost use Rattle.std.specs.Prelude.{◌≡◌, ◌≢◌, ◌⊎◌, [], map, string_bytes, option_map};
 ghost use Rattle.program_edge.specs.NamedSources.{word_source, openings};
-ghost use Rattle.bus_programs.specs.Blank.{AreBlank};
 ghost use Rattle.chart_commands.specs.Inputs.{AsksChart};
 ghost use Rattle.chart_commands.specs.Named.{ChartOfWords};
 
 use crate::example::run_example;
 use crate::run::run_chart;
 use bus_port::{Sink, Source};
-use bus_programs::{blank_disks, unopened};
-use cut_disk::MemDisk;
+use bus_programs::{disks_if, unopened};
 use program_edge::{NO_MEMORY, Opener, WordSource, open_two};
-use std::alloc::{AllocError, Global};
+use std::alloc::Global;
 
 /// Draws the run of the script over the bus that two words name, as [`run_chart`] does, over eight blank disks of
 /// 65,536 bytes, and gives the status that the program ends with, and the sources of the bus file and of the script as
@@ -48,21 +46,10 @@ pub fn chart_words<O: Opener, I: Source + Drop, K: Sink>(
     if words.is_empty() {
         return unopened(run_example(alloc, sink));
     }
-    let Ok(mut disks) = disks_for(alloc, words) else {
+    let Ok(mut disks) = disks_if(alloc, words.len() == 2, 8) else {
         return unopened(NO_MEMORY);
     };
     let (mut config, mut script) = open_two(opener, input, words);
     let status = run_chart(alloc, words, &mut config, &mut script, sink, &mut disks);
     (status, config, script)
-}
-
-/// Eight blank disks of 65,536 bytes for a chart, and none, without taking memory, for words of another number.
-fn disks_for(alloc: Global, words: &[String]) -> Result<Vec<MemDisk>, AllocError>
-    ensures given { IfOk result (λ disks. AsksChart (map string_bytes words.now) → AreBlank 8 65536 disks.items) }
-    ensures wanted { IfErr result (λ _. AsksChart (map string_bytes words.now)) }
-{
-    if words.len() == 2 {
-        return blank_disks(alloc, 8, 65_536);
-    }
-    Ok(Vec::new(alloc))
 }

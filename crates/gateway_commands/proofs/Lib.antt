@@ -4,10 +4,8 @@ pub mod Facts
 pub mod Keeping
 pub mod Preparing
 pub mod Doing
-pub mod WorkedExample
 pub mod OfWords
 pub mod Wording
 pub mod OneNode
 pub mod Lines
-pub mod Naming
 pub mod ExampleScript

@@ -1,15 +1,12 @@
 //! The worked example.
-ghost use Rattle.std.specs.Prelude.{◌≡◌, ◌⊎◌, map, string_bytes, Some, IfOk};
-ghost use Rattle.bus_port.specs.MemSource.{clean_source};
-ghost use Rattle.bus_programs.specs.Blank.{AreBlank};
-ghost use Rattle.gateway_commands.specs.Named.{RunsExample};
+ghost use Rattle.std.specs.Prelude.{◌≡◌, ◌⊎◌};
+ghost use Rattle.gateway_commands.specs.Named.{RunsExampleGateway};
 
 use crate::run::run_gateway;
-use bus_port::{CleanSource, Sink};
-use bus_programs::blank_disks;
-use cut_disk::MemDisk;
+use bus_port::Sink;
+use bus_programs::example_inputs;
 use program_edge::NO_MEMORY;
-use std::alloc::{AllocError, Global};
+use std::alloc::Global;
 
 /// The arguments of the example.
 const WORDS: [&str; 3] = ["gateway.toml", "gateway_run.txt", "6bc2=6bc1"];
@@ -40,10 +37,10 @@ inject gate 6bc2 bee22e409f9601898b20
 /// Runs the example as [`run_gateway`] does, over a blank disk, and gives the status that the program ends with. It is
 /// 7, with nothing written, if there is no memory for it.
 pub fn run_example<K: Sink>(alloc: Global, sink: &mut K) -> u8
-    ensures { RunsExample (record { before = K.state sink.old; after = K.state sink.new; status = result })
+    ensures { RunsExampleGateway (record { before = K.state sink.old; after = K.state sink.new; status = result })
         ⊎ ((result ≡ 7) × (K.state sink.new ≡ K.state sink.old)) }
 {
-    let Ok(example) = example(alloc) else {
+    let Ok(example) = example_inputs(alloc, &WORDS, BUS, SCRIPT, 1) else {
         return NO_MEMORY;
     };
     let (words, mut config, mut script, mut disks) = example;
@@ -55,31 +52,4 @@ pub fn run_example<K: Sink>(alloc: Global, sink: &mut K) -> u8
         sink,
         &mut disks,
     )
-}
-
-/// The words of the example, sources of its bus file and its script, and its disk.
-fn example(
-    alloc: Global,
-) -> Result<(Vec<String>, CleanSource, CleanSource, Vec<MemDisk>), AllocError>
-    ensures words { IfOk result (λ made. map string_bytes made.0.items ≡ map (λ text. text.now) WORDS) }
-    ensures bus { IfOk result (λ made. (clean_source made.1).told ≡ Some BUS.now) }
-    ensures script { IfOk result (λ made. (clean_source made.2).told ≡ Some SCRIPT.now) }
-    ensures disks { IfOk result (λ made. AreBlank 1 65536 made.3.items) }
-{
-    let words = texts_of(alloc, &WORDS)?;
-    let config = CleanSource::new(Vec::from_slice(alloc, BUS)?);
-    let script = CleanSource::new(Vec::from_slice(alloc, SCRIPT)?);
-    let disks = blank_disks(alloc, 1, 65_536)?;
-    Ok((words, config, script, disks))
-}
-
-/// These texts as arguments.
-fn texts_of(alloc: Global, texts: &[&str]) -> Result<Vec<String>, AllocError>
-    ensures { IfOk result (λ words. map string_bytes words.items ≡ map (λ text. text.now) texts.now) }
-{
-    let mut words = Vec::new(alloc);
-    for text in texts {
-        words.push(String::from_str(alloc, text)?)?;
-    }
-    Ok(words)
 }

@@ -1,28 +1,27 @@
 //! The arguments of the command line, the program's name left out: a gateway runs over the sources that two of them
 //! name, and without a word the example.
-ghost use Rattle.std.specs.Prelude.{◌≡◌, ◌≢◌, ◌⊎◌, ◌↔◌, None, [], map, string_bytes, option_map, IsTrue, IfOk, IfErr};
+ghost use Rattle.std.specs.Prelude.{◌≡◌, ◌≢◌, ◌⊎◌, [], map, string_bytes, option_map, IsTrue};
 ghost use Rattle.program_edge.specs.NamedSources.{word_source, openings};
-ghost use Rattle.bus_programs.specs.Blank.{AreBlank};
 ghost use Rattle.gateway_commands.specs.Words.{AsksNoGateway, AsksSomeGateway};
-ghost use Rattle.gateway_commands.specs.Named.{NameSources, GatewayOfWords};
+ghost use Rattle.gateway_commands.specs.Named.{NamesFirstTwo, GatewayOfWords};
 
 use crate::example::run_example;
 use crate::run::run_asked;
 use crate::words::asked_pairs;
 use bus_port::{Sink, Source};
-use bus_programs::{blank_disks, unopened};
-use cut_disk::MemDisk;
-use program_edge::{NO_MEMORY, Opener, WordSource, open_both};
-use std::alloc::{AllocError, Global};
+use bus_programs::{disks_if, unopened};
+use program_edge::{NO_MEMORY, Opener, WordSource, open_both, two_words};
+use std::alloc::Global;
 
 /// The arguments that name the bus file and the script: the first two, and none if they ask for no gateway.
 fn source_words(words: &[String], is_asked: bool) -> (Option<&str>, Option<&str>)
-    requires { IsTrue is_asked ↔ AsksSomeGateway (map string_bytes words.now) }
-    ensures { NameSources (map string_bytes words.now) (option_map (λ w. w.now) result.0)
+    requires asked { IsTrue is_asked → AsksSomeGateway (map string_bytes words.now) }
+    requires other { ¬ IsTrue is_asked → AsksNoGateway (map string_bytes words.now) }
+    ensures { NamesFirstTwo (map string_bytes words.now) (option_map (λ w. w.now) result.0)
         (option_map (λ w. w.now) result.1) }
 {
     if is_asked {
-        return (Some(words[0].as_str()), Some(words[1].as_str()));
+        return two_words(&words[..2]);
     }
     (None, None)
 }
@@ -65,22 +64,10 @@ pub fn gateway_words<O: Opener, I: Source + Drop, K: Sink>(
         return unopened(NO_MEMORY);
     };
     let (bus, events) = source_words(words, asked.is_some());
-    let Ok(mut disks) = disks_for(alloc, bus) else {
+    let Ok(mut disks) = disks_if(alloc, asked.is_some(), 1) else {
         return unopened(NO_MEMORY);
     };
     let (mut config, mut script) = open_both(opener, input, bus, events);
     let status = run_asked(alloc, asked, &mut config, &mut script, sink, &mut disks);
     (status, config, script)
-}
-
-/// A blank disk of 65,536 bytes for a gateway, whose bus file this word names, and none, without taking memory, for
-/// words of another form.
-fn disks_for(alloc: Global, bus: Option<&str>) -> Result<Vec<MemDisk>, AllocError>
-    ensures given { IfOk result (λ disks. ¬ (option_map (λ w. w.now) bus.entry ≡ None) → AreBlank 1 65536 disks.items) }
-    ensures wanted { IfErr result (λ _. ¬ (option_map (λ w. w.now) bus.entry ≡ None)) }
-{
-    match bus {
-        Some(_) => blank_disks(alloc, 1, 65_536),
-        None => Ok(Vec::new(alloc)),
-    }
 }

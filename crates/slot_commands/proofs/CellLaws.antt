@@ -1,7 +1,10 @@
 -- What a cell's bytes say of the bound that it holds
 use Rattle.std.proofs.Common.{◌≡◌, ℕ, ◌<◌, ◌≤◌, List, [], ◌∷◌, ◌++◌, get_or, refl, sym, ap, subst, ◌∙◌, arith, inl, inr, ⊎_elim, codes}
-use Rattle.std.specs.Prelude.{Option, Some, None}
-use Rattle.std.proofs.lemmas.Bool.{cases_lt}
+use Rattle.std.specs.Prelude.{Option, Some, None, ◌-◌, false, length}
+use Rattle.std.specs.List.{slice_get}
+use Rattle.std.proofs.Math.Dec.{ltb}
+use Rattle.std.proofs.lemmas.Bool.{cases_lt, ltb-false}
+use Rattle.std.proofs.lemmas.Option.{slice_get_past}
 use Rattle.text_lines.specs.Written.{written}
 use Rattle.basics.specs.Numbers.{number_of, bytes_of}
 use Rattle.basics.proofs.CallerLemmas.{number_of-bytes_of-lt}
@@ -91,6 +94,10 @@ pub finds_slot : (routes : List Route) (place : ℕ) (cell old new : List ℕ) �
     → PushesFinding (Some routes) place (Some cell) old new
 finds_slot routes place cell old new low (inl (words, finds, more)) = inl (words, as_slot (Some cell) (Some words) low finds, more)
 finds_slot routes place cell old new low (inr (finds, same)) = inr (as_slot (Some cell) None low finds, same)
+
+-- no route stands at a place after all of them
+pub no_route_at : (routes : List Route) (place i : ℕ) → i ≡ place - slot_count → false ≡ ltb i (length routes) → route_at routes place ≡ None
+no_route_at routes place i is not = subst (λ (k : ℕ). slice_get routes k ≡ None) is (slice_get_past routes i (ltb-false i (length routes) (sym not)))
 
 pub finds_no_route : (routes : List Route) (place : ℕ) (cell old new : List ℕ) → slot_count ≤ place → route_at routes place ≡ None
     → new ≡ old ++ written (cell_words place (codes "NoRoute")) → PushesFinding (Some routes) place (Some cell) old new

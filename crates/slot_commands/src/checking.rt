@@ -37,7 +37,7 @@ pub fn check_bytes(
     routes: Option<&[Route]>,
 ) -> Result<(Vec<u8>, bool), Refusal>
     requires { length bytes.now ≤ 2 ^ 24 }
-    ensures checked { IfOk result (λ r. Checked (option_map (λ r. r.now) routes) bytes.now r.0.items r.1) }
+    ensures checked { IfOk result (λ r. Checked (option_map (λ r. r.now) routes.entry) bytes.now r.0.items r.1) }
     ensures refused { IfErr result (λ row. NoStoreIn bytes.now row ⊎ (row ≡ memory_row)) }
 {
     let (found, disk) = store_in(alloc, bytes)?;
@@ -59,7 +59,7 @@ fn findings_text(
 ) -> Result<(Vec<u8>, bool), Refusal>
     requires found { HasFound bytes.now found (disk_of (contents disk)) }
     requires head { text.items ≡ written (head_words found) }
-    ensures checked { IfOk result (λ r. Checked (option_map (λ r. r.now) routes) bytes.now r.0.items r.1) }
+    ensures checked { IfOk result (λ r. Checked (option_map (λ r. r.now) routes.entry) bytes.now r.0.items r.1) }
     ensures refused { IfErr result (λ row. row ≡ memory_row) }
 {
     let head = text.len();
@@ -78,7 +78,7 @@ fn push_findings(
     routes: Option<&[Route]>,
 ) -> Result<(), Refusal>
     requires { HasFound bytes.now found (disk_of (contents disk)) }
-    ensures found { OnOk result (PushesFound (option_map (λ r. r.now) routes) bytes.now found
+    ensures found { OnOk result (PushesFound (option_map (λ r. r.now) routes.entry) bytes.now found
         text.old.items text.new.items) }
     ensures refused { IfErr result (λ row. row ≡ memory_row) }
 {
@@ -99,7 +99,7 @@ fn push_place_findings(
     routes: Option<&[Route]>,
 ) -> Result<(), Refusal>
     requires { HasFound bytes.now found (disk_of (contents disk)) }
-    ensures found { OnOk result (PushesPlaces (option_map (λ r. r.now) routes) bytes.now found
+    ensures found { OnOk result (PushesPlaces (option_map (λ r. r.now) routes.entry) bytes.now found
         text.old.items text.new.items) }
     ensures refused { IfErr result (λ row. row ≡ memory_row) }
 {
@@ -125,7 +125,7 @@ fn push_twin_findings(
 ) -> Result<(), AllocError>
     requires few { cells ≤ 1024 }
     requires room { twin_size cells ≤ length store.now }
-    ensures { OnOk result (PushesFindings (option_map (λ r. r.now) routes) (cell_at store.now) cells
+    ensures { OnOk result (PushesFindings (option_map (λ r. r.now) routes.entry) (cell_at store.now) cells
         text.old.items text.new.items) }
 {
     for place in 0..cells {
@@ -143,7 +143,7 @@ fn push_twin_finding(
 ) -> Result<(), AllocError>
     requires few { place < 1024 }
     requires room { twin_size (place + 1) ≤ length store.now }
-    ensures { OnOk result (PushesFinding (option_map (λ r. r.now) routes) place (cell_at store.now place)
+    ensures { OnOk result (PushesFinding (option_map (λ r. r.now) routes.entry) place (cell_at store.now place)
         text.old.items text.new.items) }
 {
     match cell_in(store, place) {
@@ -163,7 +163,7 @@ fn push_log_findings(
 ) -> Result<(), Refusal>
     requires log { found.kind ≡ Log }
     requires found { HasFound bytes.now found (disk_of (contents disk)) }
-    ensures found { OnOk result (PushesPlaces (option_map (λ r. r.now) routes) bytes.now found
+    ensures found { OnOk result (PushesPlaces (option_map (λ r. r.now) routes.entry) bytes.now found
         text.old.items text.new.items) }
     ensures refused { IfErr result (λ row. row ≡ memory_row) }
 {
@@ -197,7 +197,7 @@ fn push_bad_cells(
     routes: Option<&[Route]>,
 ) -> Result<(), AllocError>
     requires { length (any_state store.now).cells ≡ cells }
-    ensures { OnOk result (PushesFindings (option_map (λ r. r.now) routes)
+    ensures { OnOk result (PushesFindings (option_map (λ r. r.now) routes.entry)
         (λ place. Some (slice_index_or (any_state store.now).cells place [])) cells text.old.items text.new.items) }
 {
     for place in 0..cells {
@@ -213,7 +213,7 @@ fn push_cell_if_bad(
     routes: Option<&[Route]>,
 ) -> Result<(), AllocError>
     requires { place < length (any_state store.now).cells }
-    ensures { OnOk result (PushesFinding (option_map (λ r. r.now) routes) place
+    ensures { OnOk result (PushesFinding (option_map (λ r. r.now) routes.entry) place
         (Some (slice_index_or (any_state store.now).cells place [])) text.old.items text.new.items) }
 {
     let mut cell = [0; 32];
@@ -228,7 +228,7 @@ fn push_if_bad(
     cell: &[u8; 32],
     routes: Option<&[Route]>,
 ) -> Result<(), AllocError>
-    ensures { OnOk result (PushesFinding (option_map (λ r. r.now) routes) place (Some cell.now)
+    ensures { OnOk result (PushesFinding (option_map (λ r. r.now) routes.entry) place (Some cell.now)
         text.old.items text.new.items) }
 {
     match routes {

@@ -69,7 +69,7 @@ pub fn push_lacking(
 ) -> Result<(), AllocError>
     requires { slot_count ≤ cells }
     ensures { OnOk result (text.new.items
-        ≡ text.old.items ++ written_lines (lacking_lines (option_map (λ r. r.now) routes) cells)) }
+        ≡ text.old.items ++ written_lines (lacking_lines (option_map (λ r. r.now) routes.entry) cells)) }
 {
     match routes {
         Some(routes) => push_routes_from(text, usize::from(cells - SLOT_COUNT), routes),
