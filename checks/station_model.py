@@ -1,7 +1,7 @@
 #!/usr/bin/env python3
 """station_model: what `station slots` and `station ledger` are to print, from docs/formats.md alone.
 
-station_model slots list|check FILE, slots reply FILE UID ID AUTH, ledger list|open FILE.., ledger export FILE, ledger
+station_model slots list|check FILE, slots check FILE BUS, slots reply FILE UID ID AUTH, ledger list|open FILE.., ledger export FILE, ledger
 show FILE UID SLOT: prints the text, and ends with the status. Replies are made by bus_model (python3-cryptography).
 """
 import sys
@@ -119,8 +119,32 @@ def line_of(place, cell):
     return f"bound {place} {cell[2:4].hex()} {'sends' if cell[1] == 1 else 'receives'} {cell[4:12].hex()}\n", True
 
 
-def slots(name, data, values):
-    """What `slots NAME` prints of these bytes, and the status."""
+def routes_of(text):
+    """Data ID and direction, 1 or 2, of each route of a bus file that is good and has one node."""
+    import tomllib
+    nodes = tomllib.loads(text)["node"]
+    if len(nodes) != 1:
+        raise No(3, "config: nodes\n")
+    return [(bytes.fromhex(route["id"]), 1 if route["direction"] == "send" else 2) for route in nodes[0].get("route", [])]
+
+
+def finding(place, cell, routes):
+    """The line of what is wrong with a cell, None for a damaged one; of routes, None if none are known."""
+    if cell is None:
+        return f"cell {place} Damaged\n"
+    if routes is None or place < 14:
+        line, good = line_of(place, cell)
+        return "" if good else line
+    if place - 14 >= len(routes):
+        return f"cell {place} NoRoute\n"
+    name, direction = routes[place - 14]
+    if cell[:4] == bytes([2, direction]) + name and not any(cell[12:]):
+        return ""
+    return f"cell {place} BadBound {name.hex()} {'sends' if direction == 1 else 'receives'}\n"
+
+
+def slots(name, data, values, routes=None):
+    """What `slots NAME` prints of these bytes, and the status; of a check, over the routes of the unit's node or none."""
     if name == "reply":
         uid, slot, auth = bytes.fromhex(values[0]), int(values[1]), int(values[2])
         if slot == 0 or not (auth == 1 or (auth == 2 if slot == 3 else auth == slot)):
@@ -129,13 +153,9 @@ def slots(name, data, values):
     cells, damaged = cells_of(kind, count, store)
     head = f"store {('twin', 'log')[kind - 1]} {version} {count}\n"
     if name == "check":
-        if cells is None:
-            return 1, f"{head}cell {damaged} Damaged\n"
-        lines = []
-        for place, cell in enumerate(cells):
-            line, good = (f"cell {place} Damaged\n", False) if cell is None else line_of(place, cell)
-            lines += [] if good else [line]
-        return (1 if lines else 0), head + "".join(lines)
+        lines = [f"place {damaged} Damaged\n"] if cells is None else [finding(place, cell, routes) for place, cell in enumerate(cells)]
+        lines += [f"route {it.hex()} {'sends' if direction == 1 else 'receives'} NoCell\n" for it, direction in (routes or [])[count - 14:]]
+        return (1 if any(lines) else 0), head + "".join(lines)
     if damaged is not None:
         raise No(9, f"store: Damaged {damaged}\n")
     if name == "list":
@@ -194,9 +214,13 @@ def read(name):
 def main(words):
     several = words[:1] == ["ledger"] and words[1] in ("list", "open")
     files = [read(name) for name in (words[2:] if several else words[2:3])]
+    over_bus = words[:2] == ["slots", "check"] and len(words) == 4
     try:
-        status, text = (slots(words[1], files[0], words[3:]) if words[0] == "slots"
-                        else ledger(words[1], files, words[3:]))
+        if over_bus:
+            status, text = slots("check", files[0], [], routes_of(read(words[3]).decode()))
+        else:
+            status, text = (slots(words[1], files[0], words[3:]) if words[0] == "slots"
+                            else ledger(words[1], files, words[3:]))
     except No as no:
         status, text = no.args
     sys.stdout.write(text)

@@ -1,16 +1,22 @@
 -- What a cell's bytes say of the bound that it holds
-use Rattle.std.proofs.Common.{◌≡◌, ℕ, List, [], ◌∷◌, ◌++◌, get_or, refl, sym, ap, subst, ◌∙◌, arith, inl, inr, codes}
-use Rattle.std.specs.Prelude.{Some}
+use Rattle.std.proofs.Common.{◌≡◌, ℕ, ◌<◌, ◌≤◌, List, [], ◌∷◌, ◌++◌, get_or, refl, sym, ap, subst, ◌∙◌, arith, inl, inr, ⊎_elim, codes}
+use Rattle.std.specs.Prelude.{Option, Some, None, ◌-◌, false, length}
+use Rattle.std.specs.List.{slice_get}
+use Rattle.std.proofs.Math.Dec.{ltb}
+use Rattle.std.proofs.lemmas.Bool.{cases_lt, ltb-false}
+use Rattle.std.proofs.lemmas.Option.{slice_get_past}
 use Rattle.text_lines.specs.Written.{written}
 use Rattle.basics.specs.Numbers.{number_of, bytes_of}
 use Rattle.basics.proofs.CallerLemmas.{number_of-bytes_of-lt}
+use Rattle.freshness_routes.specs.declared.routes.Route.{Route}
 use Rattle.freshness_routes.specs.declared.routes.Direction.{Direction}
 use Rattle.freshness_routes.specs.declared.routes.Direction.TheVariants.{Sends, Receives}
 use Rattle.freshness_store.specs.Bound.{direction_number, bound_cell, HoldsBound, HoldsNoBound}
 use Rattle.slot_commands.specs.declared.cells.Meaning.{Meaning}
 use Rattle.slot_commands.specs.declared.cells.Meaning.TheVariants.{Slot, Bound, BadSlot, BadBound}
-use Rattle.slot_commands.specs.Cells.{HoldsNoBoundAtAll, SaysCell, a_slot, a_bound, no_slot, no_bound}
-use Rattle.slot_commands.specs.Cells.{no_slot_there, no_bound_there, good_slot, good_bound}
+use Rattle.slot_commands.specs.Cells.{slot_count, HoldsNoBoundAtAll, SaysCell, a_slot, a_bound, no_slot, no_bound}
+use Rattle.slot_commands.specs.Cells.{damaged, no_slot_there, no_bound_there, good_slot, good_bound}
+use Rattle.slot_commands.specs.RouteFindings.{FindsAt, route_at, not_its_bound_words, as_slot, no_copy, no_route, not_its_bound, its_bound}
 use Rattle.slot_commands.specs.Checked.{PushesFinding}
 use Rattle.slot_commands.specs.StoreWords.{cell_words}
 use Rattle.slot_commands.specs.Meanings.{Means, meaning_words}
@@ -61,16 +67,47 @@ says_meaning place cell BadBound (from, none) = no_bound from none
 -- ---- what is found of a cell, by its meaning
 
 pub finds_bad_slot : (place : ℕ) (cell old new : List ℕ) → Means place cell BadSlot
-    → new ≡ old ++ written (cell_words place (codes "BadSlot")) → PushesFinding place (Some cell) old new
+    → new ≡ old ++ written (cell_words place (codes "BadSlot")) → PushesFinding None place (Some cell) old new
 finds_bad_slot place cell old new (below, none) more = inl (cell_words place (codes "BadSlot"), no_slot_there cell below none, more)
 
 pub finds_bad_bound : (place : ℕ) (cell old new : List ℕ) → Means place cell BadBound
-    → new ≡ old ++ written (cell_words place (codes "BadBound")) → PushesFinding place (Some cell) old new
+    → new ≡ old ++ written (cell_words place (codes "BadBound")) → PushesFinding None place (Some cell) old new
 finds_bad_bound place cell old new (from, none) more = inl (cell_words place (codes "BadBound"), no_bound_there cell from none, more)
 
 pub finds_none : (place : ℕ) (cell text : List ℕ) (meaning : Meaning) → Means place cell meaning → ¬ (meaning ≡ BadSlot)
-    → ¬ (meaning ≡ BadBound) → PushesFinding place (Some cell) text text
+    → ¬ (meaning ≡ BadBound) → PushesFinding None place (Some cell) text text
 finds_none place cell text (Slot slot) (below, holds) not_slot not_bound = inr (good_slot cell slot below holds, refl)
 finds_none place cell text (Bound id direction bound) (from, holds) not_slot not_bound = inr (good_bound cell id direction bound from holds, refl)
 finds_none place cell text BadSlot means not_slot not_bound = absurd (not_slot refl)
 finds_none place cell text BadBound means not_slot not_bound = absurd (not_bound refl)
+
+-- ---- what is found over routes
+
+-- no copy of a cell counts
+pub finds_damaged : (routes : Option (List Route)) (place : ℕ) → FindsAt routes place None (Some (cell_words place (codes "Damaged")))
+finds_damaged None place = damaged
+finds_damaged (Some routes) place =
+    ⊎_elim (λ low. as_slot None (Some (cell_words place (codes "Damaged"))) low damaged) (λ high. no_copy high) (cases_lt place slot_count)
+
+-- of a slot what is found by itself
+pub finds_slot : (routes : List Route) (place : ℕ) (cell old new : List ℕ) → place < slot_count → PushesFinding None place (Some cell) old new
+    → PushesFinding (Some routes) place (Some cell) old new
+finds_slot routes place cell old new low (inl (words, finds, more)) = inl (words, as_slot (Some cell) (Some words) low finds, more)
+finds_slot routes place cell old new low (inr (finds, same)) = inr (as_slot (Some cell) None low finds, same)
+
+-- no route stands at a place after all of them
+pub no_route_at : (routes : List Route) (place i : ℕ) → i ≡ place - slot_count → false ≡ ltb i (length routes) → route_at routes place ≡ None
+no_route_at routes place i is not = subst (λ (k : ℕ). slice_get routes k ≡ None) is (slice_get_past routes i (ltb-false i (length routes) (sym not)))
+
+pub finds_no_route : (routes : List Route) (place : ℕ) (cell old new : List ℕ) → slot_count ≤ place → route_at routes place ≡ None
+    → new ≡ old ++ written (cell_words place (codes "NoRoute")) → PushesFinding (Some routes) place (Some cell) old new
+finds_no_route routes place cell old new from none more = inl (cell_words place (codes "NoRoute"), no_route cell from none, more)
+
+pub finds_not_its : (routes : List Route) (route : Route) (place : ℕ) (cell old new : List ℕ) → slot_count ≤ place → route_at routes place ≡ Some route
+    → HoldsNoBound cell route.id route.direction → new ≡ old ++ written (not_its_bound_words place route)
+    → PushesFinding (Some routes) place (Some cell) old new
+finds_not_its routes route place cell old new from at none more = inl (not_its_bound_words place route, not_its_bound cell route from at none, more)
+
+pub finds_its : (routes : List Route) (route : Route) (place : ℕ) (cell text : List ℕ) (bound : ℕ) → slot_count ≤ place → route_at routes place ≡ Some route
+    → HoldsBound cell route.id route.direction bound → PushesFinding (Some routes) place (Some cell) text text
+finds_its routes route place cell text bound from at holds = inr (its_bound cell route bound from at holds, refl)

@@ -10,8 +10,10 @@ use Rattle.std.proofs.lemmas.List.{get_or_append_left}
 use Rattle.std.proofs.Math.Seq.{get_or-append_seam}
 use Rattle.std.proofs.lemmas.Bool.{cases_lt}
 use Rattle.text_lines.specs.Written.{written}
-use Rattle.slot_commands.specs.Cells.{SaysCell, FindsInCell, AddsCell}
-use Rattle.slot_commands.specs.Checked.{Checked, PushesFinding, PushesFindings, PushesFound}
+use Rattle.freshness_routes.specs.declared.routes.Route.{Route}
+use Rattle.slot_commands.specs.Cells.{SaysCell, AddsCell}
+use Rattle.slot_commands.specs.RouteFindings.{FindsAt, lacking_lines}
+use Rattle.slot_commands.specs.Checked.{Checked, PushesFinding, PushesFindings, PushesPlaces, PushesFound}
 use Rattle.slot_commands.specs.Stores.{head_words, ListsCells, FindsFrom, at_end, a_finding, nothing, written_lines}
 
 -- the text of one line more
@@ -79,40 +81,57 @@ listed_all cells head n text listed all = (
 -- ---- a check
 
 -- one place more
-finds_more : (what : ℕ → Option (List ℕ)) (from n : ℕ) (findings : List (List (List ℕ))) (words : List (List ℕ))
-    → FindsFrom what from n findings → FindsInCell n (what n) (Some words) → FindsFrom what from (1 + n) (findings ++ words ∷ [])
-finds_more what from n findings words (at_end m) finds = a_finding m (1 + m) words [] (omega arith) finds (at_end (1 + m))
-finds_more what from n findings words (a_finding place m first rest below at more) finds =
-    a_finding place (1 + m) first (rest ++ words ∷ []) (omega (arith, below)) at (finds_more what (1 + place) m rest words more finds)
-finds_more what from n findings words (nothing place m rest below at more) finds =
-    nothing place (1 + m) (rest ++ words ∷ []) (omega (arith, below)) at (finds_more what (1 + place) m rest words more finds)
+finds_more : (routes : Option (List Route)) (what : ℕ → Option (List ℕ)) (from n : ℕ) (findings : List (List (List ℕ))) (words : List (List ℕ))
+    → FindsFrom routes what from n findings → FindsAt routes n (what n) (Some words) → FindsFrom routes what from (1 + n) (findings ++ words ∷ [])
+finds_more routes what from n findings words (at_end m) finds = a_finding m (1 + m) words [] (omega arith) finds (at_end (1 + m))
+finds_more routes what from n findings words (a_finding place m first rest below at more) finds =
+    a_finding place (1 + m) first (rest ++ words ∷ []) (omega (arith, below)) at (finds_more routes what (1 + place) m rest words more finds)
+finds_more routes what from n findings words (nothing place m rest below at more) finds =
+    nothing place (1 + m) (rest ++ words ∷ []) (omega (arith, below)) at (finds_more routes what (1 + place) m rest words more finds)
 
-finds_none : (what : ℕ → Option (List ℕ)) (from n : ℕ) (findings : List (List (List ℕ)))
-    → FindsFrom what from n findings → FindsInCell n (what n) None → FindsFrom what from (1 + n) findings
-finds_none what from n findings (at_end m) none = nothing m (1 + m) [] (omega arith) none (at_end (1 + m))
-finds_none what from n findings (a_finding place m first rest below at more) none =
-    a_finding place (1 + m) first rest (omega (arith, below)) at (finds_none what (1 + place) m rest more none)
-finds_none what from n findings (nothing place m rest below at more) none =
-    nothing place (1 + m) rest (omega (arith, below)) at (finds_none what (1 + place) m rest more none)
+finds_none : (routes : Option (List Route)) (what : ℕ → Option (List ℕ)) (from n : ℕ) (findings : List (List (List ℕ)))
+    → FindsFrom routes what from n findings → FindsAt routes n (what n) None → FindsFrom routes what from (1 + n) findings
+finds_none routes what from n findings (at_end m) none = nothing m (1 + m) [] (omega arith) none (at_end (1 + m))
+finds_none routes what from n findings (a_finding place m first rest below at more) none =
+    a_finding place (1 + m) first rest (omega (arith, below)) at (finds_none routes what (1 + place) m rest more none)
+finds_none routes what from n findings (nothing place m rest below at more) none =
+    nothing place (1 + m) rest (omega (arith, below)) at (finds_none routes what (1 + place) m rest more none)
 
 next_number : (n : ℕ) → 1 + n ≡ n + 1
 next_number n = omega arith
 
-pub found_none : (what : ℕ → Option (List ℕ)) (old text : List ℕ) → text ≡ old → PushesFindings what 0 old text
-found_none what old text is = ([], at_end 0, is ∙ sym (append-nil old))
+pub found_none : (routes : Option (List Route)) (what : ℕ → Option (List ℕ)) (old text : List ℕ) → text ≡ old → PushesFindings routes what 0 old text
+found_none routes what old text is = ([], at_end 0, is ∙ sym (append-nil old))
 
-pub found_more : (what : ℕ → Option (List ℕ)) (n : ℕ) (old text next : List ℕ) → PushesFindings what n old text
-    → PushesFinding n (what n) text next → PushesFindings what (n + 1) old next
-found_more what n old text next (findings, finds, is) (inl (words, found, more)) = (
+pub found_more : (routes : Option (List Route)) (what : ℕ → Option (List ℕ)) (n : ℕ) (old text next : List ℕ) → PushesFindings routes what n old text
+    → PushesFinding routes n (what n) text next → PushesFindings routes what (n + 1) old next
+found_more routes what n old text next (findings, finds, is) (inl (words, found, more)) = (
   findings ++ words ∷ [],
-  subst (λ (k : ℕ). FindsFrom what 0 k (findings ++ words ∷ [])) (next_number n) (finds_more what 0 n findings words finds found),
+  subst (λ (k : ℕ). FindsFrom routes what 0 k (findings ++ words ∷ [])) (next_number n) (finds_more routes what 0 n findings words finds found),
   text_more old text next findings words is more,
 )
-found_more what n old text next (findings, finds, is) (inr (none, same)) = (
+found_more routes what n old text next (findings, finds, is) (inr (none, same)) = (
   findings,
-  subst (λ (k : ℕ). FindsFrom what 0 k findings) (next_number n) (finds_none what 0 n findings finds none),
+  subst (λ (k : ℕ). FindsFrom routes what 0 k findings) (next_number n) (finds_none routes what 0 n findings finds none),
   same ∙ is,
 )
+
+-- what is found of what stands at a place is found of the same
+pub found_there : (routes : Option (List Route)) (place : ℕ) (here there : Option (List ℕ)) (old new : List ℕ) → here ≡ there
+    → PushesFinding routes place there old new → PushesFinding routes place here old new
+found_there routes place here there old new is finding =
+    subst (λ (at : Option (List ℕ)). PushesFinding routes place at old new) (sym is) finding
+
+-- the places, and then the routes that have no cell
+pub found_all : (routes : Option (List Route)) (x : List ℕ) (found : CountingStore) (old text next : List ℕ) → PushesPlaces routes x found old text
+    → next ≡ text ++ written_lines (lacking_lines routes found.cells) → PushesFound routes x found old next
+found_all routes x found old text next (findings, finds, is) more =
+    let lacking = lacking_lines routes found.cells in (
+      findings ++ lacking,
+      record { of_places = findings; finds = finds; all = refl },
+      more ∙ ap (λ (l : List ℕ). l ++ written_lines lacking) is ∙ append_assoc old (written_lines findings) (written_lines lacking)
+          ∙ ap (λ (l : List ℕ). old ++ l) (sym (flat_map-append written findings lacking)),
+    )
 
 -- ---- nothing was added exactly if nothing was found
 
@@ -131,9 +150,10 @@ same_if_none old text findings is none =
     ap length is ∙ ap (λ (f : List (List (List ℕ))). length (old ++ written_lines f)) none ∙ ap length (append-nil old)
 
 -- the text of a check, and whether nothing was found
-pub checked_text : (x : List ℕ) (found : CountingStore) (disk : DiskState) (head text : List ℕ) (good : Bool) → HasFound x found disk
-    → head ≡ written (head_words found) → PushesFound x found head text → (IsTrue good ↔ (length text ≡ length head)) → Checked x text good
-checked_text x found disk head text good has head_is (findings, finds, is) decides = (
+pub checked_text : (routes : Option (List Route)) (x : List ℕ) (found : CountingStore) (disk : DiskState) (head text : List ℕ) (good : Bool)
+    → HasFound x found disk → head ≡ written (head_words found) → PushesFound routes x found head text
+    → (IsTrue good ↔ (length text ≡ length head)) → Checked routes x text good
+checked_text routes x found disk head text good has head_is (findings, finds, is) decides = (
   findings,
   record {
     found = found;

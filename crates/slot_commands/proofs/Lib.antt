@@ -8,3 +8,4 @@ pub mod Phases
 pub mod TaskWords
 pub mod ReplyLaws
 pub mod KeyFree
+pub mod CallerLemmas

@@ -1,5 +1,5 @@
 -- What a task over bytes comes to has one status
-use Rattle.std.proofs.Common.{◌≡◌, ◌⊎◌, ◌∙◌, ℕ, ◌+◌, ◌≤◌, true, false, List, [], length, refl, sym, ap, subst, inl, inr, arith}
+use Rattle.std.proofs.Common.{◌≡◌, ◌⊎◌, ◌∙◌, ℕ, ◌+◌, ◌≤◌, true, false, List, [], ◌∷◌, ◌++◌, length, refl, sym, ap, subst, inl, inr, arith}
 use Rattle.std.specs.Prelude.{Option, Some, None, slice_index_or}
 use Rattle.cell_store.specs.declared.kinds.Kind.{Kind}
 use Rattle.cell_store.specs.declared.kinds.Kind.TheVariants.{Twin, Log}
@@ -10,6 +10,7 @@ use Rattle.key_slots.specs.declared.memory.Slot.{Slot}
 use Rattle.slot_disk.specs.Cell.{HoldsSlot}
 use Rattle.slot_disk.proofs.CallerLemmas.{one_slot}
 use Rattle.freshness_store.specs.Bound.{HoldsBound}
+use Rattle.freshness_routes.specs.declared.routes.Route.{Route}
 use Rattle.program_edge.specs.Rows.{Row}
 use Rattle.key_commands.specs.declared.finding.CountingStore.{CountingStore}
 use Rattle.key_commands.specs.Counting.{StoreThatCounts}
@@ -18,8 +19,9 @@ use Rattle.key_commands.proofs.CallerLemmas.{counts_once}
 use Rattle.slot_commands.specs.declared.tasks.ReplyAsked.{ReplyAsked}
 use Rattle.slot_commands.specs.declared.tasks.SlotTask.{SlotTask}
 use Rattle.slot_commands.specs.Cells.{slot_count, FindsInCell, damaged, no_slot_there, no_bound_there, good_slot, good_bound}
+use Rattle.slot_commands.specs.RouteFindings.{FindsAt, FindsOverRoutes, as_slot, no_copy, no_route, not_its_bound, its_bound, lacking_lines}
 use Rattle.slot_commands.specs.Stores.{HoldsStore, ListsStore, ChecksStore, NoStoreIn, IsUnreadable, FindsFrom, at_end, a_finding, nothing}
-use Rattle.slot_commands.specs.Stores.{FindsInStore, of_twin, of_log, of_damaged_log, no_header, none_counts, too_few, no_room, no_store}
+use Rattle.slot_commands.specs.Stores.{FindsInPlaces, FindsInStore, of_twin, of_log, of_damaged_log, no_header, none_counts, too_few, no_room, no_store}
 use Rattle.slot_commands.specs.Stores as stores
 use Rattle.slot_commands.specs.Replies.{HasSlotCell, SlotReplies, CellReplies, RepliesFrom, empty, replied, bad_slot, of_slot, bad_pair, unreadable, of_cell}
 use Rattle.slot_commands.specs.SlotRows.{DoesSlotTask, listed, not_listed, found_nothing, not_checked}
@@ -109,39 +111,81 @@ good_once place a b o q (good_bound cell id direction bound from holds) (no_boun
 good_once place a b o q (good_bound cell id direction bound from holds) (good_slot other that low also) same none = refl
 good_once place a b o q (good_bound cell id direction bound from holds) (good_bound other i d n high also) same none = refl
 
+-- nor is one that is good over routes
+over_once : (routes : List Route) (place : ℕ) (a b : Option (List ℕ)) (o q : Option (List (List ℕ))) → FindsOverRoutes routes place a o
+    → FindsOverRoutes routes place b q → a ≡ b → o ≡ None → q ≡ None
+over_once routes place a b o q (as_slot _ _ low finds) (as_slot _ _ also others) same none = good_once place a b o q finds others same none
+over_once routes place a b o q (as_slot _ _ low finds) (no_copy from) same none = absurd (omega (arith, low, from))
+over_once routes place a b o q (as_slot _ _ low finds) (no_route cell from at) same none = absurd (omega (arith, low, from))
+over_once routes place a b o q (as_slot _ _ low finds) (not_its_bound cell route from at not) same none = absurd (omega (arith, low, from))
+over_once routes place a b o q (as_slot _ _ low finds) (its_bound cell route bound from at holds) same none = refl
+over_once routes place a b o q (no_copy from) second same none = cc none
+over_once routes place a b o q (no_route cell from at) second same none = cc none
+over_once routes place a b o q (not_its_bound cell route from at not) second same none = cc none
+over_once routes place a b o q (its_bound cell route bound from at holds) (as_slot _ _ low finds) same none = absurd (omega (arith, low, from))
+over_once routes place a b o q (its_bound cell route bound from at holds) (no_copy also) same none = cc same
+over_once routes place a b o q (its_bound cell route bound from at holds) (no_route other also not) same none =
+    let clash : Some route ≡ None = sym at ∙ not in cc clash
+over_once routes place a b o q (its_bound cell route bound from at holds) (not_its_bound other that also there not) same none =
+    let is : cell ≡ other = cc same in
+    let route_is : Some route ≡ Some that = sym at ∙ there in
+    let such : route ≡ that = cc route_is in
+    absurd (not bound (subst (λ (r : Route). HoldsBound other r.id r.direction bound) such
+    (subst (λ (c : List ℕ). HoldsBound c route.id route.direction bound) is holds)))
+over_once routes place a b o q (its_bound cell route bound from at holds) (its_bound other that more also there held) same none = refl
+
+find_once : (routes : Option (List Route)) (place : ℕ) (a b : Option (List ℕ)) (o q : Option (List (List ℕ))) → FindsAt routes place a o
+    → FindsAt routes place b q → a ≡ b → o ≡ None → q ≡ None
+find_once None place a b o q first second same none = good_once place a b o q first second same none
+find_once (Some routes) place a b o q first second same none = over_once routes place a b o q first second same none
+
 -- if nothing is found of some places, nothing is found of them again
-none_again : (what : ℕ → Option (List ℕ)) (i j n m : ℕ) (f g : List (List (List ℕ))) → FindsFrom what i n f → FindsFrom what j m g
-    → i ≡ j → n ≡ m → f ≡ [] → g ≡ []
-none_again what i j n m f g (at_end _) (at_end _) at to none = refl
-none_again what i j n m f g (at_end _) (a_finding _ _ words rest below finds more) at to none = absurd (omega (arith, at, to, below))
-none_again what i j n m f g (at_end _) (nothing _ _ rest below finds more) at to none = absurd (omega (arith, at, to, below))
-none_again what i j n m f g (a_finding _ _ words rest below finds more) second at to none = cc none
-none_again what i j n m f g (nothing _ _ rest below finds more) (at_end _) at to none = absurd (omega (arith, at, to, below))
-none_again what i j n m f g (nothing _ _ rest below finds more) (a_finding _ _ words others low also next) at to none =
+none_again : (routes : Option (List Route)) (what : ℕ → Option (List ℕ)) (i j n m : ℕ) (f g : List (List (List ℕ))) → FindsFrom routes what i n f
+    → FindsFrom routes what j m g → i ≡ j → n ≡ m → f ≡ [] → g ≡ []
+none_again routes what i j n m f g (at_end _) (at_end _) at to none = refl
+none_again routes what i j n m f g (at_end _) (a_finding _ _ words rest below finds more) at to none = absurd (omega (arith, at, to, below))
+none_again routes what i j n m f g (at_end _) (nothing _ _ rest below finds more) at to none = absurd (omega (arith, at, to, below))
+none_again routes what i j n m f g (a_finding _ _ words rest below finds more) second at to none = cc none
+none_again routes what i j n m f g (nothing _ _ rest below finds more) (at_end _) at to none = absurd (omega (arith, at, to, below))
+none_again routes what i j n m f g (nothing _ _ rest below finds more) (a_finding _ _ words others low also next) at to none =
     let clash : Some words ≡ None =
-    good_once i (what i) (what j) None (Some words) finds (subst (λ (k : ℕ). FindsInCell k (what j) (Some words)) (sym at) also) (ap what at) refl in
+    find_once routes i (what i) (what j) None (Some words) finds (subst (λ (k : ℕ). FindsAt routes k (what j) (Some words)) (sym at) also) (ap what at) refl in
     cc clash
-none_again what i j n m f g (nothing _ _ rest below finds more) (nothing _ _ others low also next) at to none =
-    none_again what (1 + i) (1 + j) n m rest others more next (ap (λ (k : ℕ). 1 + k) at) to none
+none_again routes what i j n m f g (nothing _ _ rest below finds more) (nothing _ _ others low also next) at to none =
+    none_again routes what (1 + i) (1 + j) n m rest others more next (ap (λ (k : ℕ). 1 + k) at) to none
+
+-- what is found in the places of a store, if nothing is
+places_once : (routes : Option (List Route)) (x : List ℕ) (found : CountingStore) (f g : List (List (List ℕ))) → FindsInPlaces routes x found f
+    → FindsInPlaces routes x found g → f ≡ [] → g ≡ []
+places_once routes x found f g (of_twin _ twin finds) (of_twin _ also others) none = none_again routes _ 0 0 _ _ f g finds others refl refl none
+places_once routes x found f g (of_twin _ twin finds) (of_log cells _ log stands number others) none = let clash : Twin ≡ Log = sym twin ∙ log in cc clash
+places_once routes x found f g (of_twin _ twin finds) (of_damaged_log place log first) none = let clash : Twin ≡ Log = sym twin ∙ log in cc clash
+places_once routes x found f g (of_log cells _ log stands number finds) (of_twin _ twin others) none = let clash : Twin ≡ Log = sym twin ∙ log in cc clash
+places_once routes x found f g (of_log cells _ log stands number finds) (of_log more _ also stood count others) none =
+    let same : more ≡ cells = stands_once (layout_of found) x more cells stood stands in
+    none_again routes (λ place. Some (slice_index_or cells place [])) 0 0 _ _ f g finds
+    (subst (λ (c : List (List ℕ)). FindsFrom routes (λ place. Some (slice_index_or c place [])) 0 found.cells g) same others) refl refl none
+places_once routes x found f g (of_log cells _ log stands number finds) (of_damaged_log place also first) none =
+    absurd (stands-whole (layout_of found) x cells found.cells place stands number first)
+places_once routes x found f g (of_damaged_log place log first) second none = cc none
+
+no_parts : (a b : List (List (List ℕ))) → a ++ b ≡ [] → (a ≡ []) × (b ≡ [])
+no_parts [] b is = (refl, is)
+no_parts (word ∷ a) b is = cc is
 
 -- what is found in a store, if nothing is
-nothing_once : (x : List ℕ) (found : CountingStore) (f g : List (List (List ℕ))) → FindsInStore x found f → FindsInStore x found g → f ≡ [] → g ≡ []
-nothing_once x found f g (of_twin _ twin finds) (of_twin _ also others) none = none_again _ 0 0 _ _ f g finds others refl refl none
-nothing_once x found f g (of_twin _ twin finds) (of_log cells _ log stands number others) none = let clash : Twin ≡ Log = sym twin ∙ log in cc clash
-nothing_once x found f g (of_twin _ twin finds) (of_damaged_log place log first) none = let clash : Twin ≡ Log = sym twin ∙ log in cc clash
-nothing_once x found f g (of_log cells _ log stands number finds) (of_twin _ twin others) none = let clash : Twin ≡ Log = sym twin ∙ log in cc clash
-nothing_once x found f g (of_log cells _ log stands number finds) (of_log more _ also stood count others) none =
-    let same : more ≡ cells = stands_once (layout_of found) x more cells stood stands in
-    none_again (λ place. Some (slice_index_or cells place [])) 0 0 _ _ f g finds
-    (subst (λ (c : List (List ℕ)). FindsFrom (λ place. Some (slice_index_or c place [])) 0 found.cells g) same others) refl refl none
-nothing_once x found f g (of_log cells _ log stands number finds) (of_damaged_log place also first) none =
-    absurd (stands-whole (layout_of found) x cells found.cells place stands number first)
-nothing_once x found f g (of_damaged_log place log first) second none = cc none
+nothing_once : (routes : Option (List Route)) (x : List ℕ) (found : CountingStore) (f g : List (List (List ℕ))) → FindsInStore routes x found f
+    → FindsInStore routes x found g → f ≡ [] → g ≡ []
+nothing_once routes x found f g first second none =
+    let (no_place, no_route_lacks) = no_parts first.of_places (lacking_lines routes found.cells) (sym first.all ∙ none) in
+    let none_placed = places_once routes x found first.of_places second.of_places first.finds second.finds no_place in
+    second.all ∙ ap (λ (l : List (List (List ℕ))). l ++ lacking_lines routes found.cells) none_placed ∙ no_route_lacks
 
-checked_once : (x text other : List ℕ) (f g : List (List (List ℕ))) → ChecksStore x f text → ChecksStore x g other → f ≡ [] → g ≡ []
-checked_once x text other f g first second none =
-    nothing_once x first.found f g first.finds
-    (subst (λ (s : CountingStore). FindsInStore x s g) (same_found x second.found first.found second.counts first.counts) second.finds) none
+pub checked_once : (routes : Option (List Route)) (x text other : List ℕ) (f g : List (List (List ℕ))) → ChecksStore routes x f text
+    → ChecksStore routes x g other → f ≡ [] → g ≡ []
+checked_once routes x text other f g first second none =
+    nothing_once routes x first.found f g first.finds
+    (subst (λ (s : CountingStore). FindsInStore routes x s g) (same_found x second.found first.found second.counts first.counts) second.finds) none
 
 -- ---- replies
 
@@ -209,8 +253,9 @@ task_status x asked row (not_checked _ none) = inr (inr (no_store_row x row none
 task_status x asked row (rows.replied a _ replies) = reply_status x a row replies
 
 -- the bytes have a store that can be checked
-check_clash : (x text : List ℕ) (findings : List (List (List ℕ))) (row : Row) → ChecksStore x findings text → NoStoreIn x row → ⊥
-check_clash x text findings row checks none = has_store x checks.found row checks.counts checks.wide checks.room none
+pub check_clash : (routes : Option (List Route)) (x text : List ℕ) (findings : List (List (List ℕ))) (row : Row)
+    → ChecksStore routes x findings text → NoStoreIn x row → ⊥
+check_clash routes x text findings row checks none = has_store x checks.found row checks.counts checks.wide checks.room none
 
 list_clash : (x text : List ℕ) (row : Row) → ListsStore x text → IsUnreadable x row → ⊥
 list_clash x text row lists not = held_read x lists.found lists.cells row lists.holds not
@@ -234,20 +279,20 @@ does_once x asked also row other (found_nothing text checks) (listed text' lists
 does_once x asked also row other (found_nothing text checks) (not_listed _ not) same = cc same
 does_once x asked also row other (found_nothing text checks) (found_nothing text' checks') same = refl
 does_once x asked also row other (found_nothing text checks) (rows.found findings text' some checks') same =
-    absurd (some (checked_once x text text' [] findings checks checks' refl))
-does_once x asked also row other (found_nothing text checks) (not_checked _ none) same = absurd (check_clash x text [] other checks none)
+    absurd (some (checked_once None x text text' [] findings checks checks' refl))
+does_once x asked also row other (found_nothing text checks) (not_checked _ none) same = absurd (check_clash None x text [] other checks none)
 does_once x asked also row other (found_nothing text checks) (rows.replied a _ replies) same = cc same
 does_once x asked also row other (rows.found findings text some checks) (listed text' lists) same = cc same
 does_once x asked also row other (rows.found findings text some checks) (not_listed _ not) same = cc same
 does_once x asked also row other (rows.found findings text some checks) (found_nothing text' checks') same =
-    absurd (some (checked_once x text' text [] findings checks' checks refl))
+    absurd (some (checked_once None x text' text [] findings checks' checks refl))
 does_once x asked also row other (rows.found findings text some checks) (rows.found findings' text' some' checks') same = refl
-does_once x asked also row other (rows.found findings text some checks) (not_checked _ none) same = absurd (check_clash x text findings other checks none)
+does_once x asked also row other (rows.found findings text some checks) (not_checked _ none) same = absurd (check_clash None x text findings other checks none)
 does_once x asked also row other (rows.found findings text some checks) (rows.replied a _ replies) same = cc same
 does_once x asked also row other (not_checked _ none) (listed text lists) same = cc same
 does_once x asked also row other (not_checked _ none) (not_listed _ not) same = cc same
-does_once x asked also row other (not_checked _ none) (found_nothing text checks) same = absurd (check_clash x text [] row checks none)
-does_once x asked also row other (not_checked _ none) (rows.found findings text some checks) same = absurd (check_clash x text findings row checks none)
+does_once x asked also row other (not_checked _ none) (found_nothing text checks) same = absurd (check_clash None x text [] row checks none)
+does_once x asked also row other (not_checked _ none) (rows.found findings text some checks) same = absurd (check_clash None x text findings row checks none)
 does_once x asked also row other (not_checked _ none) (not_checked _ not) same = no_store_row x row none ∙ sym (no_store_row x other not)
 does_once x asked also row other (not_checked _ none) (rows.replied a _ replies) same = cc same
 does_once x asked also row other (rows.replied a _ replies) (listed text lists) same = cc same

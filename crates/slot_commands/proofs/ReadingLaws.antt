@@ -1,5 +1,5 @@
 -- Why a store isn't found in bytes, or isn't read
-use Rattle.std.proofs.Common.{◌≡◌, ◌⊎◌, ◌∙◌, ℕ, ◌<◌, ◌≤◌, List, [], ◌∷◌, ◌++◌, length, refl, sym, ap, subst, inl, inr, arith, lit<, codes, append-nil}
+use Rattle.std.proofs.Common.{◌≡◌, ◌⊎◌, ◌∙◌, ℕ, ◌<◌, ◌≤◌, List, [], ◌∷◌, ◌++◌, length, refl, sym, ap, subst, inl, inr, arith, lit<, append-nil}
 use Rattle.std.specs.Prelude.{Result, Ok, Err, OnOk, IfErr, Option, Some, None, ◌^◌, ◌-◌, slice_index_or, take, drop}
 use Rattle.cut_disk.specs.State.{DiskState, Told}
 use Rattle.cut_disk.specs.Images.{firm}
@@ -16,14 +16,15 @@ use Rattle.cell_store.specs.Layout.{base, from_base}
 use Rattle.cell_store.specs.Twin.{cell_at, twin_size}
 use Rattle.cell_store.specs.Store.{HasHeader, FirstDamaged, size_from_base, store_size}
 use Rattle.cell_store.specs.Cells.{CellsState}
+use Rattle.freshness_routes.specs.declared.routes.Route.{Route}
 use Rattle.program_edge.specs.Rows.{Row, memory_row}
 use Rattle.key_commands.specs.declared.finding.CountingStore.{CountingStore}
 use Rattle.key_commands.specs.Counting.{StoreThatCounts, moved_up, not_moved, only_second, no_store}
 use Rattle.key_commands.specs.Finding.{NotLooked, no_header, not_read}
 use Rattle.key_commands.specs.Opening.{TellsStoreFault, layout_of, few_cells_row, fault_row}
-use Rattle.slot_commands.specs.StoreWords.{cell_words}
+use Rattle.slot_commands.specs.StoreWords.{damaged_place_words}
 use Rattle.slot_commands.specs.Cells.{slot_count}
-use Rattle.slot_commands.specs.Checked.{PushesDamage, PushesFindings, PushesFound}
+use Rattle.slot_commands.specs.Checked.{PushesDamage, PushesFindings, PushesPlaces}
 use Rattle.slot_commands.specs.StillDisks.{IsStill, HasFound}
 use Rattle.slot_commands.specs.Stores.{HoldsStore, NoStoreIn, IsUnreadable, of_twin, of_log, of_damaged_log, written_lines}
 use Rattle.slot_commands.specs.Stores as stores
@@ -117,11 +118,11 @@ module _ (x : List ℕ) (found : CountingStore) (before after : DiskState) (has 
   ]
 
   -- the first damaged place of a log store is what a check finds
-  damaged_found : (n : ℕ) (to : ℕ → ℕ) (fault : StoreFault) (place : ℕ) (old new : List ℕ) → found.kind ≡ Log
+  damaged_found : (routes : Option (List Route)) (n : ℕ) (to : ℕ → ℕ) (fault : StoreFault) (place : ℕ) (old new : List ℕ) → found.kind ≡ Log
       → NotAttached (layout_of found) n to found.cells before after fault → fault ≡ store.Damaged place
-      → new ≡ old ++ written (cell_words place (codes "Damaged")) → PushesFound x found old new
-  damaged_found n to fault place old new log not is more =
-      let words = cell_words place (codes "Damaged") in (
+      → new ≡ old ++ written (damaged_place_words place) → PushesPlaces routes x found old new
+  damaged_found routes n to fault place old new log not is more =
+      let words = damaged_place_words place in (
         words ∷ [],
         of_damaged_log place log ((subst (NotAttached (layout_of found) n to found.cells before after) is not).finds (firm x) has.still.told).1,
         more ∙ ap (λ (l : List ℕ). old ++ l) (sym (append-nil (written words))),
@@ -134,11 +135,11 @@ module _ (x : List ℕ) (found : CountingStore) (before after : DiskState) (has 
     | inr memory ↦ subst (λ (f : StoreFault). TellsStoreFault f row) memory is
   ]
 
-  pub damage_pushed : (n : ℕ) (to : ℕ → ℕ) (fault : StoreFault) (old new : List ℕ) (result : Result (Unit {0}) Row) → found.kind ≡ Log
-      → NotAttached (layout_of found) n to found.cells before after fault → PushesDamage fault old new result
-      → OnOk result (PushesFound x found old new)
-  damage_pushed n to fault old new (Ok done) log not (place, is, more) = damaged_found n to fault place old new log not is more
-  damage_pushed n to fault old new (Err row) log not pushes = tt
+  pub damage_pushed : (routes : Option (List Route)) (n : ℕ) (to : ℕ → ℕ) (fault : StoreFault) (old new : List ℕ) (result : Result (Unit {0}) Row)
+      → found.kind ≡ Log → NotAttached (layout_of found) n to found.cells before after fault → PushesDamage fault old new result
+      → OnOk result (PushesPlaces routes x found old new)
+  damage_pushed routes n to fault old new (Ok done) log not (place, is, more) = damaged_found routes n to fault place old new log not is more
+  damage_pushed routes n to fault old new (Err row) log not pushes = tt
 
   pub damage_refused : (n : ℕ) (to : ℕ → ℕ) (fault : StoreFault) (old new : List ℕ) (result : Result (Unit {0}) Row)
       → NotAttached (layout_of found) n to found.cells before after fault → PushesDamage fault old new result
@@ -149,19 +150,19 @@ module _ (x : List ℕ) (found : CountingStore) (before after : DiskState) (has 
 
 -- ---- what a check finds of all cells
 
-pub twin_found : (x : List ℕ) (found : CountingStore) (store : List ℕ) (old new : List ℕ) → found.kind ≡ Twin
+pub twin_found : (routes : Option (List Route)) (x : List ℕ) (found : CountingStore) (store : List ℕ) (old new : List ℕ) → found.kind ≡ Twin
     → store ≡ from_base found.version x
-    → PushesFindings (cell_at store) found.cells old new → PushesFound x found old new
-twin_found x found store old new twin is (findings, finds, more) = (
+    → PushesFindings routes (cell_at store) found.cells old new → PushesPlaces routes x found old new
+twin_found routes x found store old new twin is (findings, finds, more) = (
   findings,
-  of_twin findings twin (subst (λ (s : List ℕ). stores.FindsFrom (cell_at s) 0 found.cells findings) is finds),
+  of_twin findings twin (subst (λ (s : List ℕ). stores.FindsFrom routes (cell_at s) 0 found.cells findings) is finds),
   more,
 )
 
-pub log_found : {n : ℕ} (x : List ℕ) (found : CountingStore) (before : DiskState) (s : CellsState) (old new : List ℕ) → found.kind ≡ Log
+pub log_found : {n : ℕ} (routes : Option (List Route)) (x : List ℕ) (found : CountingStore) (before : DiskState) (s : CellsState) (old new : List ℕ) → found.kind ≡ Log
     → HasFound x found before → Attached (layout_of found) n found.cells before s
-    → PushesFindings (λ place. Some (slice_index_or s.cells place [])) found.cells old new → PushesFound x found old new
-log_found x found before s old new log has a (findings, finds, more) =
+    → PushesFindings routes (λ place. Some (slice_index_or s.cells place [])) found.cells old new → PushesPlaces routes x found old new
+log_found routes x found before s old new log has a (findings, finds, more) =
     (findings, of_log s.cells findings log (a.stands (firm x) has.still.told) a.count finds, more)
 
 -- the part of the bytes where a twin store stands has room for it

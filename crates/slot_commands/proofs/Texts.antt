@@ -26,6 +26,17 @@ more_spaced old words word =
     ∙ ap (λ (l : List ℕ). old ++ (spaced words ++ 32 ∷ l)) (sym (append-nil word))
     ∙ ap (λ (l : List ℕ). old ++ l) (sym (spaced-append words (word ∷ [])))
 
+-- a line of four words
+pub four_words : (old word a b c t0 t1 t2 t3 t4 : List ℕ) → t0 ≡ old ++ word → t1 ≡ t0 ++ 32 ∷ a → t2 ≡ t1 ++ 32 ∷ b → t3 ≡ t2 ++ 32 ∷ c
+    → t4 ≡ t3 ++ 10 ∷ [] → t4 ≡ old ++ written (word ∷ a ∷ b ∷ c ∷ [])
+four_words old word a b c t0 t1 t2 t3 t4 o p q r s =
+    let front : List ℕ = old ++ word in
+    let one : t1 ≡ front ++ spaced (a ∷ []) =
+    p ∙ ap (λ (l : List ℕ). l ++ 32 ∷ a) o ∙ ap (λ (l : List ℕ). front ++ 32 ∷ l) (sym (append-nil a)) in
+    let two : t2 ≡ front ++ spaced (a ∷ b ∷ []) = q ∙ ap (λ (l : List ℕ). l ++ 32 ∷ b) one ∙ more_spaced front (a ∷ []) b in
+    let three : t3 ≡ front ++ spaced (a ∷ b ∷ c ∷ []) = r ∙ ap (λ (l : List ℕ). l ++ 32 ∷ c) two ∙ more_spaced front (a ∷ b ∷ []) c in
+    s ∙ ap (λ (l : List ℕ). l ++ 10 ∷ []) three ∙ line_added old word (a ∷ b ∷ c ∷ [])
+
 -- a line of five words
 pub five_words : (old word a b c d t0 t1 t2 t3 t4 t5 : List ℕ) → t0 ≡ old ++ word → t1 ≡ t0 ++ 32 ∷ a → t2 ≡ t1 ++ 32 ∷ b
     → t3 ≡ t2 ++ 32 ∷ c → t4 ≡ t3 ++ 32 ∷ d → t5 ≡ t4 ++ 10 ∷ [] → t5 ≡ old ++ written (word ∷ a ∷ b ∷ c ∷ d ∷ [])

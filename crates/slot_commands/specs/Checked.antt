@@ -1,41 +1,47 @@
 -- What a check found, and whether it found nothing
-use Rattle.std.specs.Prelude.{ℕ, ◌↔◌, ◌≡◌, ◌⊎◌, ◌++◌, Bool, List, [], IsTrue, Option, None, Some, codes}
+use Rattle.std.specs.Prelude.{ℕ, ◌↔◌, ◌≡◌, ◌⊎◌, ◌++◌, Bool, List, [], IsTrue, Option, None, Some}
 use Rattle.std.specs.Prelude.{Result, Ok, Err}
 use Rattle.cell_store.specs.declared.faults.StoreFault.{StoreFault}
 use Rattle.cell_store.specs.declared.faults.StoreFault.TheVariants as store
 use Rattle.program_edge.specs.Rows.{Row, memory_row}
 use Rattle.key_commands.specs.Opening.{TellsStoreFault}
-use Rattle.slot_commands.specs.StoreWords.{cell_words}
+use Rattle.slot_commands.specs.StoreWords.{damaged_place_words}
 use Rattle.text_lines.specs.Written.{written}
-use Rattle.slot_commands.specs.Cells.{FindsInCell}
+use Rattle.freshness_routes.specs.declared.routes.Route.{Route}
+use Rattle.slot_commands.specs.RouteFindings.{FindsAt}
 use Rattle.key_commands.specs.declared.finding.CountingStore.{CountingStore}
-use Rattle.slot_commands.specs.Stores.{FindsFrom, FindsInStore, ChecksStore, written_lines}
+use Rattle.slot_commands.specs.Stores.{FindsFrom, FindsInPlaces, FindsInStore, ChecksStore, written_lines}
 
 -- the text of a check over these bytes, and whether nothing was found
-abbrev pub Checked : List ℕ → List ℕ → Bool → Type 0
-Checked x text good =
-    (findings : List (List (List ℕ))) × ChecksStore x findings text × (IsTrue good ↔ (findings ≡ []))
+abbrev pub Checked : Option (List Route) → List ℕ → List ℕ → Bool → Type 0
+Checked routes x text good =
+    (findings : List (List (List ℕ))) × ChecksStore routes x findings text × (IsTrue good ↔ (findings ≡ []))
 
 -- the lines of what is found of places were added: `what` says what stands at each, from the first on, of n
-abbrev pub PushesFindings : (ℕ → Option (List ℕ)) → ℕ → List ℕ → List ℕ → Type 0
-PushesFindings what n old new =
-    (findings : List (List (List ℕ))) × FindsFrom what 0 n findings × (new ≡ old ++ written_lines findings)
+abbrev pub PushesFindings : Option (List Route) → (ℕ → Option (List ℕ)) → ℕ → List ℕ → List ℕ → Type 0
+PushesFindings routes what n old new =
+    (findings : List (List (List ℕ))) × FindsFrom routes what 0 n findings × (new ≡ old ++ written_lines findings)
 
--- the lines of what is found in a store were added
-abbrev pub PushesFound : List ℕ → CountingStore → List ℕ → List ℕ → Type 0
-PushesFound x found old new =
-    (findings : List (List (List ℕ))) × FindsInStore x found findings × (new ≡ old ++ written_lines findings)
+-- the lines of what is found in the places of a store were added
+abbrev pub PushesPlaces : Option (List Route) → List ℕ → CountingStore → List ℕ → List ℕ → Type 0
+PushesPlaces routes x found old new =
+    (findings : List (List (List ℕ))) × FindsInPlaces routes x found findings × (new ≡ old ++ written_lines findings)
+
+-- the lines of all that is found in a store were added
+abbrev pub PushesFound : Option (List Route) → List ℕ → CountingStore → List ℕ → List ℕ → Type 0
+PushesFound routes x found old new =
+    (findings : List (List (List ℕ))) × FindsInStore routes x found findings × (new ≡ old ++ written_lines findings)
 
 -- what stands at a place has a finding, whose line was added; or none, and nothing was
-abbrev pub PushesFinding : ℕ → Option (List ℕ) → List ℕ → List ℕ → Type 0
-PushesFinding place there old new =
-    ((words : List (List ℕ)) × FindsInCell place there (Some words) × (new ≡ old ++ written words))
-    ⊎ (FindsInCell place there None × (new ≡ old))
+abbrev pub PushesFinding : Option (List Route) → ℕ → Option (List ℕ) → List ℕ → List ℕ → Type 0
+PushesFinding routes place there old new =
+    ((words : List (List ℕ)) × FindsAt routes place there (Some words) × (new ≡ old ++ written words))
+    ⊎ (FindsAt routes place there None × (new ≡ old))
 
 -- the line of a damaged place was added, if this is the fault; of another fault the row that says it comes. Out of
 -- memory may come of each
 abbrev pub PushesDamage : StoreFault → List ℕ → List ℕ → Result (Unit {0}) Row → Type 0
 PushesDamage fault old new (Ok done) =
-    (place : ℕ) × (fault ≡ store.Damaged place) × (new ≡ old ++ written (cell_words place (codes "Damaged")))
+    (place : ℕ) × (fault ≡ store.Damaged place) × (new ≡ old ++ written (damaged_place_words place))
 PushesDamage fault old new (Err row) =
     (row ≡ memory_row) ⊎ (TellsStoreFault fault row × ((place : ℕ) → ¬ (fault ≡ store.Damaged place)))

@@ -1,6 +1,7 @@
 pub mod StoreWords
 pub mod Cells
 pub mod Meanings
+pub mod RouteFindings
 pub mod Stores
 pub mod StillDisks
 pub mod KeysApart

@@ -22,10 +22,14 @@ abbrev pub version_number : Version → ℕ
 version_number One = 1
 version_number Two = 2
 
+-- `NAME KIND VERSION CELLS`
+abbrev pub store_line_words : List ℕ → Kind → Version → ℕ → List (List ℕ)
+store_line_words name kind version cells =
+    name ∷ kind_word kind ∷ decimal (version_number version) ∷ decimal cells ∷ []
+
 -- `store KIND VERSION CELLS`
 abbrev pub store_words : Kind → Version → ℕ → List (List ℕ)
-store_words kind version cells =
-    codes "store" ∷ kind_word kind ∷ decimal (version_number version) ∷ decimal cells ∷ []
+store_words kind version cells = store_line_words (codes "store") kind version cells
 
 -- the name if the flag is set
 abbrev pub named_if : Bool → List ℕ → List (List ℕ)
@@ -61,3 +65,7 @@ bound_words cell id direction bound =
 -- `cell CELL CAUSE`
 abbrev pub cell_words : ℕ → List ℕ → List (List ℕ)
 cell_words cell cause = codes "cell" ∷ decimal cell ∷ cause ∷ []
+
+-- `place PLACE Damaged`: of a log store, 0 if no bank counts, and P if its record P - 1 is damaged
+abbrev pub damaged_place_words : ℕ → List (List ℕ)
+damaged_place_words place = codes "place" ∷ decimal place ∷ codes "Damaged" ∷ []

@@ -1,19 +1,21 @@
 -- What bytes are as the store of a unit: the list of what it holds, what is wrong with it, or why they are no store
 use Rattle.std.specs.Prelude.{◌≡◌, ℕ, ◌+◌, ◌<◌, ◌≤◌, Option, Some, None, List, [], ◌∷◌}
-use Rattle.std.specs.Prelude.{length, slice_index_or, codes}
+use Rattle.std.specs.Prelude.{length, slice_index_or, ◌++◌}
 use Rattle.std.specs.List.{flat_map}
 use Rattle.cell_store.specs.declared.kinds.Kind.TheVariants.{Twin, Log}
 use Rattle.cell_store.specs.declared.faults.StoreFault.TheVariants as store
 use Rattle.cell_store.specs.Layout.{from_base}
 use Rattle.cell_store.specs.Store.{FirstDamaged, Stands, store_size}
 use Rattle.cell_store.specs.Twin.{cell_at}
+use Rattle.freshness_routes.specs.declared.routes.Route.{Route}
 use Rattle.program_edge.specs.Rows.{Row}
 use Rattle.text_lines.specs.Written.{written}
 use Rattle.key_commands.specs.declared.finding.CountingStore.{CountingStore}
 use Rattle.key_commands.specs.Counting.{StoreThatCounts}
 use Rattle.key_commands.specs.Opening.{layout_of, fault_row, few_cells_row}
-use Rattle.slot_commands.specs.StoreWords.{store_words, cell_words}
-use Rattle.slot_commands.specs.Cells.{slot_count, SaysCell, FindsInCell}
+use Rattle.slot_commands.specs.StoreWords.{store_words, damaged_place_words}
+use Rattle.slot_commands.specs.Cells.{slot_count, SaysCell}
+use Rattle.slot_commands.specs.RouteFindings.{FindsAt, lacking_lines}
 
 -- the first line of a list and of a check
 abbrev pub head_words : CountingStore → List (List ℕ)
@@ -64,34 +66,47 @@ pub data IsUnreadable (x : List ℕ) : Row → Type 0 where
       → store_size (layout_of found) found.cells ≤ length x
       → FirstDamaged (layout_of found) x found.cells place → IsUnreadable x (fault_row (store.Damaged place))
 
--- ---- a check
+-- ---- a check, by itself or over the routes of the unit's node
 
 -- the findings of the places from one on, in their order: `what` says what stands at a place
-pub data FindsFrom (what : ℕ → Option (List ℕ)) : ℕ → ℕ → List (List (List ℕ)) → Type 0 where
-  at_end : (n : ℕ) → FindsFrom what n n []
+pub data FindsFrom (routes : Option (List Route)) (what : ℕ → Option (List ℕ))
+    : ℕ → ℕ → List (List (List ℕ)) → Type 0 where
+  at_end : (n : ℕ) → FindsFrom routes what n n []
   a_finding : (place n : ℕ) (words : List (List ℕ)) (rest : List (List (List ℕ))) → place < n
-      → FindsInCell place (what place) (Some words) → FindsFrom what (1 + place) n rest
-      → FindsFrom what place n (words ∷ rest)
+      → FindsAt routes place (what place) (Some words) → FindsFrom routes what (1 + place) n rest
+      → FindsFrom routes what place n (words ∷ rest)
   nothing : (place n : ℕ) (rest : List (List (List ℕ))) → place < n
-      → FindsInCell place (what place) None → FindsFrom what (1 + place) n rest → FindsFrom what place n rest
+      → FindsAt routes place (what place) None → FindsFrom routes what (1 + place) n rest
+      → FindsFrom routes what place n rest
 
--- What a check finds in a store. In a twin store each cell has its copies, and each is looked at. In a log store the
--- cells stand in one bank and its records: if a place of it is damaged there is no list, and that place is the finding.
-pub data FindsInStore (x : List ℕ) (found : CountingStore) : List (List (List ℕ)) → Type 0 where
+-- What a check finds in the places of a store. In a twin store each cell has its copies, and each is looked at. In a
+-- log store the cells stand in one bank and its records: if a place of it is damaged there is no list, and that place is
+-- the finding.
+pub data FindsInPlaces (routes : Option (List Route)) (x : List ℕ) (found : CountingStore)
+    : List (List (List ℕ)) → Type 0 where
   of_twin : (findings : List (List (List ℕ))) → found.kind ≡ Twin
-      → FindsFrom (cell_at (from_base found.version x)) 0 found.cells findings → FindsInStore x found findings
+      → FindsFrom routes (cell_at (from_base found.version x)) 0 found.cells findings
+      → FindsInPlaces routes x found findings
   of_log : (cells : List (List ℕ)) (findings : List (List (List ℕ))) → found.kind ≡ Log
       → Stands (layout_of found) x cells → length cells ≡ found.cells
-      → FindsFrom (λ place. Some (slice_index_or cells place [])) 0 found.cells findings
-      → FindsInStore x found findings
+      → FindsFrom routes (λ place. Some (slice_index_or cells place [])) 0 found.cells findings
+      → FindsInPlaces routes x found findings
   of_damaged_log : (place : ℕ) → found.kind ≡ Log → FirstDamaged (layout_of found) x found.cells place
-      → FindsInStore x found (cell_words place (codes "Damaged") ∷ [])
+      → FindsInPlaces routes x found (damaged_place_words place ∷ [])
+
+-- all that it finds: of each place, and then each route that has no cell
+pub record FindsInStore (routes : Option (List Route)) (x : List ℕ) (found : CountingStore)
+    (findings : List (List (List ℕ))) : Type 0 where
+  pub of_places : List (List (List ℕ))
+  pub finds : FindsInPlaces routes x found of_places
+  pub all : findings ≡ of_places ++ lacking_lines routes found.cells
 
 -- the text of `slots check` over these bytes, and what it finds
-pub record ChecksStore (x : List ℕ) (findings : List (List (List ℕ))) (text : List ℕ) : Type 0 where
+pub record ChecksStore (routes : Option (List Route)) (x : List ℕ) (findings : List (List (List ℕ)))
+    (text : List ℕ) : Type 0 where
   pub found : CountingStore
   pub counts : StoreThatCounts x (Some found)
   pub wide : slot_count ≤ found.cells
   pub room : store_size (layout_of found) found.cells ≤ length x
-  pub finds : FindsInStore x found findings
+  pub finds : FindsInStore routes x found findings
   pub text_is : text ≡ written_lines (head_words found ∷ findings)

@@ -5,7 +5,7 @@ ghost use Rattle.freshness_store.specs.Bound.{direction_number};
 ghost use Rattle.text_lines.specs.Written.{written};
 ghost use Rattle.text_lines.specs.Spaced.{spaced};
 ghost use Rattle.slot_commands.specs.StoreWords.{slot_words, bound_words, cell_words, flag_names, named_if};
-ghost use Rattle.slot_commands.specs.StoreWords.{slot_state_words, direction_word};
+ghost use Rattle.slot_commands.specs.StoreWords.{slot_state_words, direction_word, damaged_place_words};
 ghost use Rattle.slot_commands.specs.Cells.{slot_count};
 ghost use Rattle.slot_commands.specs.Meanings.{Means, PushesMeaning};
 
@@ -106,6 +106,16 @@ pub fn push_bad(text: &mut Vec<u8>, place: u16, fault: &[u8]) -> Result<(), Allo
     end_line(text)
 }
 
+/// Adds the line of a damaged place of a log store.
+pub fn push_damaged_place(text: &mut Vec<u8>, place: u16) -> Result<(), AllocError>
+    ensures { OnOk result (text.new.items ≡ text.old.items ++ written (damaged_place_words place)) }
+{
+    text.extend_from_slice(b"place")?;
+    push_number(text, u32::from(place))?;
+    push_word(text, b"Damaged")?;
+    end_line(text)
+}
+
 fn push_slot(text: &mut Vec<u8>, place: u16, slot: &Slot) -> Result<(), AllocError>
     ensures { OnOk result (text.new.items ≡ text.old.items ++ written (slot_words place slot.now)) }
 {
@@ -164,7 +174,8 @@ fn push_bound(
     end_line(text)
 }
 
-fn direction_name(direction: Direction) -> &'static [u8]
+/// The word of a direction.
+pub fn direction_name(direction: Direction) -> &'static [u8]
     ensures { result.now ≡ direction_word direction }
 {
     match direction {

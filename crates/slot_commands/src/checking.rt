@@ -1,5 +1,6 @@
 //! Which cells of a store are damaged or another's.
-ghost use Rattle.std.specs.Prelude.{◌≡◌, ◌<◌, ◌≤◌, ◌⊎◌, ◌+◌, ◌^◌, [], length, slice_index_or, Some, OnOk, IfOk, IfErr};
+ghost use Rattle.std.specs.Prelude.{◌≡◌, ◌<◌, ◌≤◌, ◌⊎◌, ◌+◌, ◌^◌, [], length, slice_index_or, Some, None, OnOk, IfOk};
+ghost use Rattle.std.specs.Prelude.{IfErr, option_map};
 ghost use Rattle.any_cells.specs.Either.{any_state};
 ghost use Rattle.cell_store.specs.declared.kinds.Kind.TheVariants.{Twin, Log};
 ghost use Rattle.cell_store.specs.Layout.{from_base};
@@ -8,33 +9,41 @@ ghost use Rattle.cut_disk.specs.Memory.{disk_of};
 ghost use Rattle.cut_disk.specs.MemDisk.{contents};
 ghost use Rattle.program_edge.specs.Rows.{memory_row};
 ghost use Rattle.slot_commands.specs.Checked.{Checked, PushesDamage, PushesFinding, PushesFindings, PushesFound};
+ghost use Rattle.slot_commands.specs.Checked.{PushesPlaces};
 ghost use Rattle.slot_commands.specs.StillDisks.{HasFound};
 ghost use Rattle.slot_commands.specs.Stores.{NoStoreIn, head_words};
 ghost use Rattle.text_lines.specs.Written.{written};
 
-use crate::cells::{Meaning, meaning_of, push_bad};
+use crate::cells::{Meaning, meaning_of, push_bad, push_damaged_place};
 use crate::listing::push_head;
+use crate::over_routes::{push_lacking, push_over_routes};
 use crate::reading::store_in;
 use crate::refusals::store_refusal;
 use any_cells::AnyCells;
 use cell_store::{Cells, Kind, StoreFault};
 use cut_disk::MemDisk;
+use freshness_routes::Route;
 use key_commands::CountingStore;
 use program_edge::Refusal;
 use std::alloc::{AllocError, Global};
 use store_plan::cell_in;
 
 /// The text of what is wrong with the cells of the store in these bytes, and whether nothing is. The first line is that
-/// of a list. Errors: 9 and the first cause why no store counts there, or 7 if memory is out.
-pub fn check_bytes(alloc: Global, bytes: &[u8]) -> Result<(Vec<u8>, bool), Refusal>
+/// of a list. If the routes of the unit's node are given, each cell after the slots is to hold the bound of its route,
+/// and each route is to have one. Errors: 9 and the first cause why no store counts there, or 7 if memory is out.
+pub fn check_bytes(
+    alloc: Global,
+    bytes: &[u8],
+    routes: Option<&[Route]>,
+) -> Result<(Vec<u8>, bool), Refusal>
     requires { length bytes.now ≤ 2 ^ 24 }
-    ensures checked { IfOk result (λ r. Checked bytes.now r.0.items r.1) }
+    ensures checked { IfOk result (λ r. Checked (option_map (λ r. r.now) routes.entry) bytes.now r.0.items r.1) }
     ensures refused { IfErr result (λ row. NoStoreIn bytes.now row ⊎ (row ≡ memory_row)) }
 {
     let (found, disk) = store_in(alloc, bytes)?;
     let mut text = Vec::new(alloc);
     match push_head(&mut text, found) {
-        Ok(()) => findings_text(alloc, text, bytes, found, disk),
+        Ok(()) => findings_text(alloc, text, bytes, found, disk, routes),
         Err(AllocError) => Err(Refusal::no_memory()),
     }
 }
@@ -46,14 +55,15 @@ fn findings_text(
     bytes: &[u8],
     found: CountingStore,
     disk: MemDisk,
+    routes: Option<&[Route]>,
 ) -> Result<(Vec<u8>, bool), Refusal>
     requires found { HasFound bytes.now found (disk_of (contents disk)) }
     requires head { text.items ≡ written (head_words found) }
-    ensures checked { IfOk result (λ r. Checked bytes.now r.0.items r.1) }
+    ensures checked { IfOk result (λ r. Checked (option_map (λ r. r.now) routes.entry) bytes.now r.0.items r.1) }
     ensures refused { IfErr result (λ row. row ≡ memory_row) }
 {
     let head = text.len();
-    push_findings(alloc, &mut text, bytes, found, disk)?;
+    push_findings(alloc, &mut text, bytes, found, disk, routes)?;
     let good = text.len() == head;
     Ok((text, good))
 }
@@ -65,44 +75,79 @@ fn push_findings(
     bytes: &[u8],
     found: CountingStore,
     disk: MemDisk,
+    routes: Option<&[Route]>,
 ) -> Result<(), Refusal>
     requires { HasFound bytes.now found (disk_of (contents disk)) }
-    ensures found { OnOk result (PushesFound bytes.now found text.old.items text.new.items) }
+    ensures found { OnOk result (PushesFound (option_map (λ r. r.now) routes.entry) bytes.now found
+        text.old.items text.new.items) }
+    ensures refused { IfErr result (λ row. row ≡ memory_row) }
+{
+    push_place_findings(alloc, text, bytes, found, disk, routes)?;
+    match push_lacking(text, found.cells, routes) {
+        Ok(()) => Ok(()),
+        Err(AllocError) => Err(Refusal::no_memory()),
+    }
+}
+
+/// Adds a line for each place of the store at which something is wrong. The disk has the bytes.
+fn push_place_findings(
+    alloc: Global,
+    text: &mut Vec<u8>,
+    bytes: &[u8],
+    found: CountingStore,
+    disk: MemDisk,
+    routes: Option<&[Route]>,
+) -> Result<(), Refusal>
+    requires { HasFound bytes.now found (disk_of (contents disk)) }
+    ensures found { OnOk result (PushesPlaces (option_map (λ r. r.now) routes.entry) bytes.now found
+        text.old.items text.new.items) }
     ensures refused { IfErr result (λ row. row ≡ memory_row) }
 {
     match found.kind {
         Kind::Twin => {
             let base = found.version.base() as usize;
             let store = &bytes[base..];
-            match push_twin_findings(text, store, found.cells) {
+            match push_twin_findings(text, store, found.cells, routes) {
                 Ok(()) => Ok(()),
                 Err(AllocError) => Err(Refusal::no_memory()),
             }
         }
-        Kind::Log => push_log_findings(alloc, text, bytes, found, disk),
+        Kind::Log => push_log_findings(alloc, text, bytes, found, disk, routes),
     }
 }
 
 /// Adds a line for each cell of a twin store that has no copy that counts, or is another's.
-fn push_twin_findings(text: &mut Vec<u8>, store: &[u8], cells: u16) -> Result<(), AllocError>
+fn push_twin_findings(
+    text: &mut Vec<u8>,
+    store: &[u8],
+    cells: u16,
+    routes: Option<&[Route]>,
+) -> Result<(), AllocError>
     requires few { cells ≤ 1024 }
     requires room { twin_size cells ≤ length store.now }
-    ensures { OnOk result (PushesFindings (cell_at store.now) cells text.old.items text.new.items) }
+    ensures { OnOk result (PushesFindings (option_map (λ r. r.now) routes.entry) (cell_at store.now) cells
+        text.old.items text.new.items) }
 {
     for place in 0..cells {
-        push_twin_finding(text, store, place)?;
+        push_twin_finding(text, store, place, routes)?;
     }
     Ok(())
 }
 
 /// Adds a line if no copy of this cell counts, or it holds nothing that its place may hold.
-fn push_twin_finding(text: &mut Vec<u8>, store: &[u8], place: u16) -> Result<(), AllocError>
+fn push_twin_finding(
+    text: &mut Vec<u8>,
+    store: &[u8],
+    place: u16,
+    routes: Option<&[Route]>,
+) -> Result<(), AllocError>
     requires few { place < 1024 }
     requires room { twin_size (place + 1) ≤ length store.now }
-    ensures { OnOk result (PushesFinding place (cell_at store.now place) text.old.items text.new.items) }
+    ensures { OnOk result (PushesFinding (option_map (λ r. r.now) routes.entry) place (cell_at store.now place)
+        text.old.items text.new.items) }
 {
     match cell_in(store, place) {
-        Ok(cell) => push_if_bad(text, place, &cell),
+        Ok(cell) => push_if_bad(text, place, &cell, routes),
         Err(_) => push_bad(text, place, b"Damaged"),
     }
 }
@@ -114,14 +159,16 @@ fn push_log_findings(
     bytes: &[u8],
     found: CountingStore,
     disk: MemDisk,
+    routes: Option<&[Route]>,
 ) -> Result<(), Refusal>
     requires log { found.kind ≡ Log }
     requires found { HasFound bytes.now found (disk_of (contents disk)) }
-    ensures found { OnOk result (PushesFound bytes.now found text.old.items text.new.items) }
+    ensures found { OnOk result (PushesPlaces (option_map (λ r. r.now) routes.entry) bytes.now found
+        text.old.items text.new.items) }
     ensures refused { IfErr result (λ row. row ≡ memory_row) }
 {
     match AnyCells::attach_as(alloc, disk, found.kind, found.version, found.cells) {
-        Ok(store) => match push_bad_cells(text, &store, found.cells) {
+        Ok(store) => match push_bad_cells(text, &store, found.cells, routes) {
             Ok(()) => Ok(()),
             Err(AllocError) => Err(Refusal::no_memory()),
         },
@@ -134,7 +181,7 @@ fn push_damaged(alloc: Global, text: &mut Vec<u8>, fault: StoreFault) -> Result<
     ensures { PushesDamage fault text.old.items text.new.items result }
 {
     match fault {
-        StoreFault::Damaged(place) => match push_bad(text, place, b"Damaged") {
+        StoreFault::Damaged(place) => match push_damaged_place(text, place) {
             Ok(()) => Ok(()),
             Err(AllocError) => Err(Refusal::no_memory()),
         },
@@ -147,13 +194,14 @@ fn push_bad_cells(
     text: &mut Vec<u8>,
     store: &AnyCells<MemDisk>,
     cells: u16,
+    routes: Option<&[Route]>,
 ) -> Result<(), AllocError>
     requires { length (any_state store.now).cells ≡ cells }
-    ensures { OnOk result (PushesFindings
+    ensures { OnOk result (PushesFindings (option_map (λ r. r.now) routes.entry)
         (λ place. Some (slice_index_or (any_state store.now).cells place [])) cells text.old.items text.new.items) }
 {
     for place in 0..cells {
-        push_cell_if_bad(text, store, place)?;
+        push_cell_if_bad(text, store, place, routes)?;
     }
     Ok(())
 }
@@ -162,19 +210,40 @@ fn push_cell_if_bad(
     text: &mut Vec<u8>,
     store: &AnyCells<MemDisk>,
     place: u16,
+    routes: Option<&[Route]>,
 ) -> Result<(), AllocError>
     requires { place < length (any_state store.now).cells }
-    ensures { OnOk result (PushesFinding place (Some (slice_index_or (any_state store.now).cells place []))
-        text.old.items text.new.items) }
+    ensures { OnOk result (PushesFinding (option_map (λ r. r.now) routes.entry) place
+        (Some (slice_index_or (any_state store.now).cells place [])) text.old.items text.new.items) }
 {
     let mut cell = [0; 32];
     store.get(place, &mut cell);
-    push_if_bad(text, place, &cell)
+    push_if_bad(text, place, &cell, routes)
+}
+
+/// Adds a line if the cell holds nothing that its place may hold, or not what it is to hold over these routes.
+fn push_if_bad(
+    text: &mut Vec<u8>,
+    place: u16,
+    cell: &[u8; 32],
+    routes: Option<&[Route]>,
+) -> Result<(), AllocError>
+    ensures { OnOk result (PushesFinding (option_map (λ r. r.now) routes.entry) place (Some cell.now)
+        text.old.items text.new.items) }
+{
+    match routes {
+        Some(routes) => push_over_routes(text, place, cell, routes),
+        None => push_by_itself(text, place, cell),
+    }
 }
 
 /// Adds a line if the cell holds nothing that its place may hold.
-fn push_if_bad(text: &mut Vec<u8>, place: u16, cell: &[u8; 32]) -> Result<(), AllocError>
-    ensures { OnOk result (PushesFinding place (Some cell.now) text.old.items text.new.items) }
+pub(crate) fn push_by_itself(
+    text: &mut Vec<u8>,
+    place: u16,
+    cell: &[u8; 32],
+) -> Result<(), AllocError>
+    ensures { OnOk result (PushesFinding None place (Some cell.now) text.old.items text.new.items) }
 {
     match meaning_of(place, cell) {
         Meaning::BadSlot => push_bad(text, place, b"BadSlot"),

@@ -10,6 +10,7 @@ mod cells;
 mod checking;
 pub mod laws;
 mod listing;
+mod over_routes;
 mod reading;
 mod refusals;
 mod replying;
@@ -19,7 +20,8 @@ mod tasks;
 
 pub use cells::{Meaning, meaning_of};
 pub use checking::check_bytes;
-pub use listing::list_bytes;
+pub use listing::{list_bytes, push_store_line};
+pub use refusals::store_refusal;
 pub use replying::reply_from;
 pub use run::run_slots;
 pub use start::slots_words;

@@ -4,7 +4,7 @@ ghost use Rattle.program_edge.specs.Rows.{memory_row};
 ghost use Rattle.any_cells.specs.Either.{any_state};
 ghost use Rattle.text_lines.specs.Written.{written};
 ghost use Rattle.slot_commands.specs.Cells.{AddsCell};
-ghost use Rattle.slot_commands.specs.StoreWords.{kind_word, version_number};
+ghost use Rattle.slot_commands.specs.StoreWords.{kind_word, version_number, store_line_words};
 ghost use Rattle.slot_commands.specs.Stores.{ListsStore, IsUnreadable, ListsCells, head_words};
 
 use crate::cells::{meaning_of, push_meaning};
@@ -62,10 +62,23 @@ fn push_cell(text: &mut Vec<u8>, store: &AnyCells<MemDisk>, place: u16) -> Resul
 pub fn push_head(text: &mut Vec<u8>, found: CountingStore) -> Result<(), AllocError>
     ensures { OnOk result (text.new.items ≡ text.old.items ++ written (head_words found)) }
 {
-    text.extend_from_slice(b"store")?;
-    push_word(text, kind_name(found.kind))?;
-    push_number(text, version_of(found.version))?;
-    push_number(text, u32::from(found.cells))?;
+    push_store_line(text, b"store", found.kind, found.version, found.cells)
+}
+
+/// Adds a line on a store: a name, its kind, version and number of cells.
+pub fn push_store_line(
+    text: &mut Vec<u8>,
+    name: &[u8],
+    kind: Kind,
+    version: Version,
+    cells: u16,
+) -> Result<(), AllocError>
+    ensures { OnOk result (text.new.items ≡ text.old.items ++ written (store_line_words name.now kind version cells)) }
+{
+    text.extend_from_slice(name)?;
+    push_word(text, kind_name(kind))?;
+    push_number(text, version_of(version))?;
+    push_number(text, u32::from(cells))?;
     end_line(text)
 }
 

@@ -19,8 +19,9 @@ const FOUND: u8 = 1;
 /// Does what the words after `slots` ask of the file with this source, and gives the status that the program ends with.
 /// The file is only read, and all of it before anything is printed.
 ///
-/// The statuses are looked for in the order 2, 3, then 5 and 8 of the file, 9 of its bytes, 1. Out of memory, 7, prints
-/// nothing. A sink that fails makes the status 6, whatever was to be printed.
+/// The statuses are looked for in the order 2, 3, then 5 and 8 of the file; of `reply` 1 if the slots are no pair; 9 of
+/// the file's bytes; 1. Out of memory, 7, prints nothing. A sink that fails makes the status 6, whatever was to be
+/// printed.
 pub fn run_slots<S: Source, K: Sink>(
     alloc: Global,
     words: &[String],
@@ -71,7 +72,7 @@ fn do_task(alloc: Global, task: &SlotTask, bytes: &[u8]) -> Result<(Vec<u8>, u8)
             Ok((text, DONE))
         }
         SlotTask::Check => {
-            let (text, good) = check_bytes(alloc, bytes)?;
+            let (text, good) = check_bytes(alloc, bytes, None)?;
             if good {
                 Ok((text, DONE))
             } else {

@@ -1,5 +1,5 @@
 -- What the arguments of `station` ask for, and what a run promises
-use Rattle.std.specs.Prelude.{◌≡◌, ℕ, List, Option, Some, None, if◌then◌else◌, ◌||◌, bytes_eq, codes, drop, map}
+use Rattle.std.specs.Prelude.{◌≡◌, ℕ, Bool, List, Option, Some, None, if◌then◌else◌, ◌||◌, bytes_eq, codes, drop, map}
 use Rattle.bus_port.specs.Source.{SourceState}
 use Rattle.cut_disk.specs.State.{DiskState}
 use Rattle.text_lines.specs.Readings.{nth_word}
@@ -11,6 +11,8 @@ use Rattle.program_edge.specs.Endings.{Ending}
 use Rattle.program_edge.specs.NamedSources.{OverNamed, OverTwoNamed}
 use Rattle.slot_commands.specs.SlotTasks.{file_asked}
 use Rattle.slot_commands.specs.SlotReads.{ReadsUnitStore}
+use Rattle.bus_store_commands.specs.BusWords.{asks_over_bus, file_over_bus}
+use Rattle.bus_store_commands.specs.ChecksOverBus.{ChecksOverBus}
 use Rattle.ledger_commands.specs.LedgerRows.{words_named}
 use Rattle.ledger_commands.specs.LedgerReads.{ReadsLedgerFiles}
 use Rattle.ledger_commands.specs.Named.{OverAllNamed}
@@ -18,28 +20,33 @@ use Rattle.adopt_commands.specs.AdoptFiles.{EndsAdoptWords}
 use Rattle.keyfile_commands.specs.Calls.{first_file, second_file}
 use Rattle.keyfile_commands.specs.KeyFilesRuns.{KeyFilesRuns}
 use Rattle.station_commands.specs.declared.run.StationPart.{StationPart}
-use Rattle.station_commands.specs.declared.run.StationPart.TheVariants.{Slots, Ledger, Adoption, Key}
+use Rattle.station_commands.specs.declared.run.StationPart.TheVariants.{Slots, BusCheck, Ledger, Adoption, Key}
 use Rattle.station_commands.specs.declared.run.StationFiles.{StationFiles}
-use Rattle.station_commands.specs.declared.run.StationFiles.TheVariants.{Store, Ledgers, Adopted, Keys, Nothing}
+use Rattle.station_commands.specs.declared.run.StationFiles.TheVariants.{Store, StoreAndBus, Ledgers, Adopted, Keys}
+use Rattle.station_commands.specs.declared.run.StationFiles.TheVariants.{Nothing}
 
 -- the line that is printed if the first argument is none of the program's
 abbrev pub station_usage : List ℕ
 station_usage = line (codes "usage: station slots, ledger, key")
 
+-- what arguments name after `slots`
+abbrev pub slot_part : Bool → StationPart
+slot_part checks_over_bus = if checks_over_bus then BusCheck else Slots
+
 -- what a second argument names after `ledger`
 abbrev pub ledger_part : List ℕ → StationPart
 ledger_part word = if bytes_eq word (codes "adopt") || bytes_eq word (codes "merge") then Adoption else Ledger
 
--- what the first two arguments name
-abbrev pub part_named : List ℕ → List ℕ → Option StationPart
-part_named word next =
-    if bytes_eq word (codes "slots") then Some Slots
+-- what the first two arguments name; after `slots` the check over a bus, if all of them ask for that
+abbrev pub part_named : List ℕ → List ℕ → Bool → Option StationPart
+part_named word next checks_over_bus =
+    if bytes_eq word (codes "slots") then Some (slot_part checks_over_bus)
     else if bytes_eq word (codes "ledger") then Some (ledger_part next)
     else if bytes_eq word (codes "key") then Some Key
     else None
 
 abbrev pub part_of : List (List ℕ) → Option StationPart
-part_of words = part_named (nth_word words 1) (nth_word words 2)
+part_of words = part_named (nth_word words 1) (nth_word words 2) (asks_over_bus (codes "check") (drop 1 words))
 
 -- What is promised of these arguments after the first, of a run that left such sources and disks: all that the part
 -- promises, over the files and disks that they name, each opened once, and no other. For no part the usage line was
@@ -50,6 +57,11 @@ abbrev pub RunsPart : {O I D : Type 0} → (List ℕ → SourceState → Type 0)
 RunsPart opens disk_opens state disk words o (Some Slots) (Store file) e =
     OverNamed opens o.before o.after (file_asked words) (state file)
     (λ it. ReadsUnitStore (record { words = words; file = it }) e)
+    × (o.disks_after ≡ o.disks_before)
+RunsPart opens disk_opens state disk words o (Some BusCheck) (StoreAndBus file bus) e =
+    OverTwoNamed opens o.before o.after (file_over_bus (codes "check") words 1) (file_over_bus (codes "check") words 2)
+    (state file) (state bus)
+    (λ store wanted. ChecksOverBus (record { words = words; file = store; bus = wanted }) e)
     × (o.disks_after ≡ o.disks_before)
 RunsPart opens disk_opens state disk words o (Some Ledger) (Ledgers files) e =
     OverAllNamed opens o.before o.after (words_named words) (map state files.items)

@@ -1,10 +1,10 @@
-//! The run of `station` (SHE specification, memory update protocol): the first argument, and after `ledger` the second,
-//! names what the others are for.
+//! The run of `station` (SHE specification, memory update protocol): the first arguments name what the others are for.
 //!
 //! [`station_words`] hands the arguments after `slots`, `ledger` and `key` to
-//! [`slots_words`](slot_commands::slots_words), [`ledgers_words`](ledger_commands::ledgers_words),
-//! [`adopts_words`](adopt_commands::adopts_words) and [`keyfile_words`](keyfile_commands::keyfile_words), with all that
-//! each promises. For other arguments it prints the usage line, and opens and reads nothing.
+//! [`slots_words`](slot_commands::slots_words), [`bus_check_words`](bus_store_commands::bus_check_words),
+//! [`ledgers_words`](ledger_commands::ledgers_words), [`adopts_words`](adopt_commands::adopts_words) and
+//! [`keyfile_words`](keyfile_commands::keyfile_words), with all that each promises. For other arguments it prints the
+//! usage line, and opens and reads nothing.
 #![tactic(auto)]
 
 mod run;

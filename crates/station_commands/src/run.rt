@@ -2,10 +2,12 @@
 ghost use Rattle.std.specs.Prelude.{◌≡◌, drop, map as each, string_bytes, option_map};
 ghost use Rattle.program_edge.specs.NamedSources.{word_source, openings};
 ghost use Rattle.program_edge.specs.Told.{EndingTold};
-ghost use Rattle.station_commands.specs.Station.{part_named, part_of, ledger_part, RunsStation, station_usage};
+ghost use Rattle.station_commands.specs.Station.{part_named, part_of, slot_part, ledger_part, RunsStation};
+ghost use Rattle.station_commands.specs.Station.{station_usage};
 
 use adopt_commands::adopts_words;
 use bus_port::{Sink, Source};
+use bus_store_commands::{asks_over_bus, bus_check_words};
 use cut_disk::CutDisk;
 use file_disk::DiskOpener;
 use keyfile_commands::keyfile_words;
@@ -14,11 +16,13 @@ use program_edge::{Opener, Refusal, WordSource, tell_refusal};
 use slot_commands::slots_words;
 use std::alloc::Global;
 
-/// What the first two arguments name.
+/// What the arguments name.
 #[derive(Clone, Copy, Debug, PartialEq, Eq)]
 pub enum StationPart {
     /// `slots`: what a unit's store holds.
     Slots,
+    /// `slots check FILE BUS`: what is wrong with a store over the routes of its node.
+    BusCheck,
     /// `ledger`: what ledgers hold.
     Ledger,
     /// `ledger adopt` and `merge`: entries that a ledger takes over.
@@ -32,6 +36,8 @@ pub enum StationPart {
 pub enum StationFiles<O: Source, I: Source, D: CutDisk> {
     /// That of a unit's store.
     Store(WordSource<O, I>),
+    /// That of a unit's store, and that of a bus file.
+    StoreAndBus(WordSource<O, I>, WordSource<O, I>),
     /// Those of the ledgers that were opened.
     Ledgers(Vec<WordSource<O, I>>),
     /// That of a file whose entries a ledger was to take over, and the ledger's disk; each at most one.
@@ -74,13 +80,23 @@ pub fn station_words<O: Opener, P: DiskOpener, I: Source + Drop, K: Sink>(
             let (status, file) = slots_words(alloc, opener, input, rest, sink);
             (status, StationFiles::Store(file))
         }
+        StationPart::BusCheck => {
+            let (status, file, bus) = bus_check_words(alloc, opener, input, rest, sink);
+            (status, StationFiles::StoreAndBus(file, bus))
+        }
         StationPart::Ledger => {
             let (status, files) = ledgers_words(alloc, opener, input, rest, sink);
             (status, StationFiles::Ledgers(files))
         }
         StationPart::Adoption => {
-            let (status, files, disks) =
-                adopts_words(alloc, opener, disk_opener, input, rest, sink);
+            let (status, files, disks) = adopts_words(
+                alloc,
+                opener,
+                disk_opener,
+                input,
+                rest,
+                sink,
+            );
             (status, StationFiles::Adopted(files, disks))
         }
         StationPart::Key => {
@@ -100,19 +116,20 @@ fn tell_usage<K: Sink>(sink: &mut K) -> u8
     )
 }
 
-/// What the first two arguments name.
+/// What the arguments name.
 fn part_of(words: &[String]) -> Option<StationPart>
     ensures { result ≡ part_of (each string_bytes words.now) }
 {
-    part_named(word_at(words, 1), word_at(words, 2))
+    let checks_over_bus = asks_over_bus("check", after_part(words));
+    part_named(word_at(words, 1), word_at(words, 2), checks_over_bus)
 }
 
-/// The part of these names.
-fn part_named(name: &str, next: &str) -> Option<StationPart>
-    ensures { result ≡ part_named name.now next.now }
+/// The part of these names; of `slots` the check over a bus, if the arguments ask for that.
+fn part_named(name: &str, next: &str, checks_over_bus: bool) -> Option<StationPart>
+    ensures { result ≡ part_named name.now next.now checks_over_bus }
 {
     if name == "slots" {
-        return Some(StationPart::Slots);
+        return Some(slot_part(checks_over_bus));
     }
     if name == "ledger" {
         return Some(ledger_part(next));
@@ -121,6 +138,17 @@ fn part_named(name: &str, next: &str) -> Option<StationPart>
         Some(StationPart::Key)
     } else {
         None
+    }
+}
+
+/// What arguments after `slots` name.
+fn slot_part(checks_over_bus: bool) -> StationPart
+    ensures { result ≡ slot_part checks_over_bus }
+{
+    if checks_over_bus {
+        StationPart::BusCheck
+    } else {
+        StationPart::Slots
     }
 }
 

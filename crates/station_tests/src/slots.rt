@@ -3,11 +3,12 @@ ghost use Rattle.std.specs.Prelude.{◌<◌, ◌^◌};
 
 use crate::comparing::same;
 use bus_port::{CleanSource, MemSink};
+use bus_store_commands::run_bus_check;
 use freshness_store::{Direction, bound_bytes};
 use key_slots::{Block, Counter28, Flags, Slot};
 use slot_commands::run_slots;
 use slot_disk::slot_bytes;
-use std::alloc::Global;
+use std::alloc::{AllocError, Global};
 use std::process::Abort;
 use std::test::Fail;
 use store_plan::{make, make_cell};
@@ -102,12 +103,18 @@ fn filled(counter: u32, flags: u8) -> Slot
     }
 }
 
+/// These texts as arguments.
+fn words_of(alloc: Global, texts: &[&str]) -> Result<Vec<String>, AllocError> {
+    let mut words = Vec::new(alloc);
+    for text in texts {
+        words.push(String::from_str(alloc, text)?)?;
+    }
+    Ok(words)
+}
+
 /// Runs a row over these bytes, and compares.
 fn check_row(rt: &impl Abort, alloc: Global, bytes: &[u8], row: &Row) -> Result<(), Fail> {
-    let mut words = Vec::new(alloc);
-    for word in row.0 {
-        words.push(String::from_str(alloc, word)?)?;
-    }
+    let words = words_of(alloc, row.0)?;
     let mut file = CleanSource::new(Vec::from_slice(alloc, bytes)?);
     let mut sink = MemSink::new(alloc, 4096, Vec::new(alloc), 4096)?;
     let status = run_slots(alloc, words.as_slice(), &mut file, &mut sink);
@@ -165,5 +172,49 @@ fn each_damaged_cell_is_named(rt: HostRuntime) -> Result<(), Fail> {
     for row in DAMAGED {
         check_row(&rt, rt.alloc(), &image, row)?;
     }
+    Ok(())
+}
+
+/// The bus of a node whose first route is that of the store's bound.
+const BUS: &str = "[[node]]
+name = \"unit\"
+uid = \"000000000000000000000000000001\"
+[[node.route]]
+id = \"6bc1\"
+direction = \"send\"
+slot = 7
+[[node.route]]
+id = \"6bc2\"
+direction = \"receive\"
+slot = 7
+[[node.route]]
+id = \"6bc3\"
+direction = \"send\"
+slot = 7
+";
+
+/// What a check over that bus finds.
+const OVER_BUS: Row = Row(
+    &["check", "f", "b"],
+    1,
+    "store twin 1 16\ncell 15 BadBound 6bc2 receives\nroute 6bc3 sends NoCell\n",
+);
+
+#[test]
+fn a_store_is_checked_over_the_routes_of_its_node(rt: HostRuntime) -> Result<(), Fail> {
+    let alloc = rt.alloc();
+    let mut image = [0; SIZE];
+    unit_store(&mut image);
+    let words = words_of(alloc, OVER_BUS.0)?;
+    let mut file = CleanSource::new(Vec::from_slice(alloc, &image)?);
+    let mut bus = CleanSource::new(Vec::from_slice(alloc, BUS.as_bytes())?);
+    let mut sink = MemSink::new(alloc, 4096, Vec::new(alloc), 4096)?;
+    let status = run_bus_check(alloc, words.as_slice(), &mut file, &mut bus, &mut sink);
+    same(
+        &rt,
+        OVER_BUS.2,
+        &(status, sink.bytes()),
+        &(OVER_BUS.1, OVER_BUS.2.as_bytes()),
+    );
     Ok(())
 }

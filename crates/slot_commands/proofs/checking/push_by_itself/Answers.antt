@@ -1,6 +1,6 @@
 use Rattle.std.proofs.lemmas.Result.{on_ok_weaker}
 use Rattle.slot_commands.proofs.CellLaws.{finds_bad_slot, finds_bad_bound, finds_none}
-use Rattle.slot_commands.proofs.checking.push_if_bad.Goals as goal
+use Rattle.slot_commands.proofs.checking.push_by_itself.Goals as goal
 
 pub returns-in-BadSlot : goal.returns-in-BadSlot
 returns-in-BadSlot c =

@@ -1,0 +1,82 @@
+-- The phases of a run of `slots check FILE BUS`, put together
+use Rattle.std.proofs.Common.{◌≡◌, ◌⊎◌, ◌∙◌, ℕ, List, [], true, false, inl, inr, sym, subst}
+use Rattle.std.specs.Prelude.{Bool, Result, Ok, Err, Vec, Some, IfOk, IfErr, codes}
+use Rattle.std.specs.declared.alloc.Global.{Global}
+use Rattle.program_edge.specs.declared.input.InputFault.{InputFault}
+use Rattle.program_edge.specs.declared.input.InputFault.TheVariants as input
+use Rattle.program_edge.specs.Rows.{Row, row_of, input_row, memory_row}
+use Rattle.program_edge.specs.Inputs.{Reading, IsUnread, ReadsWhole, Lacks}
+use Rattle.program_edge.specs.Endings.{Ending}
+use Rattle.program_edge.specs.Told.{EndingTold}
+use Rattle.program_edge.proofs.CallerLemmas.{Lacks-whole}
+use Rattle.freshness_routes.specs.declared.routes.Route.{Route}
+use Rattle.bus_config.specs.Buses.{NamedBus}
+use Rattle.bus_programs.specs.BusFiles.{ReadsBus}
+use Rattle.bus_programs.specs.BusRoutes.{routes_of, HasOneNode}
+use Rattle.slot_commands.specs.Checked.{Checked}
+use Rattle.slot_commands.specs.Stores.{ChecksStore, NoStoreIn}
+use Rattle.bus_store_commands.specs.NodeBuses.{ReadsNodeBus, LacksNodeBus, other_nodes}
+use Rattle.bus_store_commands.specs.BusWords.{asks_over_bus}
+use Rattle.bus_store_commands.specs.CheckRows.{BusCheckInputs, AsksBusCheck, DoesBusCheck, found_nothing, found, not_checked, bus_check_usage}
+use Rattle.bus_store_commands.specs.CheckRows.{ComesOfBusCheck, no_form, no_node, done, AnswersBusCheck}
+use Rattle.bus_store_commands.specs.CheckRows as rows
+use Rattle.bus_store_commands.specs.ChecksOverBus.{ChecksOverBus}
+use Rattle.bus_store_commands.proofs.CheckPromises.{checks_row}
+
+-- malformed arguments
+pub words_refused : (i : BusCheckInputs) (row : Row) → asks_over_bus (codes "check") i.words ≡ false → IsUnread i.bus → IsUnread i.file
+    → row ≡ row_of 2 bus_check_usage → ComesOfBusCheck i row
+words_refused i row none bus_unread unread is = subst (ComesOfBusCheck i) (sym is) (no_form none bus_unread unread)
+
+-- a bus that hasn't one node
+pub others_lack : (config : Reading) (bus : NamedBus) (row : Row) → ReadsBus config bus → HasOneNode bus (Err row) → LacksNodeBus config row
+others_lack config bus row reads (others, is) = subst (LacksNodeBus config) (sym is) (other_nodes bus reads others)
+
+-- a bus file that gives no bus of one node
+pub node_lacking : (i : BusCheckInputs) (cause row : Row) → AsksBusCheck i.words → LacksNodeBus i.bus cause → IsUnread i.file → row ≡ cause
+    → ComesOfBusCheck i row
+node_lacking i cause row asks lacks unread is = subst (ComesOfBusCheck i) (sym is) (no_node cause asks lacks unread)
+
+-- a file that gives no bytes
+pub file_lacking : (i : BusCheckInputs) (bus : NamedBus) (fault : InputFault) (row : Row) → AsksBusCheck i.words → ReadsNodeBus i.bus bus
+    → Lacks i.file fault → row ≡ input_row fault → ComesOfBusCheck i row
+file_lacking i bus fault row asks reads lacks is = subst (ComesOfBusCheck i) (sym is) (rows.no_file bus fault asks reads lacks)
+
+-- what is done over its bytes and the routes of the bus
+pub check_done : (i : BusCheckInputs) (bus : NamedBus) (routes : List Route) (x shown : List ℕ) (result : Result (Vec ℕ Global × ℕ) Row)
+    → AsksBusCheck i.words → ReadsNodeBus i.bus bus → ReadsWhole i.file x → shown ≡ x → routes ≡ routes_of bus
+    → IfOk result (λ r. DoesBusCheck routes shown (row_of r.1 r.0.items))
+    → IfErr result (λ row. DoesBusCheck routes shown row ⊎ (row ≡ memory_row)) → AnswersBusCheck i result
+check_done i bus routes x shown (Ok (text, status)) asks reads whole is are does not =
+    done bus shown (row_of status text.items) asks reads (subst (ReadsWhole i.file) (sym is) whole)
+    (subst (λ (r : List Route). DoesBusCheck r shown (row_of status text.items)) are does)
+check_done i bus routes x shown (Err row) asks reads whole is are does (inl not) =
+    done bus shown row asks reads (subst (ReadsWhole i.file) (sym is) whole) (subst (λ (r : List Route). DoesBusCheck r shown row) are not)
+check_done i bus routes x shown (Err row) asks reads whole is are does (inr memory) =
+    subst (ComesOfBusCheck i) (sym memory) (rows.no_file bus input.Memory asks reads (Lacks-whole i.file x whole))
+
+-- ---- a check
+
+pub check_good : (routes : List Route) (x text : List ℕ) (good : Bool) → Checked (Some routes) x text good → good ≡ true
+    → DoesBusCheck routes x (row_of 0 text)
+check_good routes x text good (findings, checks, decides) is =
+    found_nothing text (subst (λ (f : List (List (List ℕ))). ChecksStore (Some routes) x f text) (decides.0 is) checks)
+
+pub check_bad : (routes : List Route) (x text : List ℕ) (good : Bool) → Checked (Some routes) x text good → good ≡ false
+    → DoesBusCheck routes x (row_of 1 text)
+check_bad routes x text good (findings, checks, decides) is =
+    found findings text (λ none. let clash : false ≡ true = sym is ∙ decides.1 none in cc clash) checks
+
+pub check_refused : (routes : List Route) (x : List ℕ) (row : Row) → NoStoreIn x row ⊎ (row ≡ memory_row)
+    → DoesBusCheck routes x row ⊎ (row ≡ memory_row)
+check_refused routes x row (inl none) = inl (not_checked row none)
+check_refused routes x row (inr memory) = inr memory
+
+-- ---- a run
+
+-- what was told of a text that comes
+pub told_row : (i : BusCheckInputs) (e : Ending) (status : ℕ) (items shown : List ℕ) → shown ≡ items → ComesOfBusCheck i (row_of status items)
+    → EndingTold e.before e.after shown status e.status → ChecksOverBus i e
+told_row i e status items shown is comes told =
+    checks_row i e
+    (record { row = row_of status shown; comes = subst (λ (t : List ℕ). ComesOfBusCheck i (row_of status t)) (sym is) comes; told = told })

@@ -1,0 +1,54 @@
+-- What a row of `slots check FILE BUS` says of the sources, and what a check comes to
+use Rattle.std.proofs.Common.{◌≡◌, ◌⊎◌, ◌∙◌, ℕ, List, [], true, false, refl, sym, inl, inr}
+use Rattle.std.specs.Prelude.{◌≢◌, Bool, Some}
+use Rattle.program_edge.specs.Input.{input_fault_text}
+use Rattle.program_edge.specs.Rows.{Row}
+use Rattle.program_edge.specs.Inputs.{Reading, IsUnread}
+use Rattle.freshness_routes.specs.declared.routes.Route.{Route}
+use Rattle.bus_programs.specs.BusFiles.{no_file, file_refused}
+use Rattle.bus_programs.proofs.CallerLemmas.{RowTells, calm_unread, calm_whole, told_first, told_second}
+use Rattle.slot_commands.proofs.CallerLemmas.{checked_once, check_clash, no_store_row}
+use Rattle.bus_store_commands.specs.NodeBuses.{LacksNodeBus, no_bus, other_nodes}
+use Rattle.bus_store_commands.specs.CheckRows.{BusCheckInputs, DoesBusCheck, found_nothing, found, not_checked, ComesOfBusCheck, no_form, no_node, done}
+use Rattle.bus_store_commands.specs.CheckRows as rows
+
+-- a bus file that gives no bus of one node, before a source that wasn't read
+pub lacks_tells : (config file : Reading) (row : Row) → LacksNodeBus config row → IsUnread file → RowTells row config file
+lacks_tells config file row (no_bus _ (no_file fault lacks)) unread = told_first fault (input_fault_text fault) config file lacks (calm_unread file unread)
+lacks_tells config file row (no_bus _ (file_refused fault text (read, whole, is) says)) unread =
+    inr (inr (calm_whole config read whole, calm_unread file unread))
+lacks_tells config file row (other_nodes bus (read, whole, is) others) unread = inr (inr (calm_whole config read whole, calm_unread file unread))
+
+pub row_tells : (i : BusCheckInputs) (row : Row) → ComesOfBusCheck i row → RowTells row i.bus i.file
+row_tells i row (no_form none bus_unread unread) = inr (inr (calm_unread i.bus bus_unread, calm_unread i.file unread))
+row_tells i row (no_node _ asks lacks unread) = lacks_tells i.bus i.file row lacks unread
+row_tells i row (rows.no_file bus fault asks ((read, whole, is), one) lacks) =
+    told_second fault (input_fault_text fault) i.bus i.file (calm_whole i.bus read whole) lacks
+row_tells i row (done bus x _ asks ((read, whole, is), one) reads does) = inr (inr (calm_whole i.bus read whole, calm_whole i.file x reads))
+
+-- words ask for a check or not
+pub asks_or_not : (asks : Bool) → asks ≡ false → asks ≡ true → ⊥
+asks_or_not asks none some = let clash : false ≡ true = sym none ∙ some in cc clash
+
+-- the status of what a check comes to
+abbrev pub IsCheckStatus : ℕ → Type 0
+IsCheckStatus status = (status ≡ 0) ⊎ ((status ≡ 1) ⊎ (status ≡ 9))
+
+pub check_status : (routes : List Route) (x : List ℕ) (row : Row) → DoesBusCheck routes x row → IsCheckStatus row.status
+check_status routes x row (found_nothing text checks) = inl refl
+check_status routes x row (found findings text some checks) = inr (inl refl)
+check_status routes x row (not_checked _ none) = inr (inr (no_store_row x row none))
+
+-- and it is one
+pub check_once : (routes : List Route) (x : List ℕ) (row other : Row) → DoesBusCheck routes x row → DoesBusCheck routes x other → row.status ≡ other.status
+check_once routes x row other (found_nothing text checks) (found_nothing text' checks') = refl
+check_once routes x row other (found_nothing text checks) (found findings text' some checks') =
+    absurd (some (checked_once (Some routes) x text text' [] findings checks checks' refl))
+check_once routes x row other (found_nothing text checks) (not_checked _ none) = absurd (check_clash (Some routes) x text [] other checks none)
+check_once routes x row other (found findings text some checks) (found_nothing text' checks') =
+    absurd (some (checked_once (Some routes) x text' text [] findings checks' checks refl))
+check_once routes x row other (found findings text some checks) (found findings' text' some' checks') = refl
+check_once routes x row other (found findings text some checks) (not_checked _ none) = absurd (check_clash (Some routes) x text findings other checks none)
+check_once routes x row other (not_checked _ none) (found_nothing text checks) = absurd (check_clash (Some routes) x text [] row checks none)
+check_once routes x row other (not_checked _ none) (found findings text some checks) = absurd (check_clash (Some routes) x text findings row checks none)
+check_once routes x row other (not_checked _ none) (not_checked _ not) = no_store_row x row none ∙ sym (no_store_row x other not)

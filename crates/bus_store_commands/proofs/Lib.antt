@@ -1,0 +1,3 @@
+pub mod CheckTells
+pub mod CheckPromises
+pub mod CheckPhases

@@ -1,0 +1,4 @@
+pub mod NodeBuses
+pub mod BusWords
+pub mod CheckRows
+pub mod ChecksOverBus

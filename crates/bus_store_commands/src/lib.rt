@@ -1,0 +1,17 @@
+//! What `station slots` does with a unit's store and the bus file of its node (SHE specification, key memory; AUTOSAR
+//! SecOC, freshness).
+//!
+//! [`run_bus_check`] answers `check FILE BUS` over the bytes of two files, which are only read: the record
+//! `ChecksOverBus` says what each status means and what is printed. It names what `check FILE` names, each cell that
+//! isn't the bound of its route, each cell that no route has, and each route that has no cell.
+#![tactic(auto)]
+
+mod checking;
+mod node_buses;
+mod start;
+mod words;
+
+pub use checking::run_bus_check;
+pub use node_buses::node_bus_from;
+pub use start::bus_check_words;
+pub use words::{asks_over_bus, file_over_bus};
