@@ -16,7 +16,7 @@ use Rattle.cell_store.proofs.CallerLemmas.{part-same, part-splice, SameOutside-a
 use Rattle.store_plan.specs.declared.growing.Growth.{Growth}
 use Rattle.store_plan.specs.declared.growing.Growth.TheVariants.{Before, Counting, After, Beyond}
 use Rattle.store_plan.specs.declared.planning.Plan.{Plan}
-use Rattle.store_plan.specs.Plans.{CutWithin, in_first, in_second, in_third, applied, applied_write}
+use Rattle.store_plan.specs.Plans.{CutWithin, in_first, in_second, in_third, applied, applied_write, WritesAt}
 use Rattle.store_plan.specs.Growing.{IsGrowth, NoGrowth, PlansGrowth, PlansCount, PlansFor, HasHeadButCount, HasFreshCell, IsErasedAfter, with_number, GrowsTo, Grew}
 use Rattle.store_plan.proofs.GatedLaws.{no_bytes, splice-at, splice-empty}
 use Rattle.store_plan.proofs.CutLaws.{at-place, same-all}
@@ -27,7 +27,7 @@ use Rattle.store_plan.proofs.MakingLaws.{cell_beside}
 abbrev pub Head : ℕ → List ℕ → Type 0
 Head n x = HasHeader (twin_layout One) n x
 
-decide-head : (n : ℕ) (x : List ℕ) → Head n x ⊎ (¬ Head n x)
+pub decide-head : (n : ℕ) (x : List ℕ) → Head n x ⊎ (¬ Head n x)
 decide-head n x =
     let d = bytes_eq-Decides (part 0 32 x) (header (twin_layout One) n) in
     elim (cases_Bool (bytes_eq (part 0 32 x) (header (twin_layout One) n))) [
@@ -48,7 +48,7 @@ pub take-splice : (at n : ℕ) (new x : List ℕ) → at + length new ≤ n → 
 unfolding splice
 take-splice at n new x inside room = same_lists _ _ (search (rules, places)) (λ k d h. grind (arith, places))
 
-head-counted : (i n : ℕ) (x : List ℕ) → 32 ≤ length x → Head i x → HasHeadButCount x n
+pub head-counted : (i n : ℕ) (x : List ℕ) → 32 ≤ length x → Head i x → HasHeadButCount x n
 head-counted i n x room h =
     take-splice 10 32 (bytes_of 2 n) x (omega (arith, length-bytes_of 2 n)) room
     ∙ (ap (splice 10 (bytes_of 2 n)) h ∙ header-counted i n)
@@ -79,7 +79,7 @@ splice-over at new x y ix s =
     ])
 
 -- whatever the two bytes of the number are then
-but-count : (n : ℕ) (x y : List ℕ) → 12 ≤ length x → SameOutside 10 2 x y → HasHeadButCount x n → HasHeadButCount y n
+pub but-count : (n : ℕ) (x y : List ℕ) → 12 ≤ length x → SameOutside 10 2 x y → HasHeadButCount x n → HasHeadButCount y n
 but-count n x y room s h =
     let two = length-bytes_of 2 n in
     ap (part 0 32) (splice-over 10 (bytes_of 2 n) x y (omega (arith, two)) (subst (λ k. SameOutside 10 k x y) (sym two) s)) ∙ h
@@ -109,6 +109,18 @@ erased-beside_count x y i s erased = still-erased x y i (part-same (first_at (i 
 -- the old header stands, or the number is another, or the new header stands, with the new cell
 abbrev pub Left : List ℕ → ℕ → List ℕ → Type 0
 Left y i c = IsGrowth y i c Before ⊎ (IsGrowth y i c Counting ⊎ (IsGrowth y i c After × (cell_at y i ≡ Some c)))
+
+-- a plan that is done is one that was cut within its last write, all of which was written
+pub done-cut : (plan : Plan) (x : List ℕ) (at : ℕ) (new : List ℕ) → WritesAt plan.third at new
+    → at + length new ≤ length (applied_write plan.second (applied_write plan.first x)) → CutWithin plan x (applied plan x)
+done-cut plan x at new p room =
+    let z : List ℕ = applied_write plan.second (applied_write plan.first x) in
+    let is : applied plan x ≡ splice at new z = splice-at plan.third at new z p in
+    let s : SameOutside at (length new) z (applied plan x) =
+    subst (λ (w : List ℕ). SameOutside at (length new) z w) (sym is) (SameOutside-splice at new z room) in
+    in_third
+    (subst (λ n. SameOutside n plan.third.size z (applied plan x)) (sym p.place)
+    (subst (λ n. SameOutside at n z (applied plan x)) (sym p.count) s))
 
 module _ (i : ℕ) (c : List ℕ) (sized : length c ≡ 32) where
   -- the new cell is there, and a number
@@ -202,6 +214,20 @@ module _ (i : ℕ) (c : List ℕ) (sized : length c ≡ 32) where
         | in_third s ↦ (cut-third y s).lengths ∙ made-long
       ]
 
+      -- what it changes lies between the number of cells and the end of the new cell
+      pub growth-within : (y : List ℕ) → CutWithin plan x y → SameOutside 10 (first_at i + 58) x y
+      growth-within y cut = elim cut [
+        | in_first s ↦ SameOutside-widen (first_at i) 68 10 (first_at i + 58) x y (omega arith) (omega arith) (cut-first y s)
+        | in_second s ↦ SameOutside-widen (first_at i) 68 10 (first_at i + 58) x y (omega arith) (omega arith) (cut-second y s)
+        | in_third s ↦ SameOutside-after 10 (first_at i + 58) x made y (SameOutside-widen (first_at i) 68 10 (first_at i + 58) x made (omega arith) (omega arith) made-same)
+            (SameOutside-widen 10 2 10 (first_at i + 58) made y (omega arith) (omega arith) (cut-third y s))
+      ]
+
+      pub growth-done : CutWithin plan x (applied plan x)
+      growth-done =
+          done-cut plan x 10 (bytes_of 2 (i + 1)) p.third
+          (let long : length (applied_write plan.second (applied_write plan.first x)) ≡ length x = ap length both-is ∙ made-long in omega (arith, room, long, length-bytes_of 2 (i + 1)))
+
       -- all is written
       growth-is : applied plan x ≡ with_number (i + 1) made
       growth-is = ap (applied_write plan.third) both-is ∙ splice-at plan.third 10 (bytes_of 2 (i + 1)) made p.third
@@ -230,8 +256,16 @@ module _ (i : ℕ) (c : List ℕ) (sized : length c ≡ 32) where
       pub count-cut : (y : List ℕ) → IsGrowth x i c Counting → CutWithin plan x y → Left y i c
       count-cut y h cut = sorted-after y (count-same y cut) h.2 h.3 h.4
 
+      pub count-within : (y : List ℕ) → CutWithin plan x y → SameOutside 10 (first_at i + 58) x y
+      count-within y cut = SameOutside-widen 10 2 10 (first_at i + 58) x y (omega arith) (omega arith) (count-same y cut)
+
       pub count-others : (y : List ℕ) → CutWithin plan x y → (j : ℕ) → cell_at y j ≡ cell_at x j
       count-others y cut j = beside_count x y j (count-same y cut)
+
+      pub count-done : CutWithin plan x (applied plan x)
+      count-done =
+          done-cut plan x 10 (bytes_of 2 (i + 1)) p.third
+          (let long : length (applied_write plan.second (applied_write plan.first x)) ≡ length x = ap length none-second in omega (arith, room, long, length-bytes_of 2 (i + 1)))
 
       count-is : applied plan x ≡ with_number (i + 1) x
       count-is = ap (applied_write plan.third) none-second ∙ splice-at plan.third 10 (bytes_of 2 (i + 1)) x p.third

@@ -51,8 +51,8 @@ pub fn growth_of(image: &[u8], cell: u16, payload: &[u8; 32]) -> Option<Growth>
     None
 }
 
-// Whether the bytes where a cell after this one would stand are as an erase leaves them: all 00, or all ff.
-fn is_erased_after(image: &[u8], cell: u16) -> bool
+/// Whether the bytes where a cell after this one would stand are as an erase leaves them: all 00, or all ff.
+pub fn is_erased_after(image: &[u8], cell: u16) -> bool
     requires few { cell < 1024 }
     requires room { twin_size (cell + 2) ≤ length image.now }
     ensures { IsTrue result ↔ IsErasedAfter image.now cell }

@@ -88,7 +88,8 @@ pub fn check(image: &[u8], cells: u16) -> Result<(), ImageFault>
     Ok(())
 }
 
-pub(crate) fn has_head(image: &[u8], cells: u16) -> bool
+/// Whether an image begins with the header of a store of so many cells.
+pub fn has_head(image: &[u8], cells: u16) -> bool
     requires { 32 ≤ length image.now }
     ensures { IsTrue result ↔ HasHeader (twin_layout One) cells image.now }
 {

@@ -16,8 +16,8 @@ pub mod laws;
 mod performing;
 mod planning;
 
-pub use growing::{Growth, count_in, growth_of, plan_count, plan_growth};
-pub use images::{ImageFault, check, count_of, make, make_cell};
+pub use growing::{Growth, count_in, growth_of, is_erased_after, plan_count, plan_growth};
+pub use images::{ImageFault, check, count_of, has_head, make, make_cell};
 pub use performing::perform;
 pub use planning::{
     Plan, PlanFault, Write, cell_held, cell_in, done, is_empty, is_within, plan_put,

@@ -1,0 +1,3 @@
+pub mod CellsAdded
+pub mod RoutesKept
+pub mod DiskSteps

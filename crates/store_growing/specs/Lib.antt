@@ -1,0 +1,4 @@
+pub mod RouteCells
+pub mod GrowingStores
+pub mod LookSteps
+pub mod GrowSteps

@@ -1,0 +1,46 @@
+//! Laws of a store that grows: the contract of each function is the law, and its body is empty.
+ghost use Rattle.std.specs.Prelude.{◌≡◌, ◌+◌, ◌<◌, ◌≤◌, ℕ, List, All, length, Some};
+ghost use Rattle.cell_store.specs.Twin.{cell_at, twin_size};
+ghost use Rattle.freshness_routes.specs.declared.routes.Route.{Route};
+ghost use Rattle.freshness_routes.specs.Config.{IsRoute};
+ghost use Rattle.store_growing.specs.declared.faults.GrowFault.{GrowFault};
+ghost use Rattle.store_growing.specs.RouteCells.{route_cell, RouteAt, first_bound, HoldsRoute, CanGrow, HasVersionTwo};
+ghost use Rattle.store_growing.specs.RouteCells.{RefusesBytes};
+ghost use Rattle.store_growing.specs.GrowingStores.{CutsRoutes, GrownTo, GrownInPart};
+
+/// Whenever the power goes while a store gets cells at its end, each cell that it had is as it was: no counter of a
+/// slot falls, and no bound.
+pub fn a_cut_while_a_store_grows_keeps_its_cells()
+    ensures { (cell : ℕ) (routes : List Route) (x y : List ℕ) (place : ℕ) → twin_size (cell + length routes) ≤ length x
+        → CutsRoutes cell routes x y → place < cell → cell_at y place ≡ cell_at x place }
+{}
+
+/// The bound of a route that had a cell stays, whenever the power goes.
+pub fn bounds_that_stood_stay()
+    ensures { (routes : List Route) (x y : List ℕ) (cell : ℕ) (route : Route)
+        → twin_size (route_cell (length routes) + 1) ≤ length x → (cut : GrownInPart routes x y)
+        → cell < route_cell cut.count → HoldsRoute x cell route → HoldsRoute y cell route }
+{}
+
+/// After a growth each cell that the store had is as it was. Each further route has a cell with its first bound.
+pub fn a_grown_store_has_its_cells_and_the_new_ones()
+    ensures { (routes : List Route) (x z : List ℕ) → length routes ≤ 256 → All IsRoute routes
+        → twin_size (route_cell (length routes) + 1) ≤ length x → (grown : GrownTo routes x z)
+        → CanGrow routes z (length routes)
+        × ((cell : ℕ) → cell < route_cell grown.count → cell_at z cell ≡ cell_at x cell)
+        × ((place : ℕ) (route : Route) → grown.count ≤ place → RouteAt routes place route
+        → cell_at z (route_cell place) ≡ Some (first_bound route)) }
+{}
+
+/// Whatever the power leaves, the store can grow, so the same call finishes it.
+pub fn a_cut_store_can_grow()
+    ensures { (routes : List Route) (x y : List ℕ) → length routes ≤ 256 → All IsRoute routes
+        → twin_size (route_cell (length routes) + 1) ≤ length x → GrownInPart routes x y
+        → (¬ HasVersionTwo y) × ((count : ℕ) × CanGrow routes y count) }
+{}
+
+/// Bytes that can grow aren't refused.
+pub fn a_store_that_can_grow_is_not_refused()
+    ensures { (routes : List Route) (x : List ℕ) (count : ℕ) (fault : GrowFault) → length routes ≤ 256
+        → CanGrow routes x count → ¬ RefusesBytes routes x fault }
+{}

@@ -1,0 +1,16 @@
+//! Cells at the end of a store for the routes that a bus has more.
+//!
+//! A unit gets a bus file with more routes than its store has cells. [`grow_store`] adds a cell for each of them to a
+//! twin store of version 1, at its end, with the route's first bound. The routes that have cells have to be the first
+//! of the bus. It looks at all bytes that it needs before it writes, and refuses the store whole, or adds one cell
+//! after the other. Each is whole or absent whenever the power goes, no other cell changes, and the same call goes on
+//! after a cut ([`laws`]).
+#![tactic(auto)]
+
+mod faults;
+mod growing;
+pub mod laws;
+mod looking;
+
+pub use faults::GrowFault;
+pub use growing::grow_store;
