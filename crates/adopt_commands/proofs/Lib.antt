@@ -1,6 +1,4 @@
 pub mod AdoptLaws
 pub mod AdoptEnds
 pub mod OverDisks
-pub mod HeldLaws
 pub mod Naming
-pub mod FormLaws

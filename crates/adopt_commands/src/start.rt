@@ -9,7 +9,7 @@ ghost use Rattle.adopt_commands.specs.AdoptFiles.{EndsAdoptWords, EndsAdoptTask,
 
 use crate::adopting::adopt_over;
 use crate::entries::{entries_of, one_entry};
-use crate::tasks::{AdoptTask, task_in};
+use crate::tasks::{AdoptTask, EntryFile, task_in};
 use bus_port::{Sink, Source};
 use file_disk::{DiskOpener, open_disk};
 use key_campaign::LedgerEntry;
@@ -47,7 +47,9 @@ pub fn adopts_words<O: Opener, P: DiskOpener, I: Source + Drop, K: Sink>(
             let (status, disks) = adopt_one(alloc, disk_opener, &entry, words, sink);
             (status, unopened, disks)
         }
-        Ok(AdoptTask::Merge) => merge_other(alloc, opener, disk_opener, input, words, sink),
+        Ok(AdoptTask::All(kind)) => {
+            adopt_file(alloc, opener, disk_opener, input, kind, words, sink)
+        }
         Err(refusal) => {
             let unopened = Vec::new(alloc);
             let no_disk = Vec::new(alloc);
@@ -81,12 +83,13 @@ fn adopt_one<P: DiskOpener, K: Sink>(
     }
 }
 
-/// Takes over the entries of the ledger that the third argument names.
-fn merge_other<O: Opener, P: DiskOpener, I: Source + Drop, K: Sink>(
+/// Takes over the entries of the file that the third argument names.
+fn adopt_file<O: Opener, P: DiskOpener, I: Source + Drop, K: Sink>(
     alloc: Global,
     opener: &mut O,
     disk_opener: &mut P,
     input: &mut Option<I>,
+    kind: EntryFile,
     words: &[String],
     sink: &mut K,
 ) -> (u8, Vec<WordSource<O::Opened, I>>, Vec<P::Opened>)
@@ -102,7 +105,7 @@ fn merge_other<O: Opener, P: DiskOpener, I: Source + Drop, K: Sink>(
           disks_before = P.opened disk_opener.old;
           disks_after = P.opened disk_opener.new;
         })
-        (each string_bytes words.now) AdoptTask.Merge (each P.Opened.state result.2.items)
+        (each string_bytes words.now) (AdoptTask.All kind) (each P.Opened.state result.2.items)
         (record { before = K.state sink.old; after = K.state sink.new; status = result.0 })) }
 {
     let mut files = match Vec::with_capacity(alloc, 1) {
@@ -115,7 +118,7 @@ fn merge_other<O: Opener, P: DiskOpener, I: Source + Drop, K: Sink>(
         }
     };
     let mut file = open_word(opener, input, Some(word_at(words, 3)));
-    let entries = entries_of(alloc, &mut file);
+    let entries = entries_of(alloc, kind, &mut file);
     files.push_reserved(file);
     match entries {
         Ok(entries) => {

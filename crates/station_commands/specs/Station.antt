@@ -28,7 +28,9 @@ station_usage = line (codes "usage: station slots, ledger, key")
 
 -- what a second argument names after `ledger`
 abbrev pub ledger_part : List ℕ → StationPart
-ledger_part word = if bytes_eq word (codes "adopt") || bytes_eq word (codes "merge") then Adoption else Ledger
+ledger_part word =
+    if bytes_eq word (codes "adopt") || bytes_eq word (codes "import") || bytes_eq word (codes "merge")
+    then Adoption else Ledger
 
 -- what the first two arguments name
 abbrev pub part_named : List ℕ → List ℕ → Option StationPart

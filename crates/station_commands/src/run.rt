@@ -21,7 +21,7 @@ pub enum StationPart {
     Slots,
     /// `ledger`: what ledgers hold.
     Ledger,
-    /// `ledger adopt` and `merge`: entries that a ledger takes over.
+    /// `ledger adopt`, `import` and `merge`: entries that a ledger takes over.
     Adoption,
     /// `key`: messages and boot MACs with keys from files.
     Key,
@@ -128,7 +128,7 @@ fn part_named(name: &str, next: &str) -> Option<StationPart>
 fn ledger_part(name: &str) -> StationPart
     ensures { result ≡ ledger_part name.now }
 {
-    if name == "adopt" || name == "merge" {
+    if name == "adopt" || name == "import" || name == "merge" {
         StationPart::Adoption
     } else {
         StationPart::Ledger

@@ -1,6 +1,6 @@
 use Rattle.std.proofs.Common.{refl, map, sym, ap, subst}
 use Rattle.program_edge.specs.NamedSources.{word_source}
-use Rattle.adopt_commands.specs.declared.tasks.AdoptTask.TheVariants.{One, Merge}
+use Rattle.adopt_commands.specs.declared.tasks.AdoptTask.TheVariants.{One, All}
 use Rattle.adopt_commands.specs.AdoptFiles.{asks_nothing, asks_it, with_entries}
 use Rattle.adopt_commands.proofs.Naming.{over_none_named}
 use Rattle.adopt_commands.proofs.start.adopts_words.Goals as goal
@@ -11,8 +11,8 @@ returns-in-Ok-One g c =
     (over_none_named _ _ _ _ _ _ refl (ap (map (word_source g.O.Opened.Source.state g.I.Source.state)) c.new-unopened.ensures.items)
     (with_entries _ (refl, refl) c.adopt_one-status.ensures))
 
-pub returns-in-Ok-Merge : goal.returns-in-Ok-Merge
-returns-in-Ok-Merge g c = asks_it Merge (rw c.in-Ok-Merge.field-0-is at c.in-Ok-Merge.ensures.task) c.merge_other.ensures
+pub returns-in-Ok-All : goal.returns-in-Ok-All
+returns-in-Ok-All g c = asks_it (All c.in-Ok-All.kind) (rw c.in-Ok-All.field-0-is at c.in-Ok-All.ensures.task) c.adopt_file.ensures
 
 pub returns-in-Err : goal.returns-in-Err
 returns-in-Err g c =
