@@ -1,6 +1,5 @@
 //! What is said of ledgers, and entries that one takes over from another.
 use crate::comparing::same;
-use adopt_commands::{adopt_over, entries_of};
 use any_cells::AnyCells;
 use bus_port::{CleanSource, MemSink};
 use campaign_commands::{open_ledger, run_campaign};
@@ -208,70 +207,4 @@ fn a_ledger_takes_over_what_says_more(rt: HostRuntime) -> Result<(), Fail> {
     same(&rt, "more", &adopt_of(&mut ledger, &later, 1), &(1, 0));
     same(&rt, "less", &adopt_of(&mut ledger, &first, 1), &(3, 2));
     Ok(())
-}
-
-/// Whether an entry that the ledger is ahead of is refused, the status, and what is printed.
-struct Merge(bool, u8, &'static str);
-
-/// The ledger of the first campaign is merged into a blank disk, and then again.
-const INTO_BLANK: &[Merge] = &[
-    Merge(
-        false,
-        0,
-        "adopted 000000000000000000000000000001 4 1 confirmed\nadopted 00000000000000000000000000000a 13 1 issued\n",
-    ),
-    Merge(
-        false,
-        0,
-        "held 000000000000000000000000000001 4 1 confirmed\nheld 00000000000000000000000000000a 13 1 issued\n",
-    ),
-];
-
-/// It is merged into one that is ahead.
-const INTO_LATER: &[Merge] = &[
-    Merge(
-        false,
-        0,
-        "held 000000000000000000000000000001 4 1 confirmed\nahead 00000000000000000000000000000a 13 2\n",
-    ),
-    Merge(
-        true,
-        1,
-        "held 000000000000000000000000000001 4 1 confirmed\nahead 00000000000000000000000000000a 13 2\n",
-    ),
-];
-
-fn check_merges(
-    rt: &impl Abort,
-    alloc: Global,
-    disks: &mut Vec<MemDisk>,
-    rows: &[Merge],
-) -> Result<(), Fail> {
-    for row in rows {
-        let bytes = bytes_of(alloc, &mut disk_after(alloc, &[CAMPAIGN])?)?;
-        let Ok(entries) = entries_of(alloc, &mut CleanSource::new(bytes)) else {
-            return Err(Fail::from("no ledger"));
-        };
-        let mut sink = MemSink::new(alloc, 4096, Vec::new(alloc), 4096)?;
-        let status = adopt_over(alloc, entries.as_slice(), row.0, &mut sink, disks);
-        same(
-            rt,
-            row.2,
-            &(status, sink.bytes()),
-            &(row.1, row.2.as_bytes()),
-        );
-    }
-    Ok(())
-}
-
-#[test]
-fn a_ledger_is_merged_into_another(rt: HostRuntime) -> Result<(), Fail> {
-    let alloc = rt.alloc();
-    check_merges(&rt, alloc, &mut disk_after(alloc, &[])?, INTO_BLANK)?;
-    check_merges(
-        &rt,
-        alloc,
-        &mut disk_after(alloc, &[CAMPAIGN, ONCE_MORE])?,
-        INTO_LATER,
-    )
 }
