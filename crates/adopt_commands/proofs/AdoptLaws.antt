@@ -29,7 +29,7 @@ Moments = List (Moment LedgerEntry AdoptLine KeeperState)
 
 -- ---- entries are kept from one ledger to the next
 
-keeps_same : (c : Campaign) → KeepsEntries c c
+pub keeps_same : (c : Campaign) → KeepsEntries c c
 keeps_same c uid id e at = record { now = e; there = at; no_lower = omega arith }
 
 keeps_then : (a b c : Campaign) → KeepsEntries a b → KeepsEntries b c → KeepsEntries a c

@@ -2,3 +2,8 @@ pub mod AdoptLaws
 pub mod AdoptEnds
 pub mod OverDisks
 pub mod Naming
+pub mod Taken
+pub mod GivenFiles
+pub mod LedgerDisks
+pub mod AdoptPromises
+pub mod OverWords

@@ -24,6 +24,14 @@ abbrev pub files_asked : AdoptTask → List (List ℕ) → List (List ℕ)
 files_asked (adopt.One entry) words = []
 files_asked (adopt.All kind) words = nth_word words 3 ∷ []
 
+-- the arguments that name a file: none if nothing is asked
+abbrev pub files_of : Option (Result AdoptTask ℕ) → List (List ℕ) → List (List ℕ)
+files_of (Some (Ok asked)) words = files_asked asked words
+files_of other words = []
+
+abbrev pub adoption_files : List (List ℕ) → List (List ℕ)
+adoption_files words = files_of (adoption_asked words) words
+
 -- how taking over these entries over the disk that an argument names ends: there was no memory for the disk, and none
 -- was opened; or the one disk that it opens, once, was gone over, and is handed back
 pub data EndsInto (opens : List ℕ → DiskState → Type 0) (before after : List (List ℕ)) (word : List ℕ) (strict : Bool)

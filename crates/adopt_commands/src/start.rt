@@ -6,6 +6,7 @@ ghost use Rattle.file_disk.specs.NamedDisks.{OpenedByWords};
 ghost use Rattle.program_edge.specs.NamedSources.{word_source, openings};
 ghost use Rattle.key_campaign.specs.Entries.{IsEntry};
 ghost use Rattle.adopt_commands.specs.AdoptFiles.{EndsAdoptWords, EndsAdoptTask, EndsInto};
+ghost use Rattle.adopt_commands.specs.AdoptsOver.{AdoptsOver};
 
 use crate::adopting::adopt_over;
 use crate::entries::{entries_of, one_entry};
@@ -21,8 +22,33 @@ use std::alloc::{AllocError, Global};
 /// program ends with, and the source of the file and the disk as they were left. `-` names the input, which is taken
 /// then. The file is read whole before the disk is opened, so that one that is refused makes no file.
 ///
-/// The statuses are looked for in the order 2, 3, then 5, 8 and 9 of the file, 9 and 10 of the disk, 1.
+/// The statuses are looked for in the order 2, 3, then 5, 8, 4 and 9 of the file, 9 and 10 of the disk, 1.
 pub fn adopts_words<O: Opener, P: DiskOpener, I: Source + Drop, K: Sink>(
+    alloc: Global,
+    opener: &mut O,
+    disk_opener: &mut P,
+    input: &mut Option<I>,
+    words: &[String],
+    sink: &mut K,
+) -> (u8, Vec<WordSource<O::Opened, I>>, Vec<P::Opened>)
+    // All that is promised, over the file and the disk. `RunsAdoption` of specs/AdoptRuns.antt has a member for each
+    // promise, in the order of the table of answers.
+    ensures { AdoptsOver (O.opens opener.old) (P.opens disk_opener.old)
+        (record {
+          before = openings (O.opened opener.old) (option_map I.state input.old);
+          after = openings (O.opened opener.new) (option_map I.state input.new);
+          disks_before = P.opened disk_opener.old;
+          disks_after = P.opened disk_opener.new;
+        })
+        (each string_bytes words.now)
+        (each (word_source O.Opened.state I.state) result.1.items) (each P.Opened.state result.2.items)
+        (record { before = K.state sink.old; after = K.state sink.new; status = result.0 }) }
+{
+    adopt_asked(alloc, opener, disk_opener, input, words, sink)
+}
+
+/// Does what the arguments ask for.
+fn adopt_asked<O: Opener, P: DiskOpener, I: Source + Drop, K: Sink>(
     alloc: Global,
     opener: &mut O,
     disk_opener: &mut P,

@@ -13,5 +13,5 @@ mod reader;
 
 pub use backup::read_backup;
 pub use forms::{entry_counter, entry_slot};
-pub use laws::a_backup_is_read_again;
+pub use laws::{a_backup_has_one_meaning, a_backup_is_read_again};
 pub use reader::BackupLine;
