@@ -1,15 +1,19 @@
 -- When the lines of a text are a whole backup
-use Rattle.std.proofs.Common.{◌≡◌, ℕ, suc, zero, ◌+◌, ◌<◌, ◌≤◌, Bool, true, false, List, [], ◌∷◌, ◌++◌, length, map, take, drop, get_or, refl, sym, ap, ap₂, subst, ◌∙◌, arith}
-use Rattle.std.specs.Prelude.{◌==◌, ◌&&◌, Ok, Result}
-use Rattle.std.proofs.lemmas.Bool.{and_parts, true≢false}
+use Rattle.std.proofs.Common.{◌≡◌, ℕ, suc, zero, ◌+◌, ◌<◌, ◌≤◌, Bool, true, false, List, [], ◌∷◌, ◌++◌, length, map, take, drop, get_or, refl, sym, ap, ap₂, subst, ◌∙◌, ◌⊎◌, inl, inr, arith}
+use Rattle.std.specs.Prelude.{◌==◌, ◌&&◌, Ok, Err, Result}
+use Rattle.std.proofs.lemmas.Bool.{and_parts, cases_Bool, true≢false}
 use Rattle.std.proofs.lemmas.Bool.Decides.{Decides-eqb}
-use Rattle.std.proofs.lemmas.List.{take-append-drop, drop_more, length-take-le, length-map, length-drop}
+use Rattle.std.proofs.lemmas.List.{take-append-drop, drop_more, length-take-le, length-map, length-drop, take_all}
 use Rattle.std.proofs.Math.ListN.{drop_of_length-le}
-use Rattle.text_lines.specs.Readings.{Fault}
+use Rattle.text_lines.specs.declared.fault.ScriptFault.{ScriptFault}
+use Rattle.text_lines.specs.declared.fault.ScriptFault.TheVariants.{At, Memory}
+use Rattle.text_lines.specs.Readings.{Fault, Gives}
+use Rattle.text_lines.specs.LineRows.{IsRowOf}
+use Rattle.program_edge.specs.Rows.{Row, memory_row}
 use Rattle.key_campaign.specs.declared.entries.LedgerEntry.{LedgerEntry}
 use Rattle.ledger_backups.specs.declared.reader.BackupLine.{BackupLine}
 use Rattle.ledger_backups.specs.declared.reader.BackupLine.TheVariants.{Entry, End}
-use Rattle.ledger_backups.specs.Backups.{backup_lines_of, IsBackupOf, IsWholeBackup, AddsWhole}
+use Rattle.ledger_backups.specs.Backups.{backup_lines_of, IsBackupOf, IsWholeBackup, AddsWhole, LacksBackup, bad_line}
 
 -- the end stands at one place
 same_split : (es some : List LedgerEntry) (rest : List BackupLine) (n m : ℕ) → map Entry es ++ End n ∷ rest ≡ map Entry some ++ End m ∷ []
@@ -75,3 +79,30 @@ ends_whole lines entries k count inside so_far is false test = λ some whole.
     let last : (length entries + 1 == length lines) ≡ true = (Decides-eqb (length entries + 1) (length lines)).1 (omega (arith, many, left, none, inside)) in
     let number : (count == length entries) ≡ true = (Decides-eqb count (length entries)).1 (same.0 ∙ sym same.2) in
     true≢false (sym (ap₂ (λ a b. a && b) last number) ∙ sym test)
+
+-- the two tests of an end
+pub both_tests : (count number own given lines : ℕ) → own ≡ number → given ≡ count → own + 1 ≡ lines → (given == own) ≡ (number + 1 == lines && count == number)
+both_tests count number own given lines len from is =
+    let last : (number + 1 == lines) ≡ true = (Decides-eqb (number + 1) lines).1 (subst (λ n. n + 1 ≡ lines) len is) in
+    ap₂ (λ a b. a == b) from len ∙ sym (ap (λ t. t && count == number) last)
+
+pub first_test : (count number own lines : ℕ) → own ≡ number → (own + 1 ≡ lines → ⊥) → (own + 1 == lines) ≡ (number + 1 == lines && count == number)
+first_test count number own lines len isnt =
+    let not : (number + 1 == lines) ≡ false = elim (cases_Bool (number + 1 == lines)) [
+      | inl it ↦ absurd (isnt (subst (λ n. n + 1 ≡ lines) (sym len) ((Decides-eqb (number + 1) lines).0 it)))
+      | inr other ↦ other
+    ] in
+    ap (λ n. n + 1 == lines) len ∙ not ∙ sym (ap (λ t. t && count == number) not)
+
+-- lines without an end are of no backup
+pub none_whole : (lines : List BackupLine) (entries : List LedgerEntry) (k : ℕ) → length lines ≤ k → map Entry entries ≡ take k lines
+    → (some : List LedgerEntry) → ¬ IsWholeBackup lines some
+none_whole lines entries k all so_far some whole = no_end entries some (length some) (so_far ∙ take_all k lines all ∙ whole)
+
+-- ---- a text that is refused
+
+pub refused_lines : (text : List ℕ) (fault : ScriptFault) (row : Row) → Gives (backup_lines_of text) (Err fault) → IsRowOf fault row
+    → LacksBackup text row ⊎ (row ≡ memory_row)
+refused_lines text (At number cause) row gives (inl is) = inl (subst (LacksBackup text) (sym is) (bad_line (record { line = number; cause = cause }) gives))
+refused_lines text (At number cause) row gives (inr memory) = inr memory
+refused_lines text Memory row gives is = inr is
