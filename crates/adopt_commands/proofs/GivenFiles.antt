@@ -1,16 +1,16 @@
 -- What the rows of a file say that gives no entries, and what a file doesn't have that gives some
 use Rattle.std.proofs.Common.{◌≡◌, ◌⊎◌, ◌∙◌, ℕ, zero, suc, List, [], ◌∷◌, Result, Ok, Err, refl, sym, ap, subst, inl, inr, arith}
-use Rattle.std.specs.Prelude.{All, Any, codes}
+use Rattle.std.specs.Prelude.{All, Any, IfErr, codes}
 use Rattle.std.proofs.lemmas.List.Elements.{All-head}
 use Rattle.std.proofs.lemmas.List.Quantifiers.{Any-push}
 use Rattle.text_lines.specs.Readings.{Fault}
 use Rattle.program_edge.specs.declared.input.InputFault.TheVariants as input
 use Rattle.program_edge.specs.Input.{input_fault_status}
-use Rattle.program_edge.specs.Rows.{Row}
+use Rattle.program_edge.specs.Rows.{Row, memory_row}
 use Rattle.program_edge.specs.Inputs.{Reading, ReadsWhole, SourceFailed, CountsFault, GivesTooMuch, CountsTooMuch}
 use Rattle.program_edge.proofs.CallerLemmas.{Lacks-whole, CountsFault-is, CountsTooMuch-is, Offers-is, Offers-whole}
 use Rattle.key_campaign.specs.declared.entries.LedgerEntry.{LedgerEntry}
-use Rattle.ledger_commands.specs.LedgerReads.{HasNoLedger, OffersNone}
+use Rattle.ledger_commands.specs.LedgerReads.{HasNoLedger, OffersLedger, OffersNone}
 use Rattle.ledger_commands.proofs.CallerLemmas.{lacks_5, lacks_7, lacks_8, lacks_9, lacks_fault, lacks_long, lacks_none, lacks_offered, lacks_status}
 use Rattle.ledger_commands.proofs.CallerLemmas.{read_no_fault, read_not_long, read_not_none}
 use Rattle.ledger_backups.specs.declared.reader.BackupLine.{BackupLine}
@@ -119,6 +119,13 @@ backup_at_8 r row (backup_unread input.Memory lacks) is = absurd (omega (arith, 
 backup_at_8 r row (no_backup_there text _ whole lacks) is = absurd (omega (arith, is, backup_4 text row lacks))
 backup_at_8 r row (backup_unkept text whole) is = absurd (omega (arith, is))
 
+-- a file that was read whole, and what was made of its text
+pub of_text : {A : Type 0} (r : Reading) (text : List ℕ) (result : Result A Row) → ReadsWhole r text → IfErr result (λ row. LacksBackup text row ⊎ (row ≡ memory_row))
+    → IfErr result (LacksBackupFile r)
+of_text r text (Ok v) whole is = tt
+of_text r text (Err row) whole (inl lacks) = no_backup_there text row whole lacks
+of_text r text (Err row) whole (inr memory) = subst (LacksBackupFile r) (sym memory) (backup_unkept text whole)
+
 -- ---- a file of either kind that gives none
 
 abbrev pub IsFileStatus : ℕ → Type 0
@@ -165,7 +172,7 @@ of_file_long Ledger r row lacks counts = lacks_long r row lacks counts
 pub of_file_offered : (kind : EntryFile) (files : List Reading) (r : Reading) (row : Row) → LacksOfFile kind r row → files ≡ r ∷ []
     → OffersEntries (adopt.All kind) files → row.status ≡ 7
 of_file_offered Backup files r row lacks is offers = backup_offered r row lacks (All-head OffersBackup r [] (subst (All OffersBackup) is offers))
-of_file_offered Ledger files r row lacks is offers = lacks_offered r row lacks (All-head _ r [] (subst (All _) is offers))
+of_file_offered Ledger files r row lacks is offers = lacks_offered r row lacks (All-head OffersLedger r [] (subst (All OffersLedger) is offers))
 
 -- ---- a file that gives entries
 
