@@ -79,8 +79,14 @@ pub fn station_words<O: Opener, P: DiskOpener, I: Source + Drop, K: Sink>(
             (status, StationFiles::Ledgers(files))
         }
         StationPart::Adoption => {
-            let (status, files, disks) =
-                adopts_words(alloc, opener, disk_opener, input, rest, sink);
+            let (status, files, disks) = adopts_words(
+                alloc,
+                opener,
+                disk_opener,
+                input,
+                rest,
+                sink,
+            );
             (status, StationFiles::Adopted(files, disks))
         }
         StationPart::Key => {
