@@ -1,6 +1,6 @@
 -- What `ledger adopt`, `import` and `merge` promise
-use Rattle.std.specs.Prelude.{◌≡◌, ◌⊎◌, ◌+◌, ◌*◌, ◌≤◌, ℕ, Bool, if◌then◌else◌, All, Any, Option, Some, None, List, [], ◌∷◌}
-use Rattle.std.specs.Prelude.{◌++◌, length, Ok, Err, codes}
+use Rattle.std.specs.Prelude.{◌≡◌, ◌⊎◌, ◌+◌, ◌*◌, ℕ, Bool, if◌then◌else◌, All, Any, Option, Some, None, List, []}
+use Rattle.std.specs.Prelude.{◌∷◌, ◌++◌, length, Ok, Err, codes}
 use Rattle.std.specs.List.{list_any}
 use Rattle.cut_disk.specs.State.{DiskState}
 use Rattle.cut_disk.specs.Images.{EachImage, firm}
@@ -75,8 +75,8 @@ UpToEntry entries Holds =
 abbrev pub most_to_adopt : ℕ → ℕ
 most_to_adopt entries = calls_to_open + 6 * entries
 
--- These entries were answered so by the ledger of the disk, and the disk didn't fail. No entry went and no counter fell.
--- If no byte was loose, each image of the disk then stands for the entries after the answers.
+-- These entries were answered so by the ledger of the disk, and the disk didn't fail. No entry went and no counter
+-- fell. If no byte was loose, each image of the disk then stands for the entries after the answers.
 pub record TookAll (entries : List LedgerEntry) (lines : List AdoptLine) (old new : DiskState) : Type 0 where
   pub first : List (Option LedgerEntry)
   pub last : List (Option LedgerEntry)
@@ -93,8 +93,8 @@ abbrev pub StandsWithChange : List (Option LedgerEntry) → PendingEntry → Lis
 StandsWithChange places change x = StandsForEntries x places ⊎ StandsForEntries x (with_change change places)
 
 -- These entries were answered so, and the disk didn't fail. Then its count rose as one more was put. If no byte was
--- loose, each image stands for the entries after the answers, with this one or without it: no entry went, and no counter
--- fell, in either.
+-- loose, each image stands for the entries after the answers, with this one or without it: no entry went, and no
+-- counter fell, in either.
 pub record StoppedAt (entries : List LedgerEntry) (lines : List AdoptLine) (entry : LedgerEntry)
     (old new : DiskState) : Type 0 where
   pub first : List (Option LedgerEntry)
@@ -183,7 +183,8 @@ OffersEntries (adopt.All Ledger) files = All OffersLedger files
 
 -- the disk, if one was opened, tells a ledger, or none of its first 32 bytes is set, and its count didn't rise
 abbrev pub OffersLedgerDisk : AdoptInputs → Type 0
-OffersLedgerDisk i = (old new : DiskState) → i.before ≡ old ∷ [] → i.after ≡ new ∷ [] → HasLedger old × CountsNone old new
+OffersLedgerDisk i = (old new : DiskState) → i.before ≡ old ∷ [] → i.after ≡ new ∷ []
+    → HasLedger old × CountsNone old new
 
 -- the file of `merge` was read whole and has no ledger, or the disk has none: the first cause is printed, and the
 -- disk's bytes are as they were
@@ -209,7 +210,8 @@ pub record RunsAdoption (i : AdoptInputs) (e : Ending) : Type 0 where
   pub value : e.status ≡ 3 → (number : ℕ) × (adoption_asked i.words ≡ Some (Err number)) × (i.files ≡ [])
       × PrintsWhole e (ledger_value_text number)
   pub value_only : (number : ℕ) → adoption_asked i.words ≡ Some (Err number) → EndsIn 3 e
-  -- 4: exactly if the file of `import` was read whole and is no backup: its first line of no form, or `backup: not whole`.
+  -- 4: exactly if the file of `import` was read whole and is no backup: its first line of no form, or `backup: not
+  -- whole`.
   pub refused : e.status ≡ 4 → (row : Row) × Any (HasNoBackup row) i.files × PrintsWhole e row.text
   pub refused_only : adoption_asked i.words ≡ Some (Ok (adopt.All Backup)) → Any OffersNoBackup i.files → MayEndIn 4 e
   -- 5: exactly if the file's count of faults rose; 8: exactly if one byte more than an input may have came from it.

@@ -16,9 +16,9 @@ pub data OpensDisk (opens : List ℕ → DiskState → Type 0) (before after : L
   one_opened : (disks : List DiskState) → IsOpenedBy opens word disks → after ≡ before ++ word ∷ []
       → OpensDisk opens before after word disks
 
--- All that is promised was had over the file that the third argument names, if a backup or another ledger is taken over,
--- and over the disk that the second names. Each was opened at most once, and no other; they were left as those that are
--- handed back.
+-- All that is promised was had over the file that the third argument names, if a backup or another ledger is taken
+-- over, and over the disk that the second names. Each was opened at most once, and no other; they were left as those
+-- that are handed back.
 pub record AdoptsOver (opens : List ℕ → SourceState → Type 0) (disk_opens : List ℕ → DiskState → Type 0)
     (o : OpenedByWords) (words : List (List ℕ)) (left : List SourceState) (disks : List DiskState)
     (e : Ending) : Type 0 where

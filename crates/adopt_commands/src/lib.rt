@@ -1,10 +1,10 @@
 //! Entries that the ledger of a key loading station takes over (updates after the SHE specification): `ledger adopt`,
 //! `import` and `merge`.
 //!
-//! [`adopts_words`] does what the arguments ask. The record `RunsAdoption` has a member for each promise. A backup or another ledger is read whole first. Then the ledger on the disk
-//! takes over one entry after another, and the line of each is written before the next is done. Each entry is put whole
-//! or not at all, whatever a power cut leaves; no entry goes, and no counter falls. The same arguments again finish
-//! what a kill left.
+//! [`adopts_words`] does what the arguments ask. The record `RunsAdoption` has a member for each promise. A backup or
+//! another ledger is read whole first. Then the ledger on the disk takes over one entry after another, and the line of
+//! each is written before the next is done. Each entry is put whole or not at all, whatever a power cut leaves; no
+//! entry goes, and no counter falls. The same arguments again finish what a kill left.
 #![tactic(auto)]
 
 mod adopting;
