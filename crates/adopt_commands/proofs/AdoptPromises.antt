@@ -454,19 +454,30 @@ module _ (strict : Bool) (entries : List LedgerEntry) (e : Ending) (old new : Di
   calm_at (cut_off (inl (six, rose)) one) calm well = absurd (well rose)
   calm_at (cut_off (inr (seven, none)) one) calm well = inr (inr seven)
 
+abbrev HoldsAll : Ending → Bool → List LedgerEntry → DiskState → DiskState → Type 0
+HoldsAll e strict entries old new =
+    (lines : List AdoptLine) × TookAll entries lines old new × (e.status ≡ (if list_any (is_refused strict) lines then 1 else 0)) × PrintsWhole e (adopt_texts lines)
+
+abbrev HoldsOne : Ending → Bool → List LedgerEntry → DiskState → DiskState → Type 0
+HoldsOne e strict entries old new = UpToEntry entries (λ first entry.
+    (lines : List AdoptLine) × StoppedAt first lines entry old new × PrintsWhole e (adopt_texts lines ++ adopt_text 0 Failed))
+
+abbrev HoldsCut : Ending → Bool → List LedgerEntry → DiskState → DiskState → Type 0
+HoldsCut e strict entries old new = OneCut e entries old new
+
 pub runs_lines : (i : AdoptInputs) (e : Ending) → OverEntries i (λ strict entries old new. AdoptsInto strict entries e old new) → RunsAdoption i e
 runs_lines i e (asked, entries, is, gives, on) =
     let strict = is_strict asked in
     let taken = ends_taken strict entries e on.old on.new on.holds in
     let among = line_status strict entries e on.old on.new taken in
     record {
-      taken_over = λ low. over (all_at strict entries e on.old on.new taken low);
-      failed = λ ten. inr (over (one_at strict entries e on.old on.new taken ten));
+      taken_over = λ low. over (HoldsAll e) (all_at strict entries e on.old on.new taken low);
+      failed = λ ten. inr (over (HoldsOne e) (one_at strict entries e on.old on.new taken ten));
       keeps = λ old new before after.
           subst (λ (d : DiskState). KeepsLedgers d new) (one_first i.before on.old old on.before_is before)
           (subst (λ (d : DiskState). KeepsLedgers on.old d) (one_first i.after on.new new on.after_is after)
           (lines_keep strict entries e on.old on.new on.holds));
-      early_ends = λ early. inr (over (cut_at strict entries e on.old on.new taken early));
+      early_ends = λ early. inr (over (HoldsCut e) (cut_at strict entries e on.old on.new taken early));
       usage = λ at. absurd (omega (arith, at, among));
       usage_only = λ none. absurd (not_none (adoption_asked i.words) (Ok asked) none is);
       value = λ at. absurd (omega (arith, at, among));
@@ -487,8 +498,8 @@ runs_lines i e (asked, entries, is, gives, on) =
           calm_at strict entries e on.old on.new taken (disk on.old on.new on.before_is on.after_is).1 well;
     }
   where
-    over : {Holds : Bool → List LedgerEntry → DiskState → DiskState → Type 0} → Holds (is_strict asked) entries on.old on.new → OverEntries i Holds
-    over holds = (asked, entries, is, gives, record { old = on.old; new = on.new; before_is = on.before_is; after_is = on.after_is; holds = holds })
+    over : (Holds : Bool → List LedgerEntry → DiskState → DiskState → Type 0) → Holds (is_strict asked) entries on.old on.new → OverEntries i Holds
+    over Holds holds = (asked, entries, is, gives, record { old = on.old; new = on.new; before_is = on.before_is; after_is = on.after_is; holds = holds })
 
     none_opened : (old new : DiskState) (cause : NoLedgerCause) → i.before ≡ old ∷ [] → TellsNoLedger cause old new → ⊥
     none_opened old new cause before tells =
