@@ -192,7 +192,7 @@ module _ (i : AdoptInputs) (e : Ending) where
       new = on.new;
       before_is = on.before_is;
       after_is = on.after_is;
-      holds = (row, on.holds, disk_keeps on.old on.new row on.holds, prints);
+      holds = (row, on.holds, prints);
     },
   )
 

@@ -186,13 +186,12 @@ abbrev pub OffersLedgerDisk : AdoptInputs → Type 0
 OffersLedgerDisk i = (old new : DiskState) → i.before ≡ old ∷ [] → i.after ≡ new ∷ []
     → HasLedger old × CountsNone old new
 
--- the file of `merge` was read whole and has no ledger, or the disk has none: the first cause is printed, and the
--- disk's bytes are as they were
+-- the file of `merge` was read whole and has no ledger, or the disk has none: the first cause is printed
 abbrev pub RefusesLedgers : AdoptInputs → Ending → Type 0
 RefusesLedgers i e =
     ((row : Row) × Any (HasNoLedger row) i.files × OpensNoLedger i × PrintsWhole e row.text)
     ⊎ OverEntries i (λ strict entries old new.
-    (row : Row) × RefusesLedger old new row × KeepsLedgers old new × PrintsWhole e row.text)
+    (row : Row) × RefusesLedger old new row × PrintsWhole e row.text)
 
 -- what is promised of these arguments, file and disk if it ends so, in the order of the table of answers
 pub record RunsAdoption (i : AdoptInputs) (e : Ending) : Type 0 where
