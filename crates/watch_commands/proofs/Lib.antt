@@ -2,6 +2,7 @@ pub mod Parts
 pub mod Objects
 pub mod Answering
 pub mod TotalVectors
+pub mod StampVectors
 pub mod Stamping
 pub mod WordSizes
 pub mod Going
