@@ -16,7 +16,7 @@ use Rattle.slot_commands.specs.declared.cells.Meaning.{Meaning}
 use Rattle.slot_commands.specs.declared.cells.Meaning.TheVariants.{Slot, Bound, BadSlot, BadBound}
 use Rattle.slot_commands.specs.Cells.{slot_count, HoldsNoBoundAtAll, SaysCell, a_slot, a_bound, no_slot, no_bound}
 use Rattle.slot_commands.specs.Cells.{damaged, no_slot_there, no_bound_there, good_slot, good_bound}
-use Rattle.slot_commands.specs.RouteFindings.{FindsAt, route_at, not_its_bound_words, as_slot, no_copy, no_route, not_its_bound, its_bound}
+use Rattle.slot_commands.specs.RouteFindings.{FindsAt, route_of_place, not_its_bound_words, as_slot, no_copy, no_route, not_its_bound, its_bound}
 use Rattle.slot_commands.specs.Checked.{PushesFinding}
 use Rattle.slot_commands.specs.StoreWords.{cell_words}
 use Rattle.slot_commands.specs.Meanings.{Means, meaning_words}
@@ -96,18 +96,18 @@ finds_slot routes place cell old new low (inl (words, finds, more)) = inl (words
 finds_slot routes place cell old new low (inr (finds, same)) = inr (as_slot (Some cell) None low finds, same)
 
 -- no route stands at a place after all of them
-pub no_route_at : (routes : List Route) (place i : ℕ) → i ≡ place - slot_count → false ≡ ltb i (length routes) → route_at routes place ≡ None
+pub no_route_at : (routes : List Route) (place i : ℕ) → i ≡ place - slot_count → false ≡ ltb i (length routes) → route_of_place routes place ≡ None
 no_route_at routes place i is not = subst (λ (k : ℕ). slice_get routes k ≡ None) is (slice_get_past routes i (ltb-false i (length routes) (sym not)))
 
-pub finds_no_route : (routes : List Route) (place : ℕ) (cell old new : List ℕ) → slot_count ≤ place → route_at routes place ≡ None
+pub finds_no_route : (routes : List Route) (place : ℕ) (cell old new : List ℕ) → slot_count ≤ place → route_of_place routes place ≡ None
     → new ≡ old ++ written (cell_words place (codes "NoRoute")) → PushesFinding (Some routes) place (Some cell) old new
 finds_no_route routes place cell old new from none more = inl (cell_words place (codes "NoRoute"), no_route cell from none, more)
 
-pub finds_not_its : (routes : List Route) (route : Route) (place : ℕ) (cell old new : List ℕ) → slot_count ≤ place → route_at routes place ≡ Some route
+pub finds_not_its : (routes : List Route) (route : Route) (place : ℕ) (cell old new : List ℕ) → slot_count ≤ place → route_of_place routes place ≡ Some route
     → HoldsNoBound cell route.id route.direction → new ≡ old ++ written (not_its_bound_words place route)
     → PushesFinding (Some routes) place (Some cell) old new
 finds_not_its routes route place cell old new from at none more = inl (not_its_bound_words place route, not_its_bound cell route from at none, more)
 
-pub finds_its : (routes : List Route) (route : Route) (place : ℕ) (cell text : List ℕ) (bound : ℕ) → slot_count ≤ place → route_at routes place ≡ Some route
+pub finds_its : (routes : List Route) (route : Route) (place : ℕ) (cell text : List ℕ) (bound : ℕ) → slot_count ≤ place → route_of_place routes place ≡ Some route
     → HoldsBound cell route.id route.direction bound → PushesFinding (Some routes) place (Some cell) text text
 finds_its routes route place cell text bound from at holds = inr (its_bound cell route bound from at holds, refl)

@@ -22,20 +22,20 @@ no_cell_words route =
     codes "route" ∷ encode_lower (bytes_of 2 route.id) ∷ direction_word route.direction ∷ codes "NoCell" ∷ []
 
 -- the route whose bound the cell at this place is to hold: the first stands in the cell after the slots
-abbrev pub route_at : List Route → ℕ → Option Route
-route_at routes place = slice_get routes (place - slot_count)
+abbrev pub route_of_place : List Route → ℕ → Option Route
+route_of_place routes place = slice_get routes (place - slot_count)
 
 -- what is wrong with what stands at a place, if anything is: a slot by itself, and each further cell by its route
 pub data FindsOverRoutes (routes : List Route) (place : ℕ) : Option (List ℕ) → Option (List (List ℕ)) → Type 0 where
   as_slot : (there : Option (List ℕ)) (words : Option (List (List ℕ))) → place < slot_count
       → FindsInCell place there words → FindsOverRoutes routes place there words
   no_copy : slot_count ≤ place → FindsOverRoutes routes place None (Some (cell_words place (codes "Damaged")))
-  no_route : (cell : List ℕ) → slot_count ≤ place → route_at routes place ≡ None
+  no_route : (cell : List ℕ) → slot_count ≤ place → route_of_place routes place ≡ None
       → FindsOverRoutes routes place (Some cell) (Some (cell_words place (codes "NoRoute")))
-  not_its_bound : (cell : List ℕ) (route : Route) → slot_count ≤ place → route_at routes place ≡ Some route
+  not_its_bound : (cell : List ℕ) (route : Route) → slot_count ≤ place → route_of_place routes place ≡ Some route
       → HoldsNoBound cell route.id route.direction
       → FindsOverRoutes routes place (Some cell) (Some (not_its_bound_words place route))
-  its_bound : (cell : List ℕ) (route : Route) (bound : ℕ) → slot_count ≤ place → route_at routes place ≡ Some route
+  its_bound : (cell : List ℕ) (route : Route) (bound : ℕ) → slot_count ≤ place → route_of_place routes place ≡ Some route
       → HoldsBound cell route.id route.direction bound → FindsOverRoutes routes place (Some cell) None
 
 -- the same by itself if no routes are known

@@ -3,7 +3,7 @@ ghost use Rattle.std.specs.Prelude.{◌≡◌, ◌≤◌, ◌++◌, map as each,
 ghost use Rattle.text_lines.specs.Written.{written};
 ghost use Rattle.slot_commands.specs.Cells.{slot_count};
 ghost use Rattle.slot_commands.specs.Checked.{PushesFinding};
-ghost use Rattle.slot_commands.specs.RouteFindings.{not_its_bound_words, no_cell_words, lacking_lines, route_at};
+ghost use Rattle.slot_commands.specs.RouteFindings.{not_its_bound_words, no_cell_words, lacking_lines, route_of_place};
 ghost use Rattle.slot_commands.specs.Stores.{written_lines};
 
 use crate::cells::{SLOT_COUNT, direction_name, push_bad};
@@ -40,7 +40,7 @@ fn push_if_not_its(
     route: &Route,
 ) -> Result<(), AllocError>
     requires from { slot_count ≤ place }
-    requires route { route_at routes.now place ≡ Some route.now }
+    requires route { route_of_place routes.now place ≡ Some route.now }
     ensures { OnOk result (PushesFinding (Some routes.now) place (Some cell.now) text.old.items text.new.items) }
 {
     match bound_in(cell, route.id, route.direction) {

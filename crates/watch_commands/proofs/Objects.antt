@@ -12,7 +12,7 @@ use Rattle.trace_audit.specs.Auditing.{Finding, other, too_short, verdict, front
 use Rattle.basics.proofs.CallerLemmas.{length-bytes_of}
 use Rattle.watch_maps.specs.declared.options.WatchOptions.{WatchOptions}
 use Rattle.watch_commands.specs.Stamps.{LineStamp, lead_text}
-use Rattle.watch_commands.specs.Watching.{told_text, answer_text}
+use Rattle.watch_commands.specs.Watching.{told_text, finding_line}
 use Rattle.watch_commands.specs.Objects.{finding_object}
 use Rattle.watch_commands.specs.Answers.{IsAnswerTo, front_object, said_object}
 
@@ -103,13 +103,13 @@ told_in_full false text is = refl
 -- of a frame that isn't left out the answer is printed behind its time and channel
 pub told_full : (options : WatchOptions) (stamp : LineStamp) (number : ℕ) (head : List ℕ) (accepted : Bool) (answer : List ℕ) (f : Finding)
     → IsAnswerTo number head accepted answer f → (accepted && options.quiet) ≡ false
-    → lead_text options stamp ++ answer_text options.json f ≡ told_text options (record { finding = f; stamp = stamp })
+    → lead_text options stamp ++ finding_line options.json f ≡ told_text options (record { finding = f; stamp = stamp })
 told_full options stamp number head accepted answer (other kind) is told = absurd is
 told_full options stamp number head accepted answer (too_short n p can) is told =
-    told_in_full (is_accepted_tally (tally_of (too_short n p can)) && options.quiet) (lead_text options stamp ++ answer_text options.json (too_short n p can))
+    told_in_full (is_accepted_tally (tally_of (too_short n p can)) && options.quiet) (lead_text options stamp ++ finding_line options.json (too_short n p can))
     (ap (λ (b : Bool). b && options.quiet) (accepted_of number head accepted answer (too_short n p can) is) ∙ told)
 told_full options stamp number head accepted answer (verdict n p can outcome) is told =
-    told_in_full (is_accepted_tally (tally_of (verdict n p can outcome)) && options.quiet) (lead_text options stamp ++ answer_text options.json (verdict n p can outcome))
+    told_in_full (is_accepted_tally (tally_of (verdict n p can outcome)) && options.quiet) (lead_text options stamp ++ finding_line options.json (verdict n p can outcome))
     (ap (λ (b : Bool). b && options.quiet) (accepted_of number head accepted answer (verdict n p can outcome) is) ∙ told)
 
 as_object : (json : Bool) (object words : List ℕ) → json ≡ true → object ≡ (if json then object else words)
@@ -143,7 +143,7 @@ pub told_object : (json : Bool) (number : ℕ) (head : List ℕ) (accepted : Boo
     → IsAnswerTo number head accepted answer f → digits ≡ decimal number → json ≡ true
     → front_object digits head
     ++ said_object accepted (take (length answer - 1 - (length digits + length head + 2)) (drop (length digits + length head + 2) answer))
-    ≡ answer_text json f
+    ≡ finding_line json f
 told_object json number head accepted answer f digits is digits_are as_json =
     let s : Says number head accepted answer f = says number head accepted answer f is in
     ap (λ (d : List ℕ). front_object d head

@@ -2,7 +2,7 @@
 use Rattle.std.proofs.Common.{◌≡◌, Bool, true, false, [], ◌∷◌, refl}
 use Rattle.std.specs.Prelude.{codes}
 use Rattle.watch_maps.specs.declared.options.WatchOptions.{WatchOptions}
-use Rattle.watch_commands.specs.Stamps.{LineStamp, stamp_of, is_plain, escaped, lead_text}
+use Rattle.watch_commands.specs.Stamps.{LineStamp, stamp_of, is_plain_ascii, escaped, lead_text}
 
 options : Bool → Bool → WatchOptions
 options json time = record { quiet = false; json = json; time = time }
@@ -13,16 +13,16 @@ stamp = stamp_of (codes "(1.5)" ∷ codes "can0" ∷ codes "123#00" ∷ [])
 printed_characters : escaped (codes "can-0 ~") ≡ codes "can-0 ~"
 printed_characters = refl
 
-a_quote : is_plain 34 ≡ false
+a_quote : is_plain_ascii 34 ≡ false
 a_quote = refl
 
-a_backslash : is_plain 92 ≡ false
+a_backslash : is_plain_ascii 92 ≡ false
 a_backslash = refl
 
-before_a_space : is_plain 31 ≡ false
+before_a_space : is_plain_ascii 31 ≡ false
 before_a_space = refl
 
-after_a_tilde : is_plain 127 ≡ false
+after_a_tilde : is_plain_ascii 127 ≡ false
 after_a_tilde = refl
 
 in_words : lead_text (options false true) stamp ≡ codes "(1.5) can0 "

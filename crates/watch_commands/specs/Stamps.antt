@@ -20,12 +20,12 @@ abbrev pub within_ends : List ℕ → List ℕ
 within_ends word = take (length word - 2) (drop 1 word)
 
 -- a printed character of ASCII, except for `"` and `\`, which are 34 and 92
-abbrev pub is_plain : ℕ → Bool
-is_plain byte = nat_le 32 byte && nat_le byte 126 && not (byte == 34) && not (byte == 92)
+abbrev pub is_plain_ascii : ℕ → Bool
+is_plain_ascii byte = nat_le 32 byte && nat_le byte 126 && not (byte == 34) && not (byte == 92)
 
 -- bytes as a string of JSON has them: such a character as it is, and any other byte as the character of its number
 abbrev pub escaped_byte : ℕ → List ℕ
-escaped_byte byte = if is_plain byte then byte ∷ [] else codes "\\u00" ++ encode_lower (byte ∷ [])
+escaped_byte byte = if is_plain_ascii byte then byte ∷ [] else codes "\\u00" ++ encode_lower (byte ∷ [])
 
 abbrev pub escaped : List ℕ → List ℕ
 escaped bytes = flat_map escaped_byte bytes

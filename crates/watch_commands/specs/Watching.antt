@@ -57,8 +57,8 @@ abbrev pub FindsAll : List MapLine → List ℕ → List Found → Type 0
 FindsAll mapping log found = WatchesEach mapping (log_lines log) found
 
 -- the answer itself: the rest of an object, or a line of words
-abbrev pub answer_text : Bool → Finding → List ℕ
-answer_text json finding = if json then finding_object finding else finding_text finding
+abbrev pub finding_line : Bool → Finding → List ℕ
+finding_line json finding = if json then finding_object finding else finding_text finding
 
 -- what is printed of what was found: nothing of a line that no line of the map judges, nor of an accepted frame if these
 -- are left out; else the answer behind its time and channel
@@ -66,7 +66,7 @@ abbrev pub told_text : WatchOptions → Found → List ℕ
 told_text options found =
     if is_other found.finding then []
     else if is_accepted_tally (tally_of found.finding) && options.quiet then []
-    else lead_text options found.stamp ++ answer_text options.json found.finding
+    else lead_text options found.stamp ++ finding_line options.json found.finding
 
 -- what is printed of all that was found, one after the other
 abbrev pub found_text : NumberedMap → List Found → List ℕ

@@ -1,7 +1,7 @@
 //! The time and the channel of a line of a log, as they stand before its answer.
 ghost use Rattle.std.specs.Prelude.{◌≡◌, ◌≤◌, ◌<◌, ◌+◌, ◌*◌, ◌++◌, if◌then◌else◌, length, vec_len, vec_capacity};
 ghost use Rattle.text_lines.specs.Readings.{nth_word};
-ghost use Rattle.watch_commands.specs.Stamps.{stamp_of, within_ends, is_plain, escaped_byte, escaped};
+ghost use Rattle.watch_commands.specs.Stamps.{stamp_of, within_ends, is_plain_ascii, escaped_byte, escaped};
 ghost use Rattle.watch_commands.specs.Stamps.{stamp_words, stamp_object, lead_text};
 
 use std::marker::Model;
@@ -149,7 +149,7 @@ fn add_escaped_byte(text: &mut Vec<u8>, byte: u8)
 
 /// Whether a byte stands for itself in a string of JSON.
 fn stands_plain(byte: u8) -> bool
-    ensures { result ≡ is_plain byte }
+    ensures { result ≡ is_plain_ascii byte }
 {
     byte >= 32 && byte <= 126 && byte != b'"' && byte != b'\\'
 }
