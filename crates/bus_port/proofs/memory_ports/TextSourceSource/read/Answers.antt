@@ -10,5 +10,4 @@ returns-clause-reads c =
     rw (← c.self.view_is)
     (HandsOut-from_left _ _ c.args.out.now c.hand_out-count.new.out (drop c.self.inside.done bytes) (length c.args.out.now) n
     refl (ap Some (sym (drop-drop n c.self.inside.done bytes))) refl refl (omega arith) (λ room. omega arith)
-    (rw (c.deref.ensures.value) at c.hand_out-count.ensures.count)
-    (rw (c.deref.ensures.value) at c.hand_out-count.ensures.front) c.hand_out-count.ensures.beyond)
+    c.hand_out-count.ensures.count c.hand_out-count.ensures.front c.hand_out-count.ensures.beyond)
