@@ -16,7 +16,7 @@ mod port;
 mod standard_ports;
 mod whole_streams;
 
-pub use memory_ports::{CleanSource, MemSink, MemSource};
+pub use memory_ports::{CleanSource, MemSink, MemSource, TextSource};
 pub use port::{Memory, PortFailed, Sink, Source};
 pub use standard_ports::{StdSink, StdSource};
 pub use whole_streams::{ReadAll, read_all, write_all};

@@ -169,6 +169,47 @@ impl Source for CleanSource {
     }
 }
 
+/// A source of a text that stands in the program: it takes no memory, and never fails.
+#[derive(Drop)]
+pub struct TextSource<'a> {
+    text: &'a [u8],
+    done: usize,
+}
+
+impl<'a> Model for TextSource<'a> {
+    ghost use Rattle.std.specs.Prelude.{◌≤◌, length, drop};
+    ghost use Rattle.bus_port.specs.MemSource.{CleanSourceState};
+
+    ghost Value = { CleanSourceState };
+
+    ghost view = { λ s. record { left = drop s.done s.text.now; taken = s.done } };
+
+    ghost invariant = { λ s. s.done ≤ length s.text.now };
+}
+
+impl<'a> TextSource<'a> {
+    /// A source of this text.
+    pub fn new(text: &'a [u8]) -> Self
+        ensures { result ≡ record { left = text.entry.now; taken = 0 } }
+    {
+        TextSource { text, done: 0 }
+    }
+}
+
+impl<'a> Source for TextSource<'a> {
+    ghost state = { clean_source };
+
+    fn read(&mut self, out: &mut [u8]) -> Result<usize, PortFailed>
+        ensures never_fails { IsOk result }
+        ensures count { IfOk result (λ n. n ≡ min (length out.old) (length self.old.left)) }
+        ensures reads { Reads (clean_source self.old) (clean_source self.new) out.old out.new result }
+    {
+        let count = hand_out(self.text, self.done, out.len(), out);
+        self.done += count;
+        Ok(count)
+    }
+}
+
 /// A sink over memory that takes small pieces into room taken at once, and fails at calls of one's
 /// choice.
 #[derive(Debug, Drop)]

@@ -1,12 +1,12 @@
 //! The example of a campaign.
-ghost use Rattle.std.specs.Prelude.{◌≡◌, ◌≤◌, ◌^◌, ◌∷◌, [], length, map, IfOk};
+ghost use Rattle.std.specs.Prelude.{◌≡◌, ◌≤◌, ◌^◌, ◌∷◌, [], map, IfOk};
 ghost use Rattle.cut_disk.specs.Memory.{disk_of};
 ghost use Rattle.cut_disk.specs.MemDisk.{contents};
 ghost use Rattle.campaign_commands.specs.Rows.{CampaignInputs, CampaignDisks};
 ghost use Rattle.campaign_commands.specs.Examples.{Campaigns, IsExampleCampaign, zero_disk};
 
 use crate::run::run_campaign;
-use bus_port::{CleanSource, Sink};
+use bus_port::{Sink, TextSource};
 use cut_disk::MemDisk;
 use program_edge::NO_MEMORY;
 use std::alloc::{AllocError, Global};
@@ -19,33 +19,19 @@ confirm 000000000000000000000000000001 4 1 0f0e0d0c0b0a09080706050403020100 0000
 show 000000000000000000000000000001 5
 ";
 
-/// Runs the example over a blank disk in memory, as [`run_campaign`] does.
+/// Runs the example over a blank disk in memory, as [`run_campaign`] does. Its two arguments and its script take no
+/// memory.
 pub fn run_example<K: Sink>(alloc: Global, sink: &mut K) -> u8
     ensures { (i : CampaignInputs) × (d : CampaignDisks) × IsExampleCampaign i d
         × Campaigns i d (record { before = K.state sink.old; after = K.state sink.new; status = result }) }
 {
-    match example(alloc) {
-        Ok((words, script, mut disks)) => {
-            let mut script = CleanSource::new(script);
-            run_campaign(alloc, words.as_slice(), &mut script, sink, &mut disks)
-        }
-        Err(AllocError) => NO_MEMORY,
-    }
-}
-
-/// The two arguments of the example, its script and its disk.
-fn example(alloc: Global) -> Result<(Vec<String>, Vec<u8>, Vec<MemDisk>), AllocError>
-    ensures words { IfOk result (λ made. length (made.0.items) ≡ 2) }
-    ensures script { IfOk result (λ made. made.1.items ≡ EXAMPLE.now) }
-    ensures disk { IfOk result (λ made. map (λ disk. disk_of (contents disk)) made.2.items ≡ zero_disk 65536 ∷ []) }
-{
-    let mut words = Vec::new(alloc);
-    words.push(String::from_str(alloc, "-")?)?;
-    words.push(String::from_str(alloc, "-")?)?;
-    let mut script = Vec::new(alloc);
-    script.extend_from_slice(EXAMPLE)?;
-    let disks = one_disk(alloc, 65_536)?;
-    Ok((words, script, disks))
+    let Ok(disks) = one_disk(alloc, 65_536) else {
+        return NO_MEMORY;
+    };
+    let mut used = disks;
+    let words = [String::new(alloc), String::new(alloc)];
+    let mut script = TextSource::new(EXAMPLE);
+    run_campaign(alloc, &words, &mut script, sink, &mut used)
 }
 
 /// One disk of so many zero bytes.

@@ -8,4 +8,3 @@ pub mod Rising
 pub mod OneJoining
 pub mod MadePdus
 pub mod Promises
-pub mod Example

@@ -1,14 +1,14 @@
 //! The words of the command line, the program's name left out: the script that one names is answered, and without a
 //! word the example.
-ghost use Rattle.std.specs.Prelude.{◌≡◌, ◌<◌, length, map, string_bytes, option_map, IfOk};
+ghost use Rattle.std.specs.Prelude.{◌≡◌, ◌<◌, length, map, string_bytes, option_map};
 ghost use Rattle.program_edge.specs.NamedSources.{word_source, openings, only_word, OverNamed};
 ghost use Rattle.pdu_collection.specs.Rows.{PairingInputs, IsExampleScript};
 ghost use Rattle.pdu_collection.specs.Pairs.{RunsPairs};
 
 use crate::run::run_pairs;
-use bus_port::{CleanSource, Sink, Source};
-use program_edge::{MissingSource, NO_MEMORY, Opener, WordSource, open_one};
-use std::alloc::{AllocError, Global};
+use bus_port::{Sink, Source, TextSource};
+use program_edge::{MissingSource, Opener, WordSource, open_one};
+use std::alloc::Global;
 
 /// A pair whose second part comes again.
 const EXAMPLE: &[u8] = b"pair 2b7e151628aed2a6abf7158809cf4f3c 6bc1 e93d7e1173931729 0 2
@@ -52,28 +52,12 @@ pub fn pair_words<O: Opener, I: Source + Drop, K: Sink>(
     (status, script)
 }
 
-/// Answers the example.
+/// Answers the example, whose one word and source take no memory.
 fn pair_example<K: Sink>(alloc: Global, sink: &mut K) -> u8
     ensures { (i : PairingInputs) × IsExampleScript i
         × RunsPairs i (record { before = K.state sink.old; after = K.state sink.new; status = result }) }
 {
-    match example(alloc) {
-        Ok((words, bytes)) => {
-            let mut script = CleanSource::new(bytes);
-            run_pairs(alloc, words.as_slice(), &mut script, sink)
-        }
-        Err(AllocError) => NO_MEMORY,
-    }
-}
-
-/// The one word of the example, and its script.
-fn example(alloc: Global) -> Result<(Vec<String>, Vec<u8>), AllocError>
-    ensures word { IfOk result (λ made. length (made.0.items) ≡ 1) }
-    ensures script { IfOk result (λ made. made.1.items ≡ EXAMPLE.now) }
-{
-    let mut words = Vec::new(alloc);
-    words.push(String::from_str(alloc, "-")?)?;
-    let mut bytes = Vec::new(alloc);
-    bytes.extend_from_slice(EXAMPLE)?;
-    Ok((words, bytes))
+    let words = [String::new(alloc)];
+    let mut script = TextSource::new(EXAMPLE);
+    run_pairs(alloc, &words, &mut script, sink)
 }

@@ -6,6 +6,5 @@ pub mod Audited
 pub mod Noting
 pub mod Phases
 pub mod Promises
-pub mod Example
 pub mod CallerLemmas
 pub mod Cutting

@@ -1,14 +1,14 @@
 //! The words of the command line, the program's name left out: what they name is audited, and without one the example.
-ghost use Rattle.std.specs.Prelude.{◌≡◌, ◌<◌, length, map as each, string_bytes, option_map, IfOk};
+ghost use Rattle.std.specs.Prelude.{◌≡◌, ◌<◌, length, map as each, string_bytes, option_map};
 ghost use Rattle.program_edge.specs.NamedSources.{word_source, openings, first_of_two, second_of_two};
 ghost use Rattle.program_edge.specs.NamedSources.{OverTwoNamed};
 ghost use Rattle.trace_audit.specs.Rows.{AuditInputs, IsExampleAudit};
 ghost use Rattle.trace_audit.specs.Audits.{Audits};
 
 use crate::run::run_audit;
-use bus_port::{CleanSource, Sink, Source};
-use program_edge::{MissingSource, NO_MEMORY, Opener, WordSource, open_two};
-use std::alloc::{AllocError, Global};
+use bus_port::{Sink, Source, TextSource};
+use program_edge::{MissingSource, Opener, WordSource, open_two};
+use std::alloc::Global;
 
 /// One Data ID, after the CAN identifier 123.
 const EXAMPLE_MAP: &[u8] = b"123 6bc1 2b7e151628aed2a6abf7158809cf4f3c e93d7e1173931729 6\n";
@@ -57,33 +57,13 @@ pub fn audit_words<O: Opener, I: Source + Drop, K: Sink>(
     (status, map, log)
 }
 
-/// Audits the example.
+/// Audits the example, whose two words and sources take no memory.
 fn audit_example<K: Sink>(alloc: Global, sink: &mut K) -> u8
     ensures { (i : AuditInputs) × IsExampleAudit i
         × Audits i (record { before = K.state sink.old; after = K.state sink.new; status = result }) }
 {
-    match example(alloc) {
-        Ok((words, map, log)) => {
-            let mut map = CleanSource::new(map);
-            let mut log = CleanSource::new(log);
-            run_audit(alloc, words.as_slice(), &mut map, &mut log, sink)
-        }
-        Err(AllocError) => NO_MEMORY,
-    }
-}
-
-/// The two words of the example, its map and its log.
-fn example(alloc: Global) -> Result<(Vec<String>, Vec<u8>, Vec<u8>), AllocError>
-    ensures words { IfOk result (λ made. length (made.0.items) ≡ 2) }
-    ensures map { IfOk result (λ made. made.1.items ≡ EXAMPLE_MAP.now) }
-    ensures log { IfOk result (λ made. made.2.items ≡ EXAMPLE_LOG.now) }
-{
-    let mut words = Vec::new(alloc);
-    words.push(String::from_str(alloc, "-")?)?;
-    words.push(String::from_str(alloc, "-")?)?;
-    let mut map = Vec::new(alloc);
-    map.extend_from_slice(EXAMPLE_MAP)?;
-    let mut log = Vec::new(alloc);
-    log.extend_from_slice(EXAMPLE_LOG)?;
-    Ok((words, map, log))
+    let words = [String::new(alloc), String::new(alloc)];
+    let mut map = TextSource::new(EXAMPLE_MAP);
+    let mut log = TextSource::new(EXAMPLE_LOG);
+    run_audit(alloc, &words, &mut map, &mut log, sink)
 }

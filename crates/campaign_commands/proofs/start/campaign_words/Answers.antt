@@ -1,8 +1,8 @@
-use Rattle.std.proofs.Common.{map, refl, ap, sym, inl, inr}
+use Rattle.std.proofs.Common.{[], map, refl, ap, sym, inl, inr}
 use Rattle.std.specs.Prelude.{string_bytes}
 use Rattle.program_edge.specs.NamedSources.{word_source, missing_source}
 use Rattle.campaign_commands.proofs.Known.{campaigns_known}
-use Rattle.campaign_commands.proofs.WantsMemory.{are_two, wants_disk}
+use Rattle.campaign_commands.proofs.WantsMemory.{are_two, wants_memory}
 use Rattle.campaign_commands.proofs.start.campaign_words.Goals as goal
 
 pub returns-in-Ok-clause-named : goal.returns-in-Ok-clause-named
@@ -30,5 +30,5 @@ returns-in-Err-clause-named g c some =
       unopened = record { sources = refl; disks = c.in-Err.ensures.unopened };
       script_unopened = ap missing_source c.new-missing.ensures;
       disk_unopened = ap (λ ds. map g.P.Opened.Disk.state ds) c.new-unopened.ensures.items;
-      runs = wants_disk (map string_bytes c.args.words.now) (g.K.Sink.state c.args.sink.now) two;
+      runs = wants_memory (map string_bytes c.args.words.now) (missing_source 0) [] (g.K.Sink.state c.args.sink.now) two;
     })
