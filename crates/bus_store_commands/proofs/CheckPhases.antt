@@ -1,5 +1,5 @@
 -- The phases of a run of `slots check FILE BUS`, put together
-use Rattle.std.proofs.Common.{◌≡◌, ◌⊎◌, ◌∙◌, ℕ, List, [], true, false, inl, inr, sym, subst}
+use Rattle.std.proofs.Common.{◌≡◌, ◌⊎◌, ◌∙◌, ℕ, List, true, false, inl, inr, sym, subst}
 use Rattle.std.specs.Prelude.{Bool, Result, Ok, Err, Vec, Some, IfOk, IfErr, codes}
 use Rattle.std.specs.declared.alloc.Global.{Global}
 use Rattle.program_edge.specs.declared.input.InputFault.{InputFault}

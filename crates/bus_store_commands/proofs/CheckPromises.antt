@@ -3,7 +3,7 @@ use Rattle.std.proofs.Common.{◌≡◌, ◌⊎◌, ◌∙◌, ℕ, List, [], in
 use Rattle.std.specs.Prelude.{◌≢◌, false, Some, Err, length, codes}
 use Rattle.program_edge.specs.declared.input.InputFault.TheVariants as input
 use Rattle.program_edge.specs.Rows.{Row}
-use Rattle.program_edge.specs.Inputs.{IsUnread, Offers, SourceFailed, CountsFault, GivesTooMuch, CountsTooMuch}
+use Rattle.program_edge.specs.Inputs.{IsUnread, Offers, SourceFailed, GivesTooMuch}
 use Rattle.program_edge.proofs.CallerLemmas.{Offers-whole, EndsInRow-at, EndsInRow-front, EndsInRow-rose, EndsInRow-only, EndsInRow-may, EndsInRow-done}
 use Rattle.program_edge.specs.Endings.{Ending, PrintsWhole, EndsInRow, MayEndIn}
 use Rattle.freshness_routes.specs.declared.routes.Route.{Route}

@@ -1,6 +1,6 @@
 -- What a row of `slots check FILE BUS` says of the sources, and what a check comes to
 use Rattle.std.proofs.Common.{◌≡◌, ◌⊎◌, ◌∙◌, ℕ, List, [], true, false, refl, sym, inl, inr}
-use Rattle.std.specs.Prelude.{◌≢◌, Bool, Some}
+use Rattle.std.specs.Prelude.{Bool, Some}
 use Rattle.program_edge.specs.Input.{input_fault_text}
 use Rattle.program_edge.specs.Rows.{Row}
 use Rattle.program_edge.specs.Inputs.{Reading, IsUnread}

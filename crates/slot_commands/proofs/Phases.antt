@@ -19,7 +19,7 @@ use Rattle.slot_commands.specs.SlotReads.{ReadsUnitStore}
 use Rattle.slot_commands.proofs.Promises.{reads_row}
 use Rattle.program_edge.specs.Endings.{Ending}
 use Rattle.program_edge.specs.Told.{EndingTold}
-use Rattle.slot_commands.specs.SlotRows.{SlotInputs, AsksOver, DoesSlotTask, ComesOfSlots, no_form, bad_value, no_file, no_memory, done, AnswersSlots}
+use Rattle.slot_commands.specs.SlotRows.{SlotInputs, DoesSlotTask, ComesOfSlots, no_form, bad_value, no_file, no_memory, done, AnswersSlots}
 use Rattle.slot_commands.specs.TaskSteps.{AnswersAsked}
 
 -- words that ask for no task

@@ -26,7 +26,7 @@ use Rattle.slot_commands.specs.StoreWords.{damaged_place_words}
 use Rattle.slot_commands.specs.Cells.{slot_count}
 use Rattle.slot_commands.specs.Checked.{PushesDamage, PushesFindings, PushesPlaces}
 use Rattle.slot_commands.specs.StillDisks.{IsStill, HasFound}
-use Rattle.slot_commands.specs.Stores.{HoldsStore, NoStoreIn, IsUnreadable, of_twin, of_log, of_damaged_log, written_lines}
+use Rattle.slot_commands.specs.Stores.{HoldsStore, NoStoreIn, IsUnreadable, of_twin, of_log, of_damaged_log}
 use Rattle.slot_commands.specs.Stores as stores
 use Rattle.text_lines.specs.Written.{written}
 
