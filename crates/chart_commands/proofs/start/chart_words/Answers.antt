@@ -2,7 +2,7 @@ use Rattle.std.proofs.Common.{◌≢◌, ℕ, map, string_bytes, refl, sym, subs
 use Rattle.program_edge.specs.NamedSources.{word_source}
 use Rattle.bus_programs.specs.Named.{ran_words}
 use Rattle.bus_programs.proofs.CallerLemmas.{example_starts, some_words}
-use Rattle.chart_commands.proofs.OfWords.{over_starts}
+use Rattle.chart_commands.proofs.OfWords.{over_starts, two_asked}
 use Rattle.chart_commands.proofs.start.chart_words.Goals as goal
 
 pub returns-then-is_empty-clause-starts : goal.returns-then-is_empty-clause-starts
@@ -23,10 +23,10 @@ returns-clause-words g c =
         opened_once = c.open_two-config.ensures.left;
         one_left = refl;
         other_left = refl;
-        has = record { made = c.in-Ok.disks; left = c.run_chart-status.new.disks; given = c.in-Ok.ensures.given; runs = c.run_chart-status.ensures };
+        has = record { made = c.in-Ok.disks; left = c.run_chart-status.new.disks; given = λ asks. c.in-Ok.ensures.given (two_asked string_bytes c.args.words.now asks); runs = c.run_chart-status.ensures };
       };
     })
 
 pub returns-clause-starts : goal.returns-clause-starts
 returns-clause-starts g c =
-    over_starts _ _ (record { made = c.in-Ok.disks; left = c.run_chart-status.new.disks; given = c.in-Ok.ensures.given; runs = c.run_chart-status.ensures })
+    over_starts _ _ (record { made = c.in-Ok.disks; left = c.run_chart-status.new.disks; given = λ asks. c.in-Ok.ensures.given (two_asked string_bytes c.args.words.now asks); runs = c.run_chart-status.ensures })
