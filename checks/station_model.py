@@ -171,6 +171,40 @@ def slots(name, data, values, routes=None):
     return 0, f"loaded {m4.hex()} {m5.hex()}\n"
 
 
+def grow(data, routes):
+    """What `slots grow` makes of a disk of these bytes: the status, the text, and the bytes. Of each route of the bus its Data ID, direction and
+    first bound."""
+    wanted = 14 + len(routes)
+    if len(data) < 32 + 68 * (wanted + 1):
+        raise No(9, "store: TooSmall\n")
+    head, number = data[:10] + data[12:32], int.from_bytes(data[10:12], "big")
+    place_of = lambda cell: slice(32 + 68 * cell, 100 + 68 * cell)
+    erased = lambda cell: data[place_of(cell)] in (bytes(68), b"\xff" * 68)
+    if header(data, 2) or head != b"SECOCST1\1\1" + bytes(20):
+        raise No(9, "store: NotFormatted\n")
+    made = bytearray(data)
+    for place, (name, direction, bound) in enumerate(routes):
+        cell = 14 + place
+        begins = bytes([2, direction]) + name
+        fresh = bytes([LIVE, 0]) + begins + bound.to_bytes(8, "big") + bytes(20)
+        fresh += bytes([LIVE, 2]) + fresh[2:]
+        if made == data and (number == cell + 1 or not erased(cell + 1)):
+            held = twin_cells(data, cell + 1)[cell]
+            if held is None or held[:4] != begins or any(held[12:]):
+                raise No(9, f"store: BadBound {cell}\n")
+            continue
+        if made == data:
+            if number != cell and data[place_of(cell)] != fresh:
+                raise No(9, "store: NotFormatted\n")
+            if not all(erased(later) for later in range(cell + 1, wanted + 1)):
+                raise No(9, "store: TooSmall\n")
+        made[place_of(cell)] = fresh
+        made[10:12] = (cell + 1).to_bytes(2, "big")
+    if int.from_bytes(made[10:12], "big") != wanted:
+        raise No(9, "store: NotFormatted\n")
+    return 0, f"grown twin 1 {wanted}\n", bytes(made)
+
+
 def places_of(data):
     """The places of the ledger of these bytes, each None or UID, slot, counter, whether confirmed."""
     if len(data) < 32 + 68 * 256:

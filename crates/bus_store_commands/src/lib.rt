@@ -7,11 +7,15 @@
 #![tactic(auto)]
 
 mod checking;
+mod grow_start;
+mod growing;
 mod node_buses;
 mod start;
 mod words;
 
 pub use checking::run_bus_check;
+pub use grow_start::grow_words;
+pub use growing::grow_over;
 pub use node_buses::node_bus_from;
 pub use start::bus_check_words;
 pub use words::{asks_over_bus, file_over_bus};

@@ -3,7 +3,7 @@ ghost use Rattle.std.specs.Prelude.{◌≡◌, [], slice_index_or, map as each, 
 ghost use Rattle.bus_store_commands.specs.BusWords.{asks_over_bus as asks_named, file_over_bus as file_named};
 
 /// The argument at a place, from 0; empty if there are fewer.
-fn argument_at(words: &[String], place: usize) -> &str
+pub fn argument_at(words: &[String], place: usize) -> &str
     ensures { result.now ≡ slice_index_or (each string_bytes words.now) place [] }
 {
     if place >= words.len() {

@@ -2,10 +2,14 @@
 //! hold, lost replies, entries that a ledger takes over, and keys from files.
 //!
 //! [`station_commands::station_words`] is the program, with `RunsStation`. Here it is handed the arguments, the files,
-//! standard input and standard output.
+//! standard input and standard output. That others may read a store's file is said here, on standard error; no status
+//! depends on it.
 #![tactic(auto)]
 
+mod modes;
+
 use file_disk::DiskPaths;
+use modes::tell_open_mode;
 use program_edge::{NO_MEMORY, Paths, StdSink, StdSource, arguments};
 use station_commands::station_words;
 use std::alloc::AllocError;
@@ -26,6 +30,7 @@ fn main(rt: HostRuntime) -> ExitCode {
                 words.as_slice(),
                 &mut sink,
             );
+            tell_open_mode(&rt, words.as_slice());
             status
         }
         Err(AllocError) => NO_MEMORY,

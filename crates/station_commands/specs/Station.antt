@@ -1,5 +1,5 @@
 -- What the arguments of `station` ask for, and what a run promises
-use Rattle.std.specs.Prelude.{◌≡◌, ℕ, Bool, List, Option, Some, None, if◌then◌else◌, ◌||◌, bytes_eq, codes, drop, map}
+use Rattle.std.specs.Prelude.{◌≡◌, ℕ, Bool, List, Option, Some, None, if◌then◌else◌, ◌||◌, bytes_eq, codes, drop, map, option_map}
 use Rattle.bus_port.specs.Source.{SourceState}
 use Rattle.cut_disk.specs.State.{DiskState}
 use Rattle.text_lines.specs.Readings.{nth_word}
@@ -13,6 +13,7 @@ use Rattle.slot_commands.specs.SlotTasks.{file_asked}
 use Rattle.slot_commands.specs.SlotReads.{ReadsUnitStore}
 use Rattle.bus_store_commands.specs.BusWords.{asks_over_bus, file_over_bus}
 use Rattle.bus_store_commands.specs.ChecksOverBus.{ChecksOverBus}
+use Rattle.bus_store_commands.specs.GrowsOverBus.{GrowsOverBus}
 use Rattle.ledger_commands.specs.LedgerRows.{words_named}
 use Rattle.ledger_commands.specs.LedgerReads.{ReadsLedgerFiles}
 use Rattle.ledger_commands.specs.Named.{OverAllNamed}
@@ -20,18 +21,19 @@ use Rattle.adopt_commands.specs.AdoptsOver.{AdoptsOver}
 use Rattle.keyfile_commands.specs.Calls.{first_file, second_file}
 use Rattle.keyfile_commands.specs.KeyFilesRuns.{KeyFilesRuns}
 use Rattle.station_commands.specs.declared.run.StationPart.{StationPart}
-use Rattle.station_commands.specs.declared.run.StationPart.TheVariants.{Slots, BusCheck, Ledger, Adoption, Key}
+use Rattle.station_commands.specs.declared.run.StationPart.TheVariants.{Slots, BusCheck, Growth, Ledger, Adoption, Key}
 use Rattle.station_commands.specs.declared.run.StationFiles.{StationFiles}
-use Rattle.station_commands.specs.declared.run.StationFiles.TheVariants.{Store, StoreAndBus, Ledgers, Adopted, Keys}
+use Rattle.station_commands.specs.declared.run.StationFiles.TheVariants.{Store, StoreAndBus, Grown, Ledgers, Adopted, Keys}
 use Rattle.station_commands.specs.declared.run.StationFiles.TheVariants.{Nothing}
 
 -- the line that is printed if the first argument is none of the program's
 abbrev pub station_usage : List ℕ
 station_usage = line (codes "usage: station slots, ledger, key")
 
--- what arguments name after `slots`
-abbrev pub slot_part : Bool → StationPart
-slot_part checks_over_bus = if checks_over_bus then BusCheck else Slots
+-- what arguments name after `slots`, of which this is the first
+abbrev pub slot_part : List ℕ → Bool → StationPart
+slot_part word checks_over_bus =
+    if bytes_eq word (codes "grow") then Growth else if checks_over_bus then BusCheck else Slots
 
 -- what a second argument names after `ledger`
 abbrev pub ledger_part : List ℕ → StationPart
@@ -42,7 +44,7 @@ ledger_part word =
 -- what the first two arguments name; after `slots` the check over a bus, if all of them ask for that
 abbrev pub part_named : List ℕ → List ℕ → Bool → Option StationPart
 part_named word next checks_over_bus =
-    if bytes_eq word (codes "slots") then Some (slot_part checks_over_bus)
+    if bytes_eq word (codes "slots") then Some (slot_part next checks_over_bus)
     else if bytes_eq word (codes "ledger") then Some (ledger_part next)
     else if bytes_eq word (codes "key") then Some Key
     else None
@@ -65,6 +67,9 @@ RunsPart opens disk_opens state disk words o (Some BusCheck) (StoreAndBus file b
     (state file) (state bus)
     (λ store wanted. ChecksOverBus (record { words = words; file = store; bus = wanted }) e)
     × (o.disks_after ≡ o.disks_before)
+RunsPart opens disk_opens state disk words o (Some Growth) (Grown bus left) e =
+    OverNamed opens o.before o.after (file_over_bus (codes "grow") words 2) (state bus)
+    (λ it. GrowsOverBus disk_opens o.disks_before o.disks_after (record { words = words; bus = it }) (option_map disk left) e)
 RunsPart opens disk_opens state disk words o (Some Ledger) (Ledgers files) e =
     OverAllNamed opens o.before o.after (words_named words) (map state files.items)
     (λ all. ReadsLedgerFiles (record { words = words; files = all }) e)

@@ -7,7 +7,7 @@ ghost use Rattle.station_commands.specs.Station.{station_usage};
 
 use adopt_commands::adopts_words;
 use bus_port::{Sink, Source};
-use bus_store_commands::{asks_over_bus, bus_check_words};
+use bus_store_commands::{asks_over_bus, bus_check_words, grow_words};
 use cut_disk::CutDisk;
 use file_disk::DiskOpener;
 use keyfile_commands::keyfile_words;
@@ -23,6 +23,8 @@ pub enum StationPart {
     Slots,
     /// `slots check FILE BUS`: what is wrong with a store over the routes of its node.
     BusCheck,
+    /// `slots grow`: cells for the routes that a node's bus has more.
+    Growth,
     /// `ledger`: what ledgers hold.
     Ledger,
     /// `ledger adopt`, `import` and `merge`: entries that a ledger takes over.
@@ -38,6 +40,8 @@ pub enum StationFiles<O: Source, I: Source, D: CutDisk> {
     Store(WordSource<O, I>),
     /// That of a unit's store, and that of a bus file.
     StoreAndBus(WordSource<O, I>, WordSource<O, I>),
+    /// That of a bus file, and the disk of a store that was to grow, if it was opened.
+    Grown(WordSource<O, I>, Option<D>),
     /// Those of the ledgers that were opened.
     Ledgers(Vec<WordSource<O, I>>),
     /// That of a file whose entries a ledger was to take over, and the ledger's disk; each at most one.
@@ -84,6 +88,10 @@ pub fn station_words<O: Opener, P: DiskOpener, I: Source + Drop, K: Sink>(
             let (status, file, bus) = bus_check_words(alloc, opener, input, rest, sink);
             (status, StationFiles::StoreAndBus(file, bus))
         }
+        StationPart::Growth => {
+            let (status, bus, disk) = grow_words(alloc, opener, disk_opener, input, rest, sink);
+            (status, StationFiles::Grown(bus, disk))
+        }
         StationPart::Ledger => {
             let (status, files) = ledgers_words(alloc, opener, input, rest, sink);
             (status, StationFiles::Ledgers(files))
@@ -129,7 +137,7 @@ fn part_named(name: &str, next: &str, checks_over_bus: bool) -> Option<StationPa
     ensures { result ≡ part_named name.now next.now checks_over_bus }
 {
     if name == "slots" {
-        return Some(slot_part(checks_over_bus));
+        return Some(slot_part(next, checks_over_bus));
     }
     if name == "ledger" {
         return Some(ledger_part(next));
@@ -141,11 +149,13 @@ fn part_named(name: &str, next: &str, checks_over_bus: bool) -> Option<StationPa
     }
 }
 
-/// What arguments after `slots` name.
-fn slot_part(checks_over_bus: bool) -> StationPart
-    ensures { result ≡ slot_part checks_over_bus }
+/// What arguments after `slots` name, of which this is the first.
+fn slot_part(name: &str, checks_over_bus: bool) -> StationPart
+    ensures { result ≡ slot_part name.now checks_over_bus }
 {
-    if checks_over_bus {
+    if name == "grow" {
+        StationPart::Growth
+    } else if checks_over_bus {
         StationPart::BusCheck
     } else {
         StationPart::Slots

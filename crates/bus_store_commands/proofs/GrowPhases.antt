@@ -1,0 +1,82 @@
+-- The phases of a run of `slots grow FILE BUS`, put together
+use Rattle.std.proofs.Common.{◌≡◌, ◌∙◌, ℕ, List, [], ◌∷◌, ◌++◌, false, refl, sym, ap, subst, arith, ◌≤◌}
+use Rattle.std.specs.Prelude.{Option, Some, None, Result, Ok, Err, length, codes}
+use Rattle.text_lines.specs.Written.{written}
+use Rattle.cut_disk.specs.State.{DiskState}
+use Rattle.file_disk.specs.NamedDisks.{TellsFirmBytes}
+use Rattle.program_edge.specs.Rows.{Row, row_of, memory_row}
+use Rattle.program_edge.specs.Inputs.{IsUnread}
+use Rattle.program_edge.specs.Endings.{Ending, EndsInRow}
+use Rattle.program_edge.proofs.CallerLemmas.{EndsInRow-more}
+use Rattle.freshness_routes.specs.declared.routes.Route.{Route}
+use Rattle.bus_config.specs.declared.node_lines.NodeLine.{NodeLine}
+use Rattle.bus_config.specs.Buses.{NamedBus, IsNamedBus, most_routes}
+use Rattle.bus_script.specs.EventForms.{no_node}
+use Rattle.cell_store.specs.declared.kinds.Version.{Version}
+use Rattle.cell_store.specs.declared.kinds.Version.TheVariants.{One, Two}
+use Rattle.std.proofs.lemmas.List.Elements.{All-get_or}
+use Rattle.bus_programs.specs.BusRoutes.{routes_of}
+use Rattle.store_growing.specs.RouteCells.{route_cell}
+use Rattle.store_growing.specs.GrowingStores.{GrowsStore}
+use Rattle.bus_store_commands.specs.NodeBuses.{ReadsNodeBus, TakesNodeBus}
+use Rattle.bus_store_commands.specs.BusWords.{asks_over_bus}
+use Rattle.bus_store_commands.specs.GrowRows.{GrowsOnDisk, grown, grown_words}
+use Rattle.bus_store_commands.specs.GrowsOverBus.{GrowInputs, AsksGrowth, grow_usage, LacksGrowth, asks_none, without_bus, TakesGrowth, ComesNamed, not_opened, over_disk}
+use Rattle.bus_store_commands.specs.GrowsOverBus.{ComesOfGrowth, lacks_bus, with_bus, file_of, GrowsOverBus}
+use Rattle.bus_store_commands.proofs.GrowPromises.{grows_row}
+
+-- the bus file of arguments that ask for a growth
+pub asked_bus : (i : GrowInputs) (result : Result NamedBus Row) → AsksGrowth i.words → TakesNodeBus i.bus result → TakesGrowth i result
+asked_bus i (Ok bus) asks reads = (asks, reads)
+asked_bus i (Err row) asks lacks = without_bus row asks lacks
+
+-- arguments that don't
+pub asked_none : (i : GrowInputs) (row : Row) → asks_over_bus (codes "grow") i.words ≡ false → IsUnread i.bus → row ≡ row_of 2 grow_usage
+    → LacksGrowth i row
+asked_none i row none unread is = subst (LacksGrowth i) (sym is) (asks_none none unread)
+
+-- the text was made before the store grew
+pub text_shows : (routes : List Route) (old new : DiskState) (cells : ℕ) (text : List ℕ) → cells ≡ route_cell (length routes)
+    → text ≡ written (grown_words cells) → GrowsStore routes old new → new.faults ≡ old.faults → GrowsOnDisk routes old new (row_of 0 text)
+text_shows routes old new cells text cells_are is grows faults =
+    subst (λ (shown : List ℕ). GrowsOnDisk routes old new (row_of 0 shown)) (ap (λ (n : ℕ). written (grown_words n)) (sym cells_are) ∙ sym is)
+    (grown grows faults)
+
+-- no memory for a disk
+pub not_over : (opens : List ℕ → DiskState → Type 0) (before after : List (List ℕ)) (word : List ℕ) (routes : List Route) (row : Row) → row ≡ memory_row
+    → after ≡ before → ComesNamed opens before after word routes None row
+not_over opens before after word routes row is once = subst (ComesNamed opens before after word routes None) (sym is) (not_opened once refl)
+
+-- a run over a disk that an argument opened
+pub over_opened : (opens : List ℕ → DiskState → Type 0) (before after : List (List ℕ)) (word : List ℕ) (routes : List Route) (old new : DiskState)
+    (e : Ending) → opens word old → TellsFirmBytes old → after ≡ before ++ word ∷ [] → EndsInRow (GrowsOnDisk routes old new) e
+    → EndsInRow (ComesNamed opens before after word routes (Some new)) e
+over_opened opens before after word routes old new e opened tells once ends =
+    EndsInRow-more (over_disk (record { old = old; new = new; opened = opened; tells = tells; once = once; left_is = refl })) ends
+
+-- a run over a bus file that gives a bus of one node, and over one that doesn't
+module _ (opens : List ℕ → DiskState → Type 0) (before after : List (List ℕ)) (i : GrowInputs) (left : Option DiskState) (e : Ending) where
+  pub with_routes : (bus : NamedBus) (word : List ℕ) (routes : List Route) → AsksGrowth i.words → ReadsNodeBus i.bus bus → word ≡ file_of i
+      → routes ≡ routes_of bus → EndsInRow (ComesNamed opens before after word routes left) e → GrowsOverBus opens before after i left e
+  with_routes bus word routes asks reads word_is are ends =
+      grows_row opens before after i left e
+      (EndsInRow-more (λ row comes. with_bus bus row asks reads
+      (subst (λ (w : List ℕ). ComesNamed opens before after w (routes_of bus) left row) word_is
+      (subst (λ (rs : List Route). ComesNamed opens before after word rs left row) are comes))) ends)
+
+  pub without_routes : (row : Row) → LacksGrowth i row → after ≡ before → left ≡ None → EndsInRow (λ shown. shown ≡ row) e
+      → GrowsOverBus opens before after i left e
+  without_routes row lacks once none ends =
+      grows_row opens before after i left e
+      (EndsInRow-more (λ shown is. subst (ComesOfGrowth opens before after i left) (sym is) (lacks_bus row lacks once none)) ends)
+
+-- a node has at most 256 routes
+most_256 : (version : Version) → most_routes version ≤ 256
+most_256 One = omega arith
+most_256 Two = omega arith
+
+pub few_routes : (bus : NamedBus) → IsNamedBus bus → length (routes_of bus) ≤ 256
+few_routes bus is =
+    let few = All-get_or (λ (node : NodeLine). length node.config.routes ≤ most_routes bus.version) bus.nodes 0 no_node is.least is.few_routes in
+    let most = most_256 bus.version in
+    omega (arith, few, most)

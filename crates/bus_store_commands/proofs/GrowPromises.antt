@@ -1,0 +1,299 @@
+-- What a run of `slots grow FILE BUS` that ends in a row of the table promises
+use Rattle.std.proofs.Common.{◌≡◌, ◌⊎◌, ◌∙◌, ℕ, List, [], inl, inr, refl, sym, ap, subst, arith}
+use Rattle.std.specs.Prelude.{◌≢◌, false, None, Option, Err, length, codes}
+use Rattle.program_edge.specs.declared.input.InputFault.TheVariants as input
+use Rattle.program_edge.specs.Input.{input_fault_text}
+use Rattle.program_edge.specs.Rows.{Row, memory_row}
+use Rattle.program_edge.specs.Inputs.{Reading, IsUnread, Offers, SourceFailed, GivesTooMuch}
+use Rattle.program_edge.specs.Endings.{Ending, PrintsWhole, EndsInRow}
+use Rattle.program_edge.proofs.CallerLemmas.{EndsInRow-at, EndsInRow-front, EndsInRow-rose, EndsInRow-only, EndsInRow-may}
+use Rattle.cut_disk.specs.State.{DiskState}
+use Rattle.freshness_routes.specs.declared.routes.Route.{Route}
+use Rattle.bus_config.specs.declared.fault.ConfigFault.{ConfigFault}
+use Rattle.bus_config.specs.BusFile.{bus_of}
+use Rattle.bus_config.specs.Buses.{NamedBus}
+use Rattle.bus_programs.specs.BusFiles.{OffersBus, no_file, file_refused}
+use Rattle.bus_programs.specs.BusRoutes.{routes_of}
+use Rattle.bus_programs.proofs.CallerLemmas.{same_bus, bus_or_fault, memory_status, told_fault, told_too_much, RowTells, ReadsCalmly, calm_unread, calm_whole, told_first}
+use Rattle.store_growing.specs.declared.faults.GrowFault.{GrowFault}
+use Rattle.store_growing.specs.declared.faults.GrowFault.TheVariants as fault
+use Rattle.store_growing.specs.RouteCells.{route_cell}
+use Rattle.store_growing.specs.GrowingStores.{GrowsStore, NotGrown}
+use Rattle.bus_store_commands.specs.NodeBuses.{LacksNodeBus, no_bus, other_nodes}
+use Rattle.bus_store_commands.specs.BusWords.{asks_over_bus}
+use Rattle.bus_store_commands.specs.GrowRows.{GrowsOnDisk, no_text, grown, not_grown, grown_row, IsGrowRow}
+use Rattle.bus_store_commands.specs.GrowsOverBus.{GrowInputs, AsksGrowth, grow_usage, LacksGrowth, asks_none, without_bus, ComesNamed, not_opened, over_disk}
+use Rattle.bus_store_commands.specs.GrowsOverBus.{ComesOfGrowth, lacks_bus, with_bus, file_of, OverStore, GrowsOverBus}
+use Rattle.bus_store_commands.proofs.CheckTells.{asks_or_not}
+
+-- ---- what comes over a disk, by its status
+
+-- 0, 7, 9 or 10
+abbrev pub IsGrowStatus : ℕ → Type 0
+IsGrowStatus status = (status ≡ 0) ⊎ ((status ≡ 7) ⊎ ((status ≡ 9) ⊎ (status ≡ 10)))
+
+status_of : {row other : Row} → row ≡ other → row.status ≡ other.status
+status_of is = ap (λ (r : Row). r.status) is
+
+fault_status : (f : GrowFault) (row : Row) → IsGrowRow f row → IsGrowStatus row.status
+fault_status fault.DiskFailed row is = inr (inr (inr (status_of is)))
+fault_status fault.NotFormatted row is = inr (inr (inl (status_of is)))
+fault_status fault.TooSmall row is = inr (inr (inl (status_of is)))
+fault_status (fault.BadBound cell) row (inl is) = inr (inr (inl (status_of is)))
+fault_status (fault.BadBound cell) row (inr is) = inr (inl (status_of is))
+fault_status fault.Memory row is = inr (inl (status_of is))
+
+pub disk_status : (routes : List Route) (old new : DiskState) (row : Row) → GrowsOnDisk routes old new row → IsGrowStatus row.status
+disk_status routes old new row (no_text same) = inr (inl refl)
+disk_status routes old new row (grown grows faults) = inl refl
+disk_status routes old new row (not_grown f _ why is) = fault_status f row is
+
+isnt : (n : ℕ) (status : ℕ) → IsGrowStatus status → status ≡ n → ¬ IsGrowStatus n → ⊥
+isnt n status are is other = other (subst IsGrowStatus is are)
+
+not_2 : ¬ IsGrowStatus 2
+not_2 (inl is) = omega (arith, is)
+not_2 (inr (inl is)) = omega (arith, is)
+not_2 (inr (inr (inl is))) = omega (arith, is)
+not_2 (inr (inr (inr is))) = omega (arith, is)
+
+not_3 : ¬ IsGrowStatus 3
+not_3 (inl is) = omega (arith, is)
+not_3 (inr (inl is)) = omega (arith, is)
+not_3 (inr (inr (inl is))) = omega (arith, is)
+not_3 (inr (inr (inr is))) = omega (arith, is)
+
+not_5 : ¬ IsGrowStatus 5
+not_5 (inl is) = omega (arith, is)
+not_5 (inr (inl is)) = omega (arith, is)
+not_5 (inr (inr (inl is))) = omega (arith, is)
+not_5 (inr (inr (inr is))) = omega (arith, is)
+
+not_6 : ¬ IsGrowStatus 6
+not_6 (inl is) = omega (arith, is)
+not_6 (inr (inl is)) = omega (arith, is)
+not_6 (inr (inr (inl is))) = omega (arith, is)
+not_6 (inr (inr (inr is))) = omega (arith, is)
+
+not_8 : ¬ IsGrowStatus 8
+not_8 (inl is) = omega (arith, is)
+not_8 (inr (inl is)) = omega (arith, is)
+not_8 (inr (inr (inl is))) = omega (arith, is)
+not_8 (inr (inr (inr is))) = omega (arith, is)
+
+disk_0 : (routes : List Route) (old new : DiskState) (row : Row) → GrowsOnDisk routes old new row → row.status ≡ 0
+    → GrowsStore routes old new × (new.faults ≡ old.faults) × (row ≡ grown_row (route_cell (length routes)))
+disk_0 routes old new row (no_text same) is = absurd (omega (arith, is))
+disk_0 routes old new row (grown grows faults) is = (grows, faults, refl)
+disk_0 routes old new row (not_grown fault.DiskFailed _ why says) is = absurd (omega (arith, is, status_of says))
+disk_0 routes old new row (not_grown fault.NotFormatted _ why says) is = absurd (omega (arith, is, status_of says))
+disk_0 routes old new row (not_grown fault.TooSmall _ why says) is = absurd (omega (arith, is, status_of says))
+disk_0 routes old new row (not_grown (fault.BadBound cell) _ why (inl says)) is = absurd (omega (arith, is, status_of says))
+disk_0 routes old new row (not_grown (fault.BadBound cell) _ why (inr says)) is = absurd (omega (arith, is, status_of says))
+disk_0 routes old new row (not_grown fault.Memory _ why says) is = absurd (omega (arith, is, status_of says))
+
+disk_7 : (routes : List Route) (old new : DiskState) (row : Row) → GrowsOnDisk routes old new row → row.status ≡ 7
+    → (new.told ≡ old.told) × (row ≡ memory_row)
+disk_7 routes old new row (no_text same) is = (ap (λ (d : DiskState). d.told) same, refl)
+disk_7 routes old new row (grown grows faults) is = absurd (omega (arith, is))
+disk_7 routes old new row (not_grown fault.DiskFailed _ why says) is = absurd (omega (arith, is, status_of says))
+disk_7 routes old new row (not_grown fault.NotFormatted _ why says) is = absurd (omega (arith, is, status_of says))
+disk_7 routes old new row (not_grown fault.TooSmall _ why says) is = absurd (omega (arith, is, status_of says))
+disk_7 routes old new row (not_grown (fault.BadBound cell) _ why (inl says)) is = absurd (omega (arith, is, status_of says))
+disk_7 routes old new row (not_grown (fault.BadBound cell) _ why (inr says)) is = (why.0.told, says)
+disk_7 routes old new row (not_grown fault.Memory _ why says) is = (why.told, says)
+
+disk_9 : (routes : List Route) (old new : DiskState) (row : Row) → GrowsOnDisk routes old new row → row.status ≡ 9
+    → (new.told ≡ old.told) × ((f : GrowFault) × NotGrown routes old new f × IsGrowRow f row)
+disk_9 routes old new row (no_text same) is = absurd (omega (arith, is))
+disk_9 routes old new row (grown grows faults) is = absurd (omega (arith, is))
+disk_9 routes old new row (not_grown fault.DiskFailed _ why says) is = absurd (omega (arith, is, status_of says))
+disk_9 routes old new row (not_grown fault.NotFormatted _ why says) is = (why.0.told, (fault.NotFormatted, why, says))
+disk_9 routes old new row (not_grown fault.TooSmall _ why says) is = (why.0.told, (fault.TooSmall, why, says))
+disk_9 routes old new row (not_grown (fault.BadBound cell) _ why says) is = (why.0.told, (fault.BadBound cell, why, says))
+disk_9 routes old new row (not_grown fault.Memory _ why says) is = absurd (omega (arith, is, status_of says))
+
+disk_10 : (routes : List Route) (old new : DiskState) (row : Row) → GrowsOnDisk routes old new row → row.status ≡ 10
+    → NotGrown routes old new fault.DiskFailed × IsGrowRow fault.DiskFailed row
+disk_10 routes old new row (no_text same) is = absurd (omega (arith, is))
+disk_10 routes old new row (grown grows faults) is = absurd (omega (arith, is))
+disk_10 routes old new row (not_grown fault.DiskFailed _ why says) is = (why, says)
+disk_10 routes old new row (not_grown fault.NotFormatted _ why says) is = absurd (omega (arith, is, status_of says))
+disk_10 routes old new row (not_grown fault.TooSmall _ why says) is = absurd (omega (arith, is, status_of says))
+disk_10 routes old new row (not_grown (fault.BadBound cell) _ why (inl says)) is = absurd (omega (arith, is, status_of says))
+disk_10 routes old new row (not_grown (fault.BadBound cell) _ why (inr says)) is = absurd (omega (arith, is, status_of says))
+disk_10 routes old new row (not_grown fault.Memory _ why says) is = absurd (omega (arith, is, status_of says))
+
+-- ---- what comes of arguments or a bus file that give no bus
+
+-- its status is 2, 3, 5, 7 or 8
+lacks_0 : (i : GrowInputs) (row : Row) → LacksGrowth i row → (row.status ≡ 0) ⊎ ((row.status ≡ 9) ⊎ ((row.status ≡ 10) ⊎ (row.status ≡ 6))) → ⊥
+lacks_0 i row (asks_none none unread) is = omega (arith, is)
+lacks_0 i row (without_bus _ asks (no_bus _ (no_file input.ReadFault lacks))) is = omega (arith, is)
+lacks_0 i row (without_bus _ asks (no_bus _ (no_file input.TooLong lacks))) is = omega (arith, is)
+lacks_0 i row (without_bus _ asks (no_bus _ (no_file input.Memory lacks))) is = omega (arith, is)
+lacks_0 i row (without_bus _ asks (no_bus _ (file_refused cause text is_fault says))) is = omega (arith, is)
+lacks_0 i row (without_bus _ asks (other_nodes bus reads others)) is = omega (arith, is)
+
+-- a source that is left as it is
+abbrev left_so : Reading → Reading
+left_so r = record { before = r.after; after = r.after }
+
+calm_so : (r : Reading) → ReadsCalmly (left_so r)
+calm_so r = calm_unread (left_so r) (refl {a = r.after})
+
+-- what the row tells of the bus file's source
+lacks_tells : (i : GrowInputs) (row : Row) → LacksGrowth i row → RowTells row i.bus (left_so i.bus)
+lacks_tells i row (asks_none none unread) = inr (inr (calm_unread i.bus unread, calm_so i.bus))
+lacks_tells i row (without_bus _ asks (no_bus _ (no_file cause lacks))) =
+    told_first cause (input_fault_text cause) i.bus (left_so i.bus) lacks (calm_so i.bus)
+lacks_tells i row (without_bus _ asks (no_bus _ (file_refused cause text (read, whole, is) says))) =
+    inr (inr (calm_whole i.bus read whole, calm_so i.bus))
+lacks_tells i row (without_bus _ asks (other_nodes bus (read, whole, is) others)) =
+    inr (inr (calm_whole i.bus read whole, calm_so i.bus))
+
+module _ (opens : List ℕ → DiskState → Type 0) (before after : List (List ℕ)) (i : GrowInputs) (left : Option DiskState) (e : Ending) where
+  abbrev Comes : Row → Type 0
+  Comes = ComesOfGrowth opens before after i left
+
+  abbrev Over : (List Route → DiskState → DiskState → Type 0) → Type 0
+  Over = OverStore opens before after i left
+
+  row_tells : (row : Row) → Comes row → RowTells row i.bus (left_so i.bus)
+  row_tells row (lacks_bus _ lacks once none) = lacks_tells i row lacks
+  row_tells row (with_bus bus _ asks ((read, whole, is), one) comes) = inr (inr (calm_whole i.bus read whole, calm_so i.bus))
+
+  grown_at : (row : Row) → Comes row → row.status ≡ 0 → PrintsWhole e row.text
+      → Over (λ routes old new. GrowsStore routes old new × (new.faults ≡ old.faults) × PrintsWhole e (grown_row (route_cell (length routes))).text)
+  grown_at row (lacks_bus _ lacks once none) is prints = absurd (lacks_0 i row lacks (inl is))
+  grown_at row (with_bus bus _ asks reads (not_opened once none)) is prints = absurd (omega (arith, is))
+  grown_at row (with_bus bus _ asks reads (over_disk disk _ comes)) is prints =
+      let (grows, faults, row_is) = disk_0 _ _ _ row comes is in
+      (bus, asks, reads, disk, (grows, faults, subst (λ (r : Row). PrintsWhole e r.text) row_is prints))
+
+  no_memory_at : (row : Row) → Comes row → row.status ≡ 7 → PrintsWhole e row.text
+      → PrintsWhole e [] × ((left ≡ None) ⊎ Over (λ routes old new. new.told ≡ old.told))
+  no_memory_at row (lacks_bus _ (asks_none none unread) once opened) is prints = absurd (omega (arith, is))
+  no_memory_at row (lacks_bus _ (without_bus _ asks (no_bus _ (no_file input.ReadFault lacks))) once opened) is prints = absurd (omega (arith, is))
+  no_memory_at row (lacks_bus _ (without_bus _ asks (no_bus _ (no_file input.TooLong lacks))) once opened) is prints = absurd (omega (arith, is))
+  no_memory_at row (lacks_bus _ (without_bus _ asks (no_bus _ (no_file input.Memory lacks))) once opened) is prints = (prints, inl opened)
+  no_memory_at row (lacks_bus _ (without_bus _ asks (no_bus _ (file_refused cause text is_fault says))) once opened) is prints = absurd (omega (arith, is))
+  no_memory_at row (lacks_bus _ (without_bus _ asks (other_nodes bus reads others)) once opened) is prints = absurd (omega (arith, is))
+  no_memory_at row (with_bus bus _ asks reads (not_opened once none)) is prints = (prints, inl none)
+  no_memory_at row (with_bus bus _ asks reads (over_disk disk _ comes)) is prints =
+      let (told, row_is) = disk_7 _ _ _ row comes is in
+      (subst (λ (r : Row). PrintsWhole e r.text) row_is prints, inr (bus, asks, reads, disk, told))
+
+  no_store_at : (row : Row) → Comes row → row.status ≡ 9 → PrintsWhole e row.text
+      → Over (λ routes old new. (new.told ≡ old.told) × ((f : GrowFault) × (shown : Row) × NotGrown routes old new f × IsGrowRow f shown × (shown.status ≡ 9) × PrintsWhole e shown.text))
+  no_store_at row (lacks_bus _ lacks once none) is prints = absurd (lacks_0 i row lacks (inr (inl is)))
+  no_store_at row (with_bus bus _ asks reads (not_opened once none)) is prints = absurd (omega (arith, is))
+  no_store_at row (with_bus bus _ asks reads (over_disk disk _ comes)) is prints =
+      let (told, (f, why, says)) = disk_9 _ _ _ row comes is in
+      (bus, asks, reads, disk, (told, (f, row, why, says, is, prints)))
+
+  disk_failed_at : (row : Row) → Comes row → row.status ≡ 10 → PrintsWhole e row.text
+      → Over (λ routes old new. NotGrown routes old new fault.DiskFailed × PrintsWhole e (codes "store: DiskFailed\n"))
+  disk_failed_at row (lacks_bus _ lacks once none) is prints = absurd (lacks_0 i row lacks (inr (inr (inl is))))
+  disk_failed_at row (with_bus bus _ asks reads (not_opened once none)) is prints = absurd (omega (arith, is))
+  disk_failed_at row (with_bus bus _ asks reads (over_disk disk _ comes)) is prints =
+      let (why, says) = disk_10 _ _ _ row comes is in
+      (bus, asks, reads, disk, (why, subst (λ (r : Row). PrintsWhole e r.text) says prints))
+
+  over_isnt : (n : ℕ) (bus : NamedBus) (row : Row) → AsksGrowth i.words → ComesNamed opens before after (file_of i) (routes_of bus) left row
+      → row.status ≡ n → ¬ IsGrowStatus n → ⊥
+  over_isnt n bus row asks (not_opened once none) is other = other (subst IsGrowStatus is (inr (inl refl)))
+  over_isnt n bus row asks (over_disk disk _ comes) is other = isnt n row.status (disk_status _ _ _ row comes) is other
+
+  at_2 : (row : Row) → Comes row → row.status ≡ 2 → PrintsWhole e row.text
+      → (asks_over_bus (codes "grow") i.words ≡ false) × IsUnread i.bus × (after ≡ before) × PrintsWhole e grow_usage
+  at_2 row (lacks_bus _ (asks_none none unread) once opened) is prints = (none, unread, once, prints)
+  at_2 row (lacks_bus _ (without_bus _ asks (no_bus _ (no_file input.ReadFault lacks))) once opened) is prints = absurd (omega (arith, is))
+  at_2 row (lacks_bus _ (without_bus _ asks (no_bus _ (no_file input.TooLong lacks))) once opened) is prints = absurd (omega (arith, is))
+  at_2 row (lacks_bus _ (without_bus _ asks (no_bus _ (no_file input.Memory lacks))) once opened) is prints = absurd (omega (arith, is))
+  at_2 row (lacks_bus _ (without_bus _ asks (no_bus _ (file_refused cause text is_fault says))) once opened) is prints = absurd (omega (arith, is))
+  at_2 row (lacks_bus _ (without_bus _ asks (other_nodes bus reads others)) once opened) is prints = absurd (omega (arith, is))
+  at_2 row (with_bus bus _ asks reads comes) is prints = absurd (over_isnt 2 bus row asks comes is not_2)
+
+  at_3 : (row : Row) → Comes row → row.status ≡ 3 → PrintsWhole e row.text
+      → AsksGrowth i.words × (after ≡ before) × ((row : Row) × LacksNodeBus i.bus row × (row.status ≡ 3) × PrintsWhole e row.text)
+  at_3 row (lacks_bus _ (asks_none none unread) once opened) is prints = absurd (omega (arith, is))
+  at_3 row (lacks_bus _ (without_bus _ asks (no_bus _ (no_file input.ReadFault lacks))) once opened) is prints = absurd (omega (arith, is))
+  at_3 row (lacks_bus _ (without_bus _ asks (no_bus _ (no_file input.TooLong lacks))) once opened) is prints = absurd (omega (arith, is))
+  at_3 row (lacks_bus _ (without_bus _ asks (no_bus _ (no_file input.Memory lacks))) once opened) is prints = absurd (omega (arith, is))
+  at_3 row (lacks_bus _ (without_bus _ asks (no_bus _ (file_refused cause text is_fault says))) once opened) is prints =
+      (asks, once, (row, no_bus row (file_refused cause text is_fault says), is, prints))
+  at_3 row (lacks_bus _ (without_bus _ asks (other_nodes bus reads others)) once opened) is prints = (asks, once, (row, other_nodes bus reads others, is, prints))
+  at_3 row (with_bus bus _ asks reads comes) is prints = absurd (over_isnt 3 bus row asks comes is not_3)
+
+  at_5 : (row : Row) → Comes row → row.status ≡ 5 → PrintsWhole e row.text
+      → SourceFailed i.bus × (after ≡ before) × PrintsWhole e (codes "read fault\n")
+  at_5 row (lacks_bus _ (asks_none none unread) once opened) is prints = absurd (omega (arith, is))
+  at_5 row (lacks_bus _ (without_bus _ asks (no_bus _ (no_file input.ReadFault lacks))) once opened) is prints = (lacks.0, once, prints)
+  at_5 row (lacks_bus _ (without_bus _ asks (no_bus _ (no_file input.TooLong lacks))) once opened) is prints = absurd (omega (arith, is))
+  at_5 row (lacks_bus _ (without_bus _ asks (no_bus _ (no_file input.Memory lacks))) once opened) is prints = absurd (omega (arith, is))
+  at_5 row (lacks_bus _ (without_bus _ asks (no_bus _ (file_refused cause text is_fault says))) once opened) is prints = absurd (omega (arith, is))
+  at_5 row (lacks_bus _ (without_bus _ asks (other_nodes bus reads others)) once opened) is prints = absurd (omega (arith, is))
+  at_5 row (with_bus bus _ asks reads comes) is prints = absurd (over_isnt 5 bus row asks comes is not_5)
+
+  at_8 : (row : Row) → Comes row → row.status ≡ 8 → PrintsWhole e row.text
+      → GivesTooMuch i.bus × (after ≡ before) × PrintsWhole e (codes "input too long\n")
+  at_8 row (lacks_bus _ (asks_none none unread) once opened) is prints = absurd (omega (arith, is))
+  at_8 row (lacks_bus _ (without_bus _ asks (no_bus _ (no_file input.ReadFault lacks))) once opened) is prints = absurd (omega (arith, is))
+  at_8 row (lacks_bus _ (without_bus _ asks (no_bus _ (no_file input.TooLong lacks))) once opened) is prints = (lacks.1, once, prints)
+  at_8 row (lacks_bus _ (without_bus _ asks (no_bus _ (no_file input.Memory lacks))) once opened) is prints = absurd (omega (arith, is))
+  at_8 row (lacks_bus _ (without_bus _ asks (no_bus _ (file_refused cause text is_fault says))) once opened) is prints = absurd (omega (arith, is))
+  at_8 row (lacks_bus _ (without_bus _ asks (other_nodes bus reads others)) once opened) is prints = absurd (omega (arith, is))
+  at_8 row (with_bus bus _ asks reads comes) is prints = absurd (over_isnt 8 bus row asks comes is not_8)
+
+  never_6 : (row : Row) → Comes row → ¬ (row.status ≡ 6)
+  never_6 row (lacks_bus _ lacks once opened) is = lacks_0 i row lacks (inr (inr (inr is)))
+  never_6 row (with_bus bus _ asks reads comes) is = over_isnt 6 bus row asks comes is not_6
+
+  -- ---- which rows come
+
+  only_2 : asks_over_bus (codes "grow") i.words ≡ false → (row : Row) → Comes row → row.status ≡ 2
+  only_2 none row (lacks_bus _ (asks_none also unread) once opened) = refl
+  only_2 none row (lacks_bus _ (without_bus _ asks lacks) once opened) = absurd (asks_or_not (asks_over_bus (codes "grow") i.words) none asks)
+  only_2 none row (with_bus bus _ asks reads comes) = absurd (asks_or_not (asks_over_bus (codes "grow") i.words) none asks)
+
+  only_config : (config : List ℕ) (cause : ConfigFault) → AsksGrowth i.words → Offers i.bus config → bus_of config ≡ Err cause
+      → (row : Row) → Comes row → (row.status ≡ 3) ⊎ (row.status ≡ 7)
+  only_config config cause asks offers err row (lacks_bus _ (asks_none none unread) once opened) =
+      absurd (asks_or_not (asks_over_bus (codes "grow") i.words) none asks)
+  only_config config cause asks offers err row (lacks_bus _ (without_bus _ also (no_bus _ (no_file why lacks))) once opened) =
+      inr (memory_status i.bus config why offers lacks)
+  only_config config cause asks offers err row (lacks_bus _ (without_bus _ also (no_bus _ (file_refused why text is_fault says))) once opened) = inl refl
+  only_config config cause asks offers err row (lacks_bus _ (without_bus _ also (other_nodes bus reads others)) once opened) = inl refl
+  only_config config cause asks offers err row (with_bus bus _ also reads comes) = absurd (bus_or_fault i.bus bus config cause reads.0 offers err)
+
+  only_nodes : (bus : NamedBus) → AsksGrowth i.words → OffersBus i.bus bus → length bus.nodes ≢ 1
+      → (row : Row) → Comes row → (row.status ≡ 3) ⊎ (row.status ≡ 7)
+  only_nodes bus asks offers others row (lacks_bus _ (asks_none none unread) once opened) =
+      absurd (asks_or_not (asks_over_bus (codes "grow") i.words) none asks)
+  only_nodes bus asks (file, offers, is) others row (lacks_bus _ (without_bus _ also (no_bus _ (no_file why lacks))) once opened) =
+      inr (memory_status i.bus file why offers lacks)
+  only_nodes bus asks offers others row (lacks_bus _ (without_bus _ also (no_bus _ (file_refused why text is_fault says))) once opened) = inl refl
+  only_nodes bus asks offers others row (lacks_bus _ (without_bus _ also (other_nodes that reads more)) once opened) = inl refl
+  only_nodes bus asks offers others row (with_bus that _ also reads comes) =
+      absurd (others (sym (ap (λ (b : NamedBus). length b.nodes) (same_bus i.bus that bus reads.0 offers)) ∙ reads.1))
+
+  pub grows_row : EndsInRow Comes e → GrowsOverBus opens before after i left e
+  grows_row ends = record {
+    ends = ends;
+    grown = EndsInRow-at ends 0 refl grown_at;
+    usage = EndsInRow-at ends 2 refl at_2;
+    usage_only = λ none. EndsInRow-only ends 2 (only_2 none);
+    refused = EndsInRow-at ends 3 refl at_3;
+    config_refused_only = λ config cause asks offers err. EndsInRow-may ends 3 (only_config config cause asks offers err);
+    nodes_refused_only = λ bus asks offers others. EndsInRow-may ends 3 (only_nodes bus asks offers others);
+    read_fault = EndsInRow-at ends 5 refl at_5;
+    read_fault_only = λ counts. EndsInRow-only ends 5 (λ row comes. told_fault row i.bus (left_so i.bus) (row_tells row comes) (inl counts));
+    write_fault = EndsInRow-front ends never_6;
+    write_fault_only = EndsInRow-rose ends;
+    no_memory = EndsInRow-at ends 7 refl no_memory_at;
+    too_long = EndsInRow-at ends 8 refl at_8;
+    too_long_only = λ counts. EndsInRow-only ends 8 (λ row comes. told_too_much row i.bus (left_so i.bus) (row_tells row comes) (inl counts));
+    no_store = EndsInRow-at ends 9 refl no_store_at;
+    disk_failed = EndsInRow-at ends 10 refl disk_failed_at;
+  }

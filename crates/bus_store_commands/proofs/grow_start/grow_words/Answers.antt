@@ -1,0 +1,26 @@
+-- Not checked yet: the form is bus_check_words'
+use Rattle.std.proofs.Common.{refl}
+use Rattle.program_edge.specs.NamedSources.{word_source}
+use Rattle.bus_store_commands.proofs.GrowPhases.{with_routes, without_routes}
+use Rattle.bus_store_commands.proofs.grow_start.grow_words.Goals as goal
+
+pub returns-in-Ok : goal.returns-in-Ok
+returns-in-Ok g c =
+    let state = word_source g.O.Opened.Source.state g.I.Source.state in record {
+      source = record { before = state c.open_word-file.result; after = state c.grow_asked.new.bus };
+      named = rw c.file_over_bus.ensures at c.open_word-file.ensures.named;
+      opened_once = rw c.file_over_bus.ensures at c.open_word-file.ensures.left;
+      left_is = refl;
+      has = with_routes _ _ _ _ _ _ c.in-Ok.bus _ _ c.in-Ok.ensures.0 c.in-Ok.ensures.1 c.argument_at-word.ensures c.node_routes.ensures c.grow_named-status.ensures;
+    }
+
+pub returns-in-Err : goal.returns-in-Err
+returns-in-Err g c =
+    let state = word_source g.O.Opened.Source.state g.I.Source.state in record {
+      source = record { before = state c.open_word-file.result; after = state c.grow_asked.new.bus };
+      named = rw c.file_over_bus.ensures at c.open_word-file.ensures.named;
+      opened_once = rw c.file_over_bus.ensures at c.open_word-file.ensures.left;
+      left_is = refl;
+      has = without_routes _ _ _ _ _ _ c.in-Err.refusal c.in-Err.ensures refl refl
+          (record { row = c.in-Err.refusal; comes = refl; told = c.tell_refusal.ensures });
+    }

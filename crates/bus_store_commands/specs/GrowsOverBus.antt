@@ -1,0 +1,116 @@
+-- What `slots grow FILE BUS` promises
+use Rattle.std.specs.Prelude.{◌≡◌, ◌≢◌, ◌⊎◌, ℕ, false, true, List, [], ◌∷◌, ◌++◌, Option, Some, None, Result, Ok, Err, length}
+use Rattle.std.specs.Prelude.{codes, slice_index_or}
+use Rattle.cut_disk.specs.State.{DiskState}
+use Rattle.file_disk.specs.NamedDisks.{TellsFirmBytes}
+use Rattle.text_lines.specs.Texts.{line}
+use Rattle.program_edge.specs.Rows.{Row, row_of, memory_row}
+use Rattle.program_edge.specs.Inputs.{Reading, IsUnread, Offers, SourceFailed, CountsFault, GivesTooMuch, CountsTooMuch}
+use Rattle.program_edge.specs.Endings.{Ending, EndsInRow, EndsIn, MayEndIn, PrintsWhole, PrintsFront, SinkFailed}
+use Rattle.program_edge.specs.Endings.{CountsWriteFault}
+use Rattle.freshness_routes.specs.declared.routes.Route.{Route}
+use Rattle.bus_config.specs.declared.fault.ConfigFault.{ConfigFault}
+use Rattle.bus_config.specs.BusFile.{bus_of}
+use Rattle.bus_config.specs.Buses.{NamedBus}
+use Rattle.bus_programs.specs.BusFiles.{OffersBus}
+use Rattle.bus_programs.specs.BusRoutes.{routes_of}
+use Rattle.store_growing.specs.declared.faults.GrowFault.{GrowFault}
+use Rattle.store_growing.specs.declared.faults.GrowFault.TheVariants.{DiskFailed}
+use Rattle.store_growing.specs.RouteCells.{route_cell}
+use Rattle.store_growing.specs.GrowingStores.{GrowsStore, NotGrown}
+use Rattle.bus_store_commands.specs.NodeBuses.{ReadsNodeBus, LacksNodeBus}
+use Rattle.bus_store_commands.specs.BusWords.{asks_over_bus}
+use Rattle.bus_store_commands.specs.GrowRows.{GrowsOnDisk, IsGrowRow, grown_row}
+
+-- what goes in: the arguments after `slots`, and what was known of the bus file's source before and after
+pub record GrowInputs : Type 0 where
+  pub words : List (List ℕ)
+  pub bus : Reading
+
+-- `grow FILE BUS`
+abbrev pub AsksGrowth : List (List ℕ) → Type 0
+AsksGrowth words = asks_over_bus (codes "grow") words ≡ true
+
+abbrev pub grow_usage : List ℕ
+grow_usage = line (codes "usage: station slots grow FILE BUS")
+
+-- why no store is looked at: the arguments are malformed, or the bus file gives no bus of one node
+pub data LacksGrowth (i : GrowInputs) : Row → Type 0 where
+  asks_none : asks_over_bus (codes "grow") i.words ≡ false → IsUnread i.bus → LacksGrowth i (row_of 2 grow_usage)
+  without_bus : (row : Row) → AsksGrowth i.words → LacksNodeBus i.bus row → LacksGrowth i row
+
+abbrev pub TakesGrowth : GrowInputs → Result NamedBus Row → Type 0
+TakesGrowth i (Ok bus) = AsksGrowth i.words × ReadsNodeBus i.bus bus
+TakesGrowth i (Err row) = LacksGrowth i row
+
+-- the disk that an argument opens, as it was then and as it was left; it tells its bytes
+pub record OpensDisk (opens : List ℕ → DiskState → Type 0) (before after : List (List ℕ)) (word : List ℕ)
+    (left : Option DiskState) : Type 0 where
+  pub old : DiskState
+  pub new : DiskState
+  pub opened : opens word old
+  pub tells : TellsFirmBytes old
+  pub once : after ≡ before ++ word ∷ []
+  pub left_is : left ≡ Some new
+
+-- what growing the store on the disk that an argument names comes to: there was no memory for the disk, and none was
+-- opened; or the disk was gone over
+pub data ComesNamed (opens : List ℕ → DiskState → Type 0) (before after : List (List ℕ)) (word : List ℕ)
+    (routes : List Route) (left : Option DiskState) : Row → Type 0 where
+  not_opened : after ≡ before → left ≡ None → ComesNamed opens before after word routes left memory_row
+  over_disk : (disk : OpensDisk opens before after word left) (row : Row) → GrowsOnDisk routes disk.old disk.new row
+      → ComesNamed opens before after word routes left row
+
+-- the arguments' file
+abbrev pub file_of : GrowInputs → List ℕ
+file_of i = slice_index_or i.words 1 []
+
+-- the table: the bus file is read before the disk of FILE is opened
+pub data ComesOfGrowth (opens : List ℕ → DiskState → Type 0) (before after : List (List ℕ)) (i : GrowInputs)
+    (left : Option DiskState) : Row → Type 0 where
+  lacks_bus : (row : Row) → LacksGrowth i row → after ≡ before → left ≡ None → ComesOfGrowth opens before after i left row
+  with_bus : (bus : NamedBus) (row : Row) → AsksGrowth i.words → ReadsNodeBus i.bus bus
+      → ComesNamed opens before after (file_of i) (routes_of bus) left row → ComesOfGrowth opens before after i left row
+
+module _ (opens : List ℕ → DiskState → Type 0) (before after : List (List ℕ)) (i : GrowInputs) (left : Option DiskState) where
+  -- the bus file was read whole, and the disk of FILE was opened once
+  abbrev pub OverStore : (List Route → DiskState → DiskState → Type 0) → Type 0
+  OverStore Has = (bus : NamedBus) × AsksGrowth i.words × ReadsNodeBus i.bus bus
+      × (disk : OpensDisk opens before after (file_of i) left) × Has (routes_of bus) disk.old disk.new
+
+  -- what is promised of a run that ends so, in the order of the table of answers
+  pub record GrowsOverBus (e : Ending) : Type 0 where
+    -- The program prints a row of the table and ends with its status, or at 6 a prefix of one.
+    pub ends : EndsInRow (ComesOfGrowth opens before after i left) e
+    -- 0: the store has a cell for each route, and no call of the disk failed.
+    pub grown : e.status ≡ 0 → OverStore (λ routes old new. GrowsStore routes old new × (new.faults ≡ old.faults)
+        × PrintsWhole e (grown_row (route_cell (length routes))).text)
+    -- 2: exactly if the arguments are malformed; nothing was read, and no disk was opened.
+    pub usage : e.status ≡ 2 → (asks_over_bus (codes "grow") i.words ≡ false) × IsUnread i.bus × (after ≡ before)
+        × PrintsWhole e grow_usage
+    pub usage_only : asks_over_bus (codes "grow") i.words ≡ false → EndsIn 2 e
+    -- 3: exactly if the bus file has a fault, or its bus hasn't one node; no disk was opened.
+    pub refused : e.status ≡ 3 → AsksGrowth i.words × (after ≡ before)
+        × ((row : Row) × LacksNodeBus i.bus row × (row.status ≡ 3) × PrintsWhole e row.text)
+    pub config_refused_only : (config : List ℕ) (fault : ConfigFault) → AsksGrowth i.words → Offers i.bus config
+        → bus_of config ≡ Err fault → MayEndIn 3 e
+    pub nodes_refused_only : (bus : NamedBus) → AsksGrowth i.words → OffersBus i.bus bus → length bus.nodes ≢ 1
+        → MayEndIn 3 e
+    -- 5: exactly if the count of faults of the bus file's source rose.
+    pub read_fault : e.status ≡ 5 → SourceFailed i.bus × (after ≡ before) × PrintsWhole e (codes "read fault\n")
+    pub read_fault_only : CountsFault i.bus → EndsIn 5 e
+    -- 6: exactly if the sink's count of faults rose; a prefix was written of a row that comes.
+    pub write_fault : e.status ≡ 6 → SinkFailed e × PrintsFront (ComesOfGrowth opens before after i left) e
+    pub write_fault_only : CountsWriteFault e → e.status ≡ 6
+    -- 7: nothing was printed, and nothing was written to a disk.
+    pub no_memory : e.status ≡ 7 → PrintsWhole e [] × ((left ≡ None) ⊎ OverStore (λ routes old new. new.told ≡ old.told))
+    -- 8: exactly if one byte more than an input may have came from the bus file's source.
+    pub too_long : e.status ≡ 8 → GivesTooMuch i.bus × (after ≡ before) × PrintsWhole e (codes "input too long\n")
+    pub too_long_only : CountsTooMuch i.bus → EndsIn 8 e
+    -- 9: the store can't be grown, and the disk is as it was; the first cause is printed.
+    pub no_store : e.status ≡ 9 → OverStore (λ routes old new. (new.told ≡ old.told)
+        × ((fault : GrowFault) × (row : Row) × NotGrown routes old new fault × IsGrowRow fault row × (row.status ≡ 9)
+        × PrintsWhole e row.text))
+    -- 10: exactly if a call of the disk failed; whatever the power leaves has the cells that the store had, or more.
+    pub disk_failed : e.status ≡ 10 → OverStore (λ routes old new. NotGrown routes old new DiskFailed
+        × PrintsWhole e (codes "store: DiskFailed\n"))
