@@ -194,27 +194,34 @@ slot = 7
 ";
 
 /// What a check over that bus finds.
-const OVER_BUS: Row = Row(
+const OVER_BUS: &[Row] = &[Row(
     &["check", "f", "b"],
     1,
     "store twin 1 16\ncell 15 BadBound 6bc2 receives\nroute 6bc3 sends NoCell\n",
-);
+)];
 
-#[test]
-fn a_store_is_checked_over_the_routes_of_its_node(rt: HostRuntime) -> Result<(), Fail> {
-    let alloc = rt.alloc();
-    let mut image = [0; SIZE];
-    unit_store(&mut image);
-    let words = words_of(alloc, OVER_BUS.0)?;
-    let mut file = CleanSource::new(Vec::from_slice(alloc, &image)?);
+/// Runs a row over these bytes and that bus, and compares.
+fn check_row_over_bus(rt: &impl Abort, alloc: Global, bytes: &[u8], row: &Row) -> Result<(), Fail> {
+    let words = words_of(alloc, row.0)?;
+    let mut file = CleanSource::new(Vec::from_slice(alloc, bytes)?);
     let mut bus = CleanSource::new(Vec::from_slice(alloc, BUS.as_bytes())?);
     let mut sink = MemSink::new(alloc, 4096, Vec::new(alloc), 4096)?;
     let status = run_bus_check(alloc, words.as_slice(), &mut file, &mut bus, &mut sink);
     same(
-        &rt,
-        OVER_BUS.2,
+        rt,
+        row.2,
         &(status, sink.bytes()),
-        &(OVER_BUS.1, OVER_BUS.2.as_bytes()),
+        &(row.1, row.2.as_bytes()),
     );
+    Ok(())
+}
+
+#[test]
+fn a_store_is_checked_over_the_routes_of_its_node(rt: HostRuntime) -> Result<(), Fail> {
+    let mut image = [0; SIZE];
+    unit_store(&mut image);
+    for row in OVER_BUS {
+        check_row_over_bus(&rt, rt.alloc(), &image, row)?;
+    }
     Ok(())
 }
