@@ -3,6 +3,7 @@
 
 station_model slots list|check FILE, slots check FILE BUS, slots reply FILE UID ID AUTH, ledger list|open FILE.., ledger export FILE, ledger
 show FILE UID SLOT: prints the text, and ends with the status. Replies are made by bus_model (python3-cryptography).
+ledger adopt FILE UID SLOT COUNTER, ledger import FILE BACKUP, ledger merge FILE OTHER: the same, without writing FILE.
 """
 import sys
 
@@ -170,8 +171,8 @@ def slots(name, data, values, routes=None):
     return 0, f"loaded {m4.hex()} {m5.hex()}\n"
 
 
-def entries_of(data):
-    """The entries of the ledger of these bytes, in the order of their places: UID, slot, counter, whether confirmed."""
+def places_of(data):
+    """The places of the ledger of these bytes, each None or UID, slot, counter, whether confirmed."""
     if len(data) < 32 + 68 * 256:
         raise No(9, "store: TooSmall\n")
     if header(data, 1) != (1, 256):
@@ -179,7 +180,7 @@ def entries_of(data):
     cells = twin_cells(data, 256)
     if None in cells:
         raise No(9, f"store: Damaged {cells.index(None)}\n")
-    entries, seen = [], set()
+    places, seen = [None] * 256, set()
     for place, cell in enumerate(cells):
         if not any(cell):
             continue
@@ -188,20 +189,105 @@ def entries_of(data):
                 or any(cell[22:]) or (uid, slot) in seen):
             raise No(9, f"store: BadEntry {place}\n")
         seen.add((uid, slot))
-        entries.append((uid, slot, counter, bool(cell[21])))
+        places[place] = uid, slot, counter, bool(cell[21])
+    return places
+
+
+def entries_of(data):
+    """The entries of the ledger of these bytes, in the order of their places."""
+    return [entry for entry in places_of(data) if entry]
+
+
+STATES = {False: "issued", True: "confirmed"}
+
+
+def entry_text(entry):
+    return f"{entry[0].hex()} {entry[1]} {entry[2]} {STATES[entry[3]]}"
+
+
+def is_number(word, least, most):
+    return word.isascii() and word.isdigit() and (word == "0" or word[0] != "0") and least <= int(word) <= most
+
+
+def backup_line(words):
+    """An entry, or a number for `end N`; ValueError with the cause."""
+    if words[0] == "end":
+        if len(words) != 2:
+            raise ValueError("wrong number of words")
+        if not is_number(words[1], 0, 65535):
+            raise ValueError("word 2")
+        return int(words[1])
+    if len(words) != 4:
+        raise ValueError("wrong number of words")
+    uid, slot, counter, state = words
+    if len(uid) != 30 or not all(it in "0123456789abcdefABCDEF" for it in uid) or int(uid, 16) == 0:
+        raise ValueError("word 1")
+    if not is_number(slot, 1, 13):
+        raise ValueError("word 2")
+    if not is_number(counter, 1, 2**28 - 1):
+        raise ValueError("word 3")
+    if state not in STATES.values():
+        raise ValueError("word 4")
+    return bytes.fromhex(uid), int(slot), int(counter), state == "confirmed"
+
+
+def backup_of(data):
+    """The entries of a whole backup."""
+    found = []
+    for number, line in enumerate(data.decode("latin-1").split("\n"), 1):
+        words = line.removesuffix("\r").replace("\t", " ").split(" ")
+        words = [word for word in words if word]
+        if not words or words[0][0] == "#":
+            continue
+        try:
+            found.append(backup_line(words))
+        except ValueError as cause:
+            raise No(4, f"script: line {number}: {cause}\n") from None
+    entries = found[:-1]
+    if not found or found[-1] != len(entries) or any(isinstance(it, int) for it in entries):
+        raise No(4, "backup: not whole\n")
     return entries
+
+
+def take_over(places, entries, strict):
+    """The places after these entries were taken over, the status and the text."""
+    places, lines, refused = list(places), [], False
+    for entry in entries:
+        unit = f"{entry[0].hex()} {entry[1]}"
+        there = [place for place, held in enumerate(places) if held and held[:2] == entry[:2]]
+        held = places[there[0]] if there else None
+        if held is None and None not in places:
+            lines.append(f"refused Full {unit}")
+            refused = True
+        elif held is None or held[2] < entry[2] or (held[2] == entry[2] and entry[3] and not held[3]):
+            places[there[0] if there else places.index(None)] = entry
+            lines.append(f"adopted {entry_text(entry)}")
+        elif held[2] == entry[2]:
+            lines.append(f"held {entry_text(entry)}")
+        else:
+            lines.append(f"ahead {unit} {held[2]}")
+            refused = refused or strict
+    return places, int(refused), "".join(f"{line}\n" for line in lines)
+
+
+def adoption(name, disk, values):
+    """The places of the ledger of these bytes after `ledger NAME`, the status and the text; values are bytes or words."""
+    if name == "adopt":
+        entries = [(bytes.fromhex(values[0]), int(values[1]), int(values[2]), True)]
+    else:
+        entries = backup_of(values[0]) if name == "import" else entries_of(values[0])
+    blank = len(disk) >= 32 + 68 * 256 and not any(disk[:32])
+    return take_over([None] * 256 if blank else places_of(disk), entries, name == "adopt")
 
 
 def ledger(name, files, values):
     """What `ledger NAME` prints of the bytes of these files, and the status."""
-    state = {False: "issued", True: "confirmed"}
     entries = [entry for data in files for entry in entries_of(data)]
     if name == "show":
         unit = bytes.fromhex(values[0]), int(values[1])
         held = [entry for entry in entries if entry[:2] == unit]
-        return (0, f"{state[held[0][3]]} {held[0][2]}\n") if held else (1, "none\n")
-    lines = [f"{uid.hex()} {slot} {counter} {state[confirmed]}\n" for uid, slot, counter, confirmed in entries
-             if name != "open" or not confirmed]
+        return (0, f"{STATES[held[0][3]]} {held[0][2]}\n") if held else (1, "none\n")
+    lines = [f"{entry_text(entry)}\n" for entry in entries if name != "open" or not entry[3]]
     return 0, "".join(lines) + (f"end {len(lines)}\n" if name == "export" else "")
 
 
@@ -218,9 +304,13 @@ def main(words):
     try:
         if over_bus:
             status, text = slots("check", files[0], [], routes_of(read(words[3]).decode()))
+        elif words[0] == "slots":
+            status, text = slots(words[1], files[0], words[3:])
+        elif words[1] in ("adopt", "import", "merge"):
+            values = words[3:] if words[1] == "adopt" else [read(words[3])]
+            _, status, text = adoption(words[1], files[0], values)
         else:
-            status, text = (slots(words[1], files[0], words[3:]) if words[0] == "slots"
-                            else ledger(words[1], files, words[3:]))
+            status, text = ledger(words[1], files, words[3:])
     except No as no:
         status, text = no.args
     sys.stdout.write(text)

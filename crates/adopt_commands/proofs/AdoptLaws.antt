@@ -29,7 +29,7 @@ Moments = List (Moment LedgerEntry AdoptLine KeeperState)
 
 -- ---- entries are kept from one ledger to the next
 
-keeps_same : (c : Campaign) → KeepsEntries c c
+pub keeps_same : (c : Campaign) → KeepsEntries c c
 keeps_same c uid id e at = record { now = e; there = at; no_lower = omega arith }
 
 keeps_then : (a b c : Campaign) → KeepsEntries a b → KeepsEntries b c → KeepsEntries a c
@@ -109,22 +109,22 @@ all_adopted_run s (m ∷ ms) t sound up are (turn, run) none =
     let six_more : 6 + 6 * length (commands_in ms) ≡ 6 * suc (length (commands_in ms)) = omega arith in
     let lines_is : list_any (is_refused m.after.strict) (lines_in ms) ≡ list_any (is_refused s.strict) (lines_in ms) =
     ap (λ b. list_any (is_refused b) (lines_in ms)) turn.strict_is in
-      record {
-        answers = subst (λ (l : AdoptLine). AdoptsEach c (m.command ∷ commands_in ms) (l ∷ lines_in ms) t.ledger.campaign) (sym turn.line_is)
-            (one_adopted c mid t.ledger.campaign m.command (commands_in ms) turn.result (lines_in ms) turn.step rest.answers);
-        none_failed = none;
-        strict_is = rest.strict_is ∙ turn.strict_is;
-        refused_is = rest.refused_is
-            ∙ ap₂ (λ a b. a || b) turn.refused_is lines_is
-            ∙ or_assoc s.refused (is_refused s.strict m.line) (list_any (is_refused s.strict) (lines_in ms));
-        keeps = keeps_then c mid t.ledger.campaign (adopted_keeps c m.command turn.result mid sound is turn.step).0 rest.keeps;
-        up = rest.up;
-        sound = rest.sound;
-        layout = rest.layout ∙ turn.serves.layout;
-        runs = runs_more (6 * suc (length (commands_in ms))) (omega (arith, six_more)) (runs_join turn.serves.runs rest.runs);
-        calm = rest.calm ∙ calm_after s.ledger m.after.ledger m.command turn.result turn.serves turn.untouched isnt;
-        fits = λ h. rest.fits (turn.serves.fits h);
-      }
+    record {
+      answers = subst (λ (l : AdoptLine). AdoptsEach c (m.command ∷ commands_in ms) (l ∷ lines_in ms) t.ledger.campaign) (sym turn.line_is)
+          (one_adopted c mid t.ledger.campaign m.command (commands_in ms) turn.result (lines_in ms) turn.step rest.answers);
+      none_failed = none;
+      strict_is = rest.strict_is ∙ turn.strict_is;
+      refused_is = rest.refused_is
+          ∙ ap₂ (λ a b. a || b) turn.refused_is lines_is
+          ∙ or_assoc s.refused (is_refused s.strict m.line) (list_any (is_refused s.strict) (lines_in ms));
+      keeps = keeps_then c mid t.ledger.campaign (adopted_keeps c m.command turn.result mid sound is turn.step).0 rest.keeps;
+      up = rest.up;
+      sound = rest.sound;
+      layout = rest.layout ∙ turn.serves.layout;
+      runs = runs_more (6 * suc (length (commands_in ms))) (omega (arith, six_more)) (runs_join turn.serves.runs rest.runs);
+      calm = rest.calm ∙ calm_after s.ledger m.after.ledger m.command turn.result turn.serves turn.untouched isnt;
+      fits = λ h. rest.fits (turn.serves.fits h);
+    }
 
 -- ---- an entry that finds it failing, after others that didn't
 

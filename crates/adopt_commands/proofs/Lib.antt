@@ -1,6 +1,9 @@
 pub mod AdoptLaws
 pub mod AdoptEnds
 pub mod OverDisks
-pub mod HeldLaws
 pub mod Naming
-pub mod FormLaws
+pub mod Taken
+pub mod GivenFiles
+pub mod LedgerDisks
+pub mod AdoptPromises
+pub mod OverWords

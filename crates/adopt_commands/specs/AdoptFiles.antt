@@ -17,12 +17,20 @@ use Rattle.adopt_commands.specs.AdoptRows.{AsksNoAdoption, GivesEntries, LacksEn
 -- an entry that the ledger is ahead of is refused
 abbrev pub is_strict : AdoptTask → Bool
 is_strict (adopt.One entry) = true
-is_strict adopt.Merge = false
+is_strict (adopt.All kind) = false
 
--- the arguments that name a file to be read: the third, if another ledger is taken over
+-- the arguments that name a file to be read: the third, if a backup or another ledger is taken over
 abbrev pub files_asked : AdoptTask → List (List ℕ) → List (List ℕ)
 files_asked (adopt.One entry) words = []
-files_asked adopt.Merge words = nth_word words 3 ∷ []
+files_asked (adopt.All kind) words = nth_word words 3 ∷ []
+
+-- the arguments that name a file: none if nothing is asked
+abbrev pub files_of : Option (Result AdoptTask ℕ) → List (List ℕ) → List (List ℕ)
+files_of (Some (Ok asked)) words = files_asked asked words
+files_of other words = []
+
+abbrev pub adoption_files : List (List ℕ) → List (List ℕ)
+adoption_files words = files_of (adoption_asked words) words
 
 -- how taking over these entries over the disk that an argument names ends: there was no memory for the disk, and none
 -- was opened; or the one disk that it opens, once, was gone over, and is handed back

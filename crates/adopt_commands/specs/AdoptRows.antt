@@ -1,8 +1,9 @@
 -- The table of answers of `ledger adopt`, `import` and `merge`: its rows, and when each comes
 use Rattle.std.specs.Prelude.{◌≡◌, ◌⊎◌, ℕ, Bool, true, false, Option, Some, None, List, [], ◌∷◌, Result, Ok, Err, codes}
 use Rattle.cut_disk.specs.State.{DiskState}
-use Rattle.program_edge.specs.Rows.{Row, row_of, memory_row}
-use Rattle.program_edge.specs.Inputs.{Reading}
+use Rattle.program_edge.specs.declared.input.InputFault.{InputFault}
+use Rattle.program_edge.specs.Rows.{Row, row_of, input_row, memory_row}
+use Rattle.program_edge.specs.Inputs.{Reading, ReadsWhole, Lacks}
 use Rattle.program_edge.specs.Endings.{Ending, EndsInRow}
 use Rattle.key_campaign.specs.declared.entries.LedgerEntry.{LedgerEntry}
 use Rattle.key_campaign.specs.State.{LedgerState}
@@ -13,8 +14,11 @@ use Rattle.ledger_commands.specs.EntryTexts.{held_entries}
 use Rattle.ledger_commands.specs.LedgerBytes.{cause_row, bad_entry_row}
 use Rattle.ledger_commands.specs.LedgerRows.{ReadsLedger, LacksLedgerFile, ledger_usage, ledger_value_text}
 use Rattle.ledger_commands.specs.StoreRows.{IsStoreRow}
+use Rattle.ledger_backups.specs.Backups.{IsBackupOf, LacksBackup}
 use Rattle.adopt_commands.specs.declared.tasks.AdoptTask.{AdoptTask}
 use Rattle.adopt_commands.specs.declared.tasks.AdoptTask.TheVariants as adopt
+use Rattle.adopt_commands.specs.declared.tasks.EntryFile.{EntryFile}
+use Rattle.adopt_commands.specs.declared.tasks.EntryFile.TheVariants.{Backup, Ledger}
 use Rattle.adopt_commands.specs.AdoptTurns.{KeeperState}
 use Rattle.adopt_commands.specs.Adoptions.{EndsAdopting}
 
@@ -33,22 +37,32 @@ GivesOne asked (Err row) = (number : ℕ) × (asked ≡ Err number) × (row ≡ 
 
 -- ---- the entries
 
--- the file was read whole and has a ledger with these entries
-abbrev pub GivesOfFile : Reading → List LedgerEntry → Type 0
-GivesOfFile r entries = (places : List (Option LedgerEntry)) × ReadsLedger r places × (entries ≡ held_entries places)
+-- the file was read whole and is a backup of these entries, or has a ledger with them
+abbrev pub GivesOfFile : EntryFile → Reading → List LedgerEntry → Type 0
+GivesOfFile Backup r entries = (text : List ℕ) × ReadsWhole r text × IsBackupOf text entries
+GivesOfFile Ledger r entries =
+    (places : List (Option LedgerEntry)) × ReadsLedger r places × (entries ≡ held_entries places)
 
--- these are the entries that a ledger is to take over: the one of the arguments, or all of a ledger whose file was read
--- whole
+-- it gives no backup: it wasn't read whole, or is none; or memory was out for it or for what is said of it
+pub data LacksBackupFile (r : Reading) : Row → Type 0 where
+  backup_unread : (fault : InputFault) → Lacks r fault → LacksBackupFile r (input_row fault)
+  no_backup_there : (text : List ℕ) (row : Row) → ReadsWhole r text → LacksBackup text row → LacksBackupFile r row
+  backup_unkept : (text : List ℕ) → ReadsWhole r text → LacksBackupFile r memory_row
+
+abbrev pub LacksOfFile : EntryFile → Reading → Row → Type 0
+LacksOfFile Backup r row = LacksBackupFile r row
+LacksOfFile Ledger r row = LacksLedgerFile r row
+
+-- these are the entries that a ledger is to take over: the one of the arguments, or all of a file that was read whole
 abbrev pub GivesEntries : AdoptTask → List Reading → List LedgerEntry → Type 0
 GivesEntries (adopt.One entry) files entries = (files ≡ []) × (entries ≡ entry ∷ [])
-GivesEntries adopt.Merge files entries =
-    (r : Reading) × (files ≡ r ∷ []) × GivesOfFile r entries
+GivesEntries (adopt.All kind) files entries = (r : Reading) × (files ≡ r ∷ []) × GivesOfFile kind r entries
 
--- there are none, and the row that says why: no memory, or the file gives no ledger
+-- there are none, and the row that says why: no memory, or the file gives none
 pub data LacksEntries (asked : AdoptTask) (files : List Reading) : Row → Type 0 where
   unroomed : files ≡ [] → LacksEntries asked files memory_row
-  no_other : (r : Reading) (row : Row) → asked ≡ adopt.Merge → files ≡ r ∷ [] → LacksLedgerFile r row
-      → LacksEntries asked files row
+  no_other : (kind : EntryFile) (r : Reading) (row : Row) → asked ≡ adopt.All kind → files ≡ r ∷ []
+      → LacksOfFile kind r row → LacksEntries asked files row
 
 -- ---- the disk
 

@@ -2,24 +2,13 @@
 use Rattle.std.specs.Prelude.{ℕ, ◌==◌, ◌&&◌, Bool, if◌then◌else◌, List, [], ◌∷◌, length, true}
 use Rattle.std.specs.Prelude.{Option, Some, None, Result, Ok, codes, bytes_eq}
 use Rattle.std.specs.Option.{ok_or}
-use Rattle.secoc_words.specs.KeyForms.{engine_uid_form, slot_form, counter_form}
+use Rattle.secoc_words.specs.KeyForms.{engine_uid_form}
 use Rattle.text_lines.specs.Readings.{◌>>=◌, nth_word}
 use Rattle.key_campaign.specs.Entries.{IsEntry}
+use Rattle.ledger_backups.specs.EntryForms.{entry_slot_form, entry_counter_form}
 use Rattle.adopt_commands.specs.declared.tasks.AdoptTask.{AdoptTask}
 use Rattle.adopt_commands.specs.declared.tasks.AdoptTask.TheVariants as adopt
-
--- a number that isn't 0
-abbrev pub if_some : Option ℕ → Option ℕ
-if_some None = None
-if_some (Some n) = if n == 0 then None else Some n
-
--- SLOT of an entry: 1 to 13
-abbrev pub entry_slot_form : List ℕ → Option ℕ
-entry_slot_form word = if_some (slot_form word)
-
--- COUNTER of an entry: 1 to 268435455
-abbrev pub entry_counter_form : List ℕ → Option ℕ
-entry_counter_form word = if_some (counter_form word)
+use Rattle.adopt_commands.specs.declared.tasks.EntryFile.TheVariants.{Backup, Ledger}
 
 -- `UID SLOT COUNTER` after the ledger, which is value 1: the entry, which is confirmed, or the number of the first
 -- value that isn't of its form
@@ -37,11 +26,12 @@ asks_of words name count = length words == count && bytes_eq (nth_word words 1) 
 -- the task of these arguments, or the number of the first wrong value; nothing if they are malformed
 unfoldable pub adoption_asked : List (List ℕ) → Option (Result AdoptTask ℕ)
 adoption_asked words =
-    if asks_of words (codes "merge") 3 then Some (Ok adopt.Merge) else
+    if asks_of words (codes "import") 3 then Some (Ok (adopt.All Backup)) else
+    if asks_of words (codes "merge") 3 then Some (Ok (adopt.All Ledger)) else
     if asks_of words (codes "adopt") 5
     then Some (one_asked (nth_word words 3) (nth_word words 4) (nth_word words 5)) else None
 
 -- the one entry is one that a ledger may have
 abbrev pub IsOneEntry : AdoptTask → Type 0
 IsOneEntry (adopt.One entry) = IsEntry entry
-IsOneEntry adopt.Merge = Unit {0}
+IsOneEntry (adopt.All kind) = Unit {0}

@@ -3,3 +3,5 @@ pub mod AdoptTurns
 pub mod Adoptions
 pub mod AdoptRows
 pub mod AdoptFiles
+pub mod AdoptRuns
+pub mod AdoptsOver

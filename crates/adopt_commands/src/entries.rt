@@ -4,12 +4,15 @@ ghost use Rattle.program_edge.specs.Rows.{memory_row};
 ghost use Rattle.key_campaign.specs.Entries.{IsEntry, place_count};
 ghost use Rattle.ledger_commands.specs.EntryTexts.{held_at, held_entries};
 ghost use Rattle.ledger_commands.specs.LedgerRows.{LacksLedgerFile};
-ghost use Rattle.adopt_commands.specs.AdoptRows.{GivesOfFile};
+ghost use Rattle.text_lines.specs.Readings.{most_lines};
+ghost use Rattle.adopt_commands.specs.AdoptRows.{GivesOfFile, LacksOfFile, LacksBackupFile};
 
+use crate::tasks::EntryFile;
 use any_cells::AnyCells;
 use bus_port::Source;
 use cut_disk::MemDisk;
 use key_campaign::{Ledger, LedgerEntry};
+use ledger_backups::read_backup;
 use ledger_commands::read_ledger;
 use program_edge::{Refusal, read_input};
 use std::alloc::{AllocError, Global};
@@ -26,12 +29,46 @@ pub fn one_entry(alloc: Global, entry: &LedgerEntry) -> Result<Vec<LedgerEntry>,
     }
 }
 
-/// The entries of the ledger in a file, in the order of their places.
-pub fn entries_of<S: Source>(alloc: Global, file: &mut S) -> Result<Vec<LedgerEntry>, Refusal>
-    ensures gives { IfOk result (λ entries. GivesOfFile
+/// The entries of a file: those of a backup in their order, or those of a ledger in the order of their places.
+pub fn entries_of<S: Source>(
+    alloc: Global,
+    kind: EntryFile,
+    file: &mut S,
+) -> Result<Vec<LedgerEntry>, Refusal>
+    ensures gives { IfOk result (λ entries. GivesOfFile kind
         (record { before = S.state file.old; after = S.state file.new }) entries.items) }
     ensures are { IfOk result (λ entries. All IsEntry entries.items) }
-    ensures few { IfOk result (λ entries. length entries.items ≤ place_count) }
+    ensures few { IfOk result (λ entries. length entries.items ≤ most_lines) }
+    ensures refused { IfErr result (LacksOfFile kind
+        (record { before = S.state file.old; after = S.state file.new })) }
+{
+    match kind {
+        EntryFile::Backup => backup_entries(alloc, file),
+        EntryFile::Ledger => other_entries(alloc, file),
+    }
+}
+
+/// The entries of the backup in a file.
+fn backup_entries<S: Source>(alloc: Global, file: &mut S) -> Result<Vec<LedgerEntry>, Refusal>
+    ensures gives { IfOk result (λ entries. GivesOfFile EntryFile.Backup
+        (record { before = S.state file.old; after = S.state file.new }) entries.items) }
+    ensures are { IfOk result (λ entries. All IsEntry entries.items) }
+    ensures few { IfOk result (λ entries. length entries.items ≤ most_lines) }
+    ensures refused { IfErr result (LacksBackupFile
+        (record { before = S.state file.old; after = S.state file.new })) }
+{
+    match read_input(alloc, file) {
+        Ok(text) => read_backup(alloc, text.as_slice()),
+        Err(fault) => Err(Refusal::from(fault)),
+    }
+}
+
+/// The entries of the ledger in a file, in the order of their places.
+fn other_entries<S: Source>(alloc: Global, file: &mut S) -> Result<Vec<LedgerEntry>, Refusal>
+    ensures gives { IfOk result (λ entries. GivesOfFile EntryFile.Ledger
+        (record { before = S.state file.old; after = S.state file.new }) entries.items) }
+    ensures are { IfOk result (λ entries. All IsEntry entries.items) }
+    ensures few { IfOk result (λ entries. length entries.items ≤ most_lines) }
     ensures refused { IfErr result (LacksLedgerFile
         (record { before = S.state file.old; after = S.state file.new })) }
 {

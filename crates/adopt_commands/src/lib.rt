@@ -1,10 +1,10 @@
-//! Entries that the ledger of a key loading station takes over (updates after the SHE specification): `ledger adopt`
-//! and `merge`.
+//! Entries that the ledger of a key loading station takes over (updates after the SHE specification): `ledger adopt`,
+//! `import` and `merge`.
 //!
-//! [`adopts_words`] does what the arguments ask. The other ledger is read whole first. Then the ledger on the disk
-//! takes over one entry after another, and the line of each is written before the next is done. Each entry is put whole
-//! or not at all, whatever a power cut leaves; no entry goes, and no counter falls. The same arguments again finish
-//! what a kill left.
+//! [`adopts_words`] does what the arguments ask. The record `RunsAdoption` has a member for each promise. A backup or
+//! another ledger is read whole first. Then the ledger on the disk takes over one entry after another, and the line of
+//! each is written before the next is done. Each entry is put whole or not at all, whatever a power cut leaves; no
+//! entry goes, and no counter falls. The same arguments again finish what a kill left.
 #![tactic(auto)]
 
 mod adopting;
@@ -19,4 +19,4 @@ pub use adopting::adopt_over;
 pub use entries::entries_of;
 pub use lines::{AdoptLine, AdoptText};
 pub use start::adopts_words;
-pub use tasks::{AdoptTask, task_in};
+pub use tasks::{AdoptTask, EntryFile, task_in};

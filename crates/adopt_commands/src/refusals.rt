@@ -10,7 +10,7 @@ use ledger_commands::{bad_entry_refusal, store_refusal};
 use program_edge::Refusal;
 use std::alloc::Global;
 
-const USAGE: &str = "usage: station ledger list, open, show, export, adopt, merge\n";
+const USAGE: &str = "usage: station ledger list, open, show, export, adopt, import, merge\n";
 
 /// The refusal of malformed arguments.
 pub fn usage_refusal() -> Refusal

@@ -6,10 +6,11 @@ ghost use Rattle.file_disk.specs.NamedDisks.{OpenedByWords};
 ghost use Rattle.program_edge.specs.NamedSources.{word_source, openings};
 ghost use Rattle.key_campaign.specs.Entries.{IsEntry};
 ghost use Rattle.adopt_commands.specs.AdoptFiles.{EndsAdoptWords, EndsAdoptTask, EndsInto};
+ghost use Rattle.adopt_commands.specs.AdoptsOver.{AdoptsOver};
 
 use crate::adopting::adopt_over;
 use crate::entries::{entries_of, one_entry};
-use crate::tasks::{AdoptTask, task_in};
+use crate::tasks::{AdoptTask, EntryFile, task_in};
 use bus_port::{Sink, Source};
 use file_disk::{DiskOpener, open_disk};
 use key_campaign::LedgerEntry;
@@ -21,8 +22,33 @@ use std::alloc::{AllocError, Global};
 /// program ends with, and the source of the file and the disk as they were left. `-` names the input, which is taken
 /// then. The file is read whole before the disk is opened, so that one that is refused makes no file.
 ///
-/// The statuses are looked for in the order 2, 3, then 5, 8 and 9 of the file, 9 and 10 of the disk, 1.
+/// The statuses are looked for in the order 2, 3, then 5, 8, 4 and 9 of the file, 9 and 10 of the disk, 1.
 pub fn adopts_words<O: Opener, P: DiskOpener, I: Source + Drop, K: Sink>(
+    alloc: Global,
+    opener: &mut O,
+    disk_opener: &mut P,
+    input: &mut Option<I>,
+    words: &[String],
+    sink: &mut K,
+) -> (u8, Vec<WordSource<O::Opened, I>>, Vec<P::Opened>)
+    // All that is promised, over the file and the disk. `RunsAdoption` of specs/AdoptRuns.antt has a member for each
+    // promise, in the order of the table of answers.
+    ensures { AdoptsOver (O.opens opener.old) (P.opens disk_opener.old)
+        (record {
+          before = openings (O.opened opener.old) (option_map I.state input.old);
+          after = openings (O.opened opener.new) (option_map I.state input.new);
+          disks_before = P.opened disk_opener.old;
+          disks_after = P.opened disk_opener.new;
+        })
+        (each string_bytes words.now)
+        (each (word_source O.Opened.state I.state) result.1.items) (each P.Opened.state result.2.items)
+        (record { before = K.state sink.old; after = K.state sink.new; status = result.0 }) }
+{
+    adopt_asked(alloc, opener, disk_opener, input, words, sink)
+}
+
+/// Does what the arguments ask for.
+fn adopt_asked<O: Opener, P: DiskOpener, I: Source + Drop, K: Sink>(
     alloc: Global,
     opener: &mut O,
     disk_opener: &mut P,
@@ -47,7 +73,9 @@ pub fn adopts_words<O: Opener, P: DiskOpener, I: Source + Drop, K: Sink>(
             let (status, disks) = adopt_one(alloc, disk_opener, &entry, words, sink);
             (status, unopened, disks)
         }
-        Ok(AdoptTask::Merge) => merge_other(alloc, opener, disk_opener, input, words, sink),
+        Ok(AdoptTask::All(kind)) => {
+            adopt_file(alloc, opener, disk_opener, input, kind, words, sink)
+        }
         Err(refusal) => {
             let unopened = Vec::new(alloc);
             let no_disk = Vec::new(alloc);
@@ -81,12 +109,13 @@ fn adopt_one<P: DiskOpener, K: Sink>(
     }
 }
 
-/// Takes over the entries of the ledger that the third argument names.
-fn merge_other<O: Opener, P: DiskOpener, I: Source + Drop, K: Sink>(
+/// Takes over the entries of the file that the third argument names.
+fn adopt_file<O: Opener, P: DiskOpener, I: Source + Drop, K: Sink>(
     alloc: Global,
     opener: &mut O,
     disk_opener: &mut P,
     input: &mut Option<I>,
+    kind: EntryFile,
     words: &[String],
     sink: &mut K,
 ) -> (u8, Vec<WordSource<O::Opened, I>>, Vec<P::Opened>)
@@ -102,7 +131,7 @@ fn merge_other<O: Opener, P: DiskOpener, I: Source + Drop, K: Sink>(
           disks_before = P.opened disk_opener.old;
           disks_after = P.opened disk_opener.new;
         })
-        (each string_bytes words.now) AdoptTask.Merge (each P.Opened.state result.2.items)
+        (each string_bytes words.now) (AdoptTask.All kind) (each P.Opened.state result.2.items)
         (record { before = K.state sink.old; after = K.state sink.new; status = result.0 })) }
 {
     let mut files = match Vec::with_capacity(alloc, 1) {
@@ -115,7 +144,7 @@ fn merge_other<O: Opener, P: DiskOpener, I: Source + Drop, K: Sink>(
         }
     };
     let mut file = open_word(opener, input, Some(word_at(words, 3)));
-    let entries = entries_of(alloc, &mut file);
+    let entries = entries_of(alloc, kind, &mut file);
     files.push_reserved(file);
     match entries {
         Ok(entries) => {

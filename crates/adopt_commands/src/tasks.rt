@@ -1,12 +1,12 @@
 //! What the arguments after `ledger` ask for, if entries are to be taken over.
 ghost use Rattle.std.specs.Prelude.{◌≡◌, map as each, string_bytes, Some, Ok, IfOk, IfErr};
-ghost use Rattle.adopt_commands.specs.AdoptTasks.{adoption_asked, asks_of, entry_slot_form, entry_counter_form};
+ghost use Rattle.adopt_commands.specs.AdoptTasks.{adoption_asked, asks_of};
 ghost use Rattle.adopt_commands.specs.AdoptTasks.{one_asked, IsOneEntry};
 ghost use Rattle.adopt_commands.specs.AdoptRows.{AsksNoAdoption, GivesOne};
 
 use crate::refusals::{counter_refusal, slot_refusal, unit_refusal, usage_refusal};
 use key_campaign::LedgerEntry;
-use key_slots::{Counter28, SlotId};
+use ledger_backups::{entry_counter, entry_slot};
 use ledger_commands::word_at;
 use program_edge::Refusal;
 
@@ -15,8 +15,17 @@ use program_edge::Refusal;
 pub enum AdoptTask {
     /// This one, which is confirmed.
     One(LedgerEntry),
-    /// Those of another ledger.
-    Merge,
+    /// Those of a file.
+    All(EntryFile),
+}
+
+/// What a file with entries is.
+#[derive(Clone, Copy, Debug, PartialEq, Eq, Drop)]
+pub enum EntryFile {
+    /// The text of a backup.
+    Backup,
+    /// Another ledger.
+    Ledger,
 }
 
 /// The task of these arguments, or the first refusal: 2 if they are malformed, 3 with the first value that isn't of its
@@ -27,8 +36,11 @@ pub fn task_in(words: &[String]) -> Result<AdoptTask, Refusal>
     ensures one { IfOk result IsOneEntry }
     ensures refused { IfErr result (AsksNoAdoption (adoption_asked (each string_bytes words.now))) }
 {
+    if asks_of(words, "import", 3) {
+        return Ok(AdoptTask::All(EntryFile::Backup));
+    }
     if asks_of(words, "merge", 3) {
-        return Ok(AdoptTask::Merge);
+        return Ok(AdoptTask::All(EntryFile::Ledger));
     }
     if asks_of(words, "adopt", 5) {
         return one_in(word_at(words, 3), word_at(words, 4), word_at(words, 5));
@@ -62,24 +74,4 @@ fn one_in(uid: &str, id: &str, counter: &str) -> Result<AdoptTask, Refusal>
         counter,
         confirmed: true,
     }))
-}
-
-/// SLOT of an entry, 1 to 13.
-pub fn entry_slot(word: &[u8]) -> Option<SlotId>
-    ensures { result ≡ entry_slot_form word.now }
-{
-    let id = secoc_words::slot(word)?;
-    if id.number() == 0 { None } else { Some(id) }
-}
-
-/// COUNTER of an entry, 1 to 268435455.
-pub fn entry_counter(word: &[u8]) -> Option<Counter28>
-    ensures { result ≡ entry_counter_form word.now }
-{
-    let counter = secoc_words::counter(word)?;
-    if counter.number() == 0 {
-        None
-    } else {
-        Some(counter)
-    }
 }

@@ -21,7 +21,7 @@ pub record LedgerInputs : Type 0 where
   pub files : List Reading
 
 abbrev pub ledger_usage : List ℕ
-ledger_usage = line (codes "usage: station ledger list, open, show, export, adopt, merge")
+ledger_usage = line (codes "usage: station ledger list, open, show, export, adopt, import, merge")
 
 abbrev pub ledger_value_text : ℕ → List ℕ
 ledger_value_text number = line (codes "value " ++ decimal number)

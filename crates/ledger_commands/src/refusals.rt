@@ -13,7 +13,7 @@ use cell_store::StoreFault;
 use program_edge::Refusal;
 use std::alloc::{AllocError, Global};
 
-const USAGE: &str = "usage: station ledger list, open, show, export, adopt, merge\n";
+const USAGE: &str = "usage: station ledger list, open, show, export, adopt, import, merge\n";
 
 /// The refusal of malformed arguments.
 pub fn usage_refusal() -> Refusal

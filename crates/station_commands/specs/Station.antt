@@ -16,7 +16,7 @@ use Rattle.bus_store_commands.specs.ChecksOverBus.{ChecksOverBus}
 use Rattle.ledger_commands.specs.LedgerRows.{words_named}
 use Rattle.ledger_commands.specs.LedgerReads.{ReadsLedgerFiles}
 use Rattle.ledger_commands.specs.Named.{OverAllNamed}
-use Rattle.adopt_commands.specs.AdoptFiles.{EndsAdoptWords}
+use Rattle.adopt_commands.specs.AdoptsOver.{AdoptsOver}
 use Rattle.keyfile_commands.specs.Calls.{first_file, second_file}
 use Rattle.keyfile_commands.specs.KeyFilesRuns.{KeyFilesRuns}
 use Rattle.station_commands.specs.declared.run.StationPart.{StationPart}
@@ -35,7 +35,9 @@ slot_part checks_over_bus = if checks_over_bus then BusCheck else Slots
 
 -- what a second argument names after `ledger`
 abbrev pub ledger_part : List ℕ → StationPart
-ledger_part word = if bytes_eq word (codes "adopt") || bytes_eq word (codes "merge") then Adoption else Ledger
+ledger_part word =
+    if bytes_eq word (codes "adopt") || bytes_eq word (codes "import") || bytes_eq word (codes "merge")
+    then Adoption else Ledger
 
 -- what the first two arguments name; after `slots` the check over a bus, if all of them ask for that
 abbrev pub part_named : List ℕ → List ℕ → Bool → Option StationPart
@@ -68,7 +70,7 @@ RunsPart opens disk_opens state disk words o (Some Ledger) (Ledgers files) e =
     (λ all. ReadsLedgerFiles (record { words = words; files = all }) e)
     × (o.disks_after ≡ o.disks_before)
 RunsPart opens disk_opens state disk words o (Some Adoption) (Adopted files disks) e =
-    EndsAdoptWords opens disk_opens o words (map state files.items) (map disk disks.items) e
+    AdoptsOver opens disk_opens o words (map state files.items) (map disk disks.items) e
 RunsPart opens disk_opens state disk words o (Some Key) (Keys first second) e =
     OverTwoNamed opens o.before o.after (first_file words) (second_file words) (state first) (state second)
     (λ one other. KeyFilesRuns (record { words = words; first = one; second = other }) e)

@@ -25,7 +25,7 @@ pub enum StationPart {
     BusCheck,
     /// `ledger`: what ledgers hold.
     Ledger,
-    /// `ledger adopt` and `merge`: entries that a ledger takes over.
+    /// `ledger adopt`, `import` and `merge`: entries that a ledger takes over.
     Adoption,
     /// `key`: messages and boot MACs with keys from files.
     Key,
@@ -156,7 +156,7 @@ fn slot_part(checks_over_bus: bool) -> StationPart
 fn ledger_part(name: &str) -> StationPart
     ensures { result ≡ ledger_part name.now }
 {
-    if name == "adopt" || name == "merge" {
+    if name == "adopt" || name == "import" || name == "merge" {
         StationPart::Adoption
     } else {
         StationPart::Ledger

@@ -67,12 +67,12 @@ const ROWS: &[Row] = &[
     Row(
         &["list"],
         2,
-        "usage: station ledger list, open, show, export, adopt, merge\n",
+        "usage: station ledger list, open, show, export, adopt, import, merge\n",
     ),
     Row(
         &["export", "-", "-"],
         2,
-        "usage: station ledger list, open, show, export, adopt, merge\n",
+        "usage: station ledger list, open, show, export, adopt, import, merge\n",
     ),
 ];
 

@@ -1,21 +1,5 @@
-use Rattle.std.proofs.Common.{refl, map, sym, ap, subst}
-use Rattle.program_edge.specs.NamedSources.{word_source}
-use Rattle.adopt_commands.specs.declared.tasks.AdoptTask.TheVariants.{One, Merge}
-use Rattle.adopt_commands.specs.AdoptFiles.{asks_nothing, asks_it, with_entries}
-use Rattle.adopt_commands.proofs.Naming.{over_none_named}
+use Rattle.adopt_commands.proofs.OverWords.{adopts_over}
 use Rattle.adopt_commands.proofs.start.adopts_words.Goals as goal
 
-pub returns-in-Ok-One : goal.returns-in-Ok-One
-returns-in-Ok-One g c =
-    asks_it (One c.in-Ok-One.entry) (rw c.in-Ok-One.field-0-is at c.in-Ok-One.ensures.task)
-    (over_none_named _ _ _ _ _ _ refl (ap (map (word_source g.O.Opened.Source.state g.I.Source.state)) c.new-unopened.ensures.items)
-    (with_entries _ (refl, refl) c.adopt_one-status.ensures))
-
-pub returns-in-Ok-Merge : goal.returns-in-Ok-Merge
-returns-in-Ok-Merge g c = asks_it Merge (rw c.in-Ok-Merge.field-0-is at c.in-Ok-Merge.ensures.task) c.merge_other.ensures
-
-pub returns-in-Err : goal.returns-in-Err
-returns-in-Err g c =
-    asks_nothing (record { row = c.in-Err.refusal; comes = c.in-Err.ensures.refused; told = c.tell_refusal.ensures }) refl
-    (ap (map (word_source g.O.Opened.Source.state g.I.Source.state)) c.new-unopened-in-Err.ensures.items) refl
-    (ap (map g.P.Opened.Disk.state) c.new-no_disk.ensures.items)
+pub returns : goal.returns
+returns g c = adopts_over _ _ _ _ _ _ _ c.adopt_asked.ensures

@@ -3,18 +3,18 @@ use Rattle.std.proofs.lemmas.List.{map-append}
 use Rattle.program_edge.specs.Inputs.{Reading}
 use Rattle.program_edge.specs.Rows.{Row}
 use Rattle.program_edge.specs.NamedSources.{word_source}
-use Rattle.adopt_commands.specs.declared.tasks.AdoptTask.TheVariants.{Merge}
+use Rattle.adopt_commands.specs.declared.tasks.AdoptTask.TheVariants.{All}
 use Rattle.adopt_commands.specs.AdoptRows.{LacksEntries, unroomed, no_other}
 use Rattle.adopt_commands.specs.AdoptFiles.{in_row, with_entries}
 use Rattle.adopt_commands.proofs.Naming.{over_none_named, over_one_named}
-use Rattle.adopt_commands.proofs.start.merge_other.Goals as goal
+use Rattle.adopt_commands.proofs.start.adopt_file.Goals as goal
 
 pub returns-in-Err : goal.returns-in-Err
 returns-in-Err g c =
     over_none_named _ _ _ _ _ _ refl (ap (map (word_source g.O.Opened.Source.state g.I.Source.state)) c.new-unopened.ensures.items)
     (in_row (record {
       row = c.no_memory-refusal.result;
-      comes = subst (LacksEntries Merge []) (sym c.no_memory-refusal.ensures) (unroomed refl);
+      comes = subst (LacksEntries (All c.args.kind) []) (sym c.no_memory-refusal.ensures) (unroomed refl);
       told = c.tell_refusal.ensures;
     }) refl (ap (map g.P.Opened.Disk.state) c.new-no_disk.ensures.items))
 
@@ -33,5 +33,5 @@ returns-in-Err-entries g c =
     let r : Reading = record { before = state c.open_word-file.result; after = state c.entries_of-entries.new.file } in
     over_one_named _ _ _ c.word_at.result.now _ _ _ r c.word_at.ensures c.open_word-file.ensures.named c.open_word-file.ensures.left
     (ap (map state) (c.push_reserved.ensures.items ∙ ap (λ l. l ++ c.entries_of-entries.new.file ∷ []) c.in-Ok.ensures.items))
-    (in_row (record { row = c.in-Err-entries.refusal; comes = no_other r c.in-Err-entries.refusal refl refl c.in-Err-entries.ensures.refused; told = c.tell_refusal-in-Err-entries.ensures })
+    (in_row (record { row = c.in-Err-entries.refusal; comes = no_other c.args.kind r c.in-Err-entries.refusal refl refl c.in-Err-entries.ensures.refused; told = c.tell_refusal-in-Err-entries.ensures })
     refl (ap (map g.P.Opened.Disk.state) c.new-no_disk-in-Err-entries.ensures.items))

@@ -1,0 +1,7 @@
+pub mod CallerLemmas
+mod NumbersWritten
+mod UnitForms
+mod BackupValues
+mod WholeLaws
+mod HeldLaws
+mod BackupWritten

@@ -1,0 +1,2 @@
+pub mod EntryForms
+pub mod Backups
