@@ -44,7 +44,7 @@ TakesGrowth i (Ok bus) = AsksGrowth i.words × ReadsNodeBus i.bus bus
 TakesGrowth i (Err row) = LacksGrowth i row
 
 -- the disk that an argument opens, as it was then and as it was left; it tells its bytes
-pub record OpensDisk (opens : List ℕ → DiskState → Type 0) (before after : List (List ℕ)) (word : List ℕ)
+pub record OpensGrownDisk (opens : List ℕ → DiskState → Type 0) (before after : List (List ℕ)) (word : List ℕ)
     (left : Option DiskState) : Type 0 where
   pub old : DiskState
   pub new : DiskState
@@ -58,7 +58,7 @@ pub record OpensDisk (opens : List ℕ → DiskState → Type 0) (before after :
 pub data ComesNamed (opens : List ℕ → DiskState → Type 0) (before after : List (List ℕ)) (word : List ℕ)
     (routes : List Route) (left : Option DiskState) : Row → Type 0 where
   not_opened : after ≡ before → left ≡ None → ComesNamed opens before after word routes left memory_row
-  over_disk : (disk : OpensDisk opens before after word left) (row : Row) → GrowsOnDisk routes disk.old disk.new row
+  over_disk : (disk : OpensGrownDisk opens before after word left) (row : Row) → GrowsOnDisk routes disk.old disk.new row
       → ComesNamed opens before after word routes left row
 
 -- the arguments' file
@@ -76,7 +76,7 @@ module _ (opens : List ℕ → DiskState → Type 0) (before after : List (List 
   -- the bus file was read whole, and the disk of FILE was opened once
   abbrev pub OverStore : (List Route → DiskState → DiskState → Type 0) → Type 0
   OverStore Has = (bus : NamedBus) × AsksGrowth i.words × ReadsNodeBus i.bus bus
-      × (disk : OpensDisk opens before after (file_of i) left) × Has (routes_of bus) disk.old disk.new
+      × (disk : OpensGrownDisk opens before after (file_of i) left) × Has (routes_of bus) disk.old disk.new
 
   -- what is promised of a run that ends so, in the order of the table of answers
   pub record GrowsOverBus (e : Ending) : Type 0 where
