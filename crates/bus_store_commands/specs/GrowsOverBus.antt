@@ -111,6 +111,6 @@ module _ (opens : List ℕ → DiskState → Type 0) (before after : List (List 
     pub no_store : e.status ≡ 9 → OverStore (λ routes old new. (new.told ≡ old.told)
         × ((fault : GrowFault) × (row : Row) × NotGrown routes old new fault × IsGrowRow fault row × (row.status ≡ 9)
         × PrintsWhole e row.text))
-    -- 10: exactly if a call of the disk failed; whatever the power leaves has the cells that the store had, or more.
+    -- 10: a call of the disk failed; whatever the power leaves has the cells that the store had, or more.
     pub disk_failed : e.status ≡ 10 → OverStore (λ routes old new. NotGrown routes old new DiskFailed
         × PrintsWhole e (codes "store: DiskFailed\n"))
