@@ -1,6 +1,5 @@
 -- What `slots grow FILE BUS` promises
-use Rattle.std.specs.Prelude.{◌≡◌, ◌≢◌, ◌⊎◌, ℕ, false, true, List, [], ◌∷◌, ◌++◌, Option, Some, None, Result, Ok, Err}
-use Rattle.std.specs.Prelude.{length}
+use Rattle.std.specs.Prelude.{◌≡◌, ◌≢◌, ◌⊎◌, ℕ, false, true, List, [], ◌∷◌, ◌++◌, Option, Some, None, Result, Ok, Err, length}
 use Rattle.std.specs.Prelude.{codes, slice_index_or}
 use Rattle.cut_disk.specs.State.{DiskState}
 use Rattle.file_disk.specs.NamedDisks.{TellsFirmBytes}
@@ -59,8 +58,8 @@ pub record OpensGrownDisk (opens : List ℕ → DiskState → Type 0) (before af
 pub data ComesNamed (opens : List ℕ → DiskState → Type 0) (before after : List (List ℕ)) (word : List ℕ)
     (routes : List Route) (left : Option DiskState) : Row → Type 0 where
   not_opened : after ≡ before → left ≡ None → ComesNamed opens before after word routes left memory_row
-  over_disk : (disk : OpensGrownDisk opens before after word left) (row : Row)
-      → GrowsOnDisk routes disk.old disk.new row → ComesNamed opens before after word routes left row
+  over_disk : (disk : OpensGrownDisk opens before after word left) (row : Row) → GrowsOnDisk routes disk.old disk.new row
+      → ComesNamed opens before after word routes left row
 
 -- the arguments' file
 abbrev pub file_of : GrowInputs → List ℕ
@@ -69,13 +68,11 @@ file_of i = slice_index_or i.words 1 []
 -- the table: the bus file is read before the disk of FILE is opened
 pub data ComesOfGrowth (opens : List ℕ → DiskState → Type 0) (before after : List (List ℕ)) (i : GrowInputs)
     (left : Option DiskState) : Row → Type 0 where
-  lacks_bus : (row : Row) → LacksGrowth i row → after ≡ before → left ≡ None
-      → ComesOfGrowth opens before after i left row
+  lacks_bus : (row : Row) → LacksGrowth i row → after ≡ before → left ≡ None → ComesOfGrowth opens before after i left row
   with_bus : (bus : NamedBus) (row : Row) → AsksGrowth i.words → ReadsNodeBus i.bus bus
       → ComesNamed opens before after (file_of i) (routes_of bus) left row → ComesOfGrowth opens before after i left row
 
-module _ (opens : List ℕ → DiskState → Type 0) (before after : List (List ℕ)) (i : GrowInputs)
-    (left : Option DiskState) where
+module _ (opens : List ℕ → DiskState → Type 0) (before after : List (List ℕ)) (i : GrowInputs) (left : Option DiskState) where
   -- the bus file was read whole, and the disk of FILE was opened once
   abbrev pub OverStore : (List Route → DiskState → DiskState → Type 0) → Type 0
   OverStore Has = (bus : NamedBus) × AsksGrowth i.words × ReadsNodeBus i.bus bus
@@ -106,8 +103,7 @@ module _ (opens : List ℕ → DiskState → Type 0) (before after : List (List 
     pub write_fault : e.status ≡ 6 → SinkFailed e × PrintsFront (ComesOfGrowth opens before after i left) e
     pub write_fault_only : CountsWriteFault e → e.status ≡ 6
     -- 7: nothing was printed, and nothing was written to a disk.
-    pub no_memory : e.status ≡ 7 → PrintsWhole e []
-        × ((left ≡ None) ⊎ OverStore (λ routes old new. new.told ≡ old.told))
+    pub no_memory : e.status ≡ 7 → PrintsWhole e [] × ((left ≡ None) ⊎ OverStore (λ routes old new. new.told ≡ old.told))
     -- 8: exactly if one byte more than an input may have came from the bus file's source.
     pub too_long : e.status ≡ 8 → GivesTooMuch i.bus × (after ≡ before) × PrintsWhole e (codes "input too long\n")
     pub too_long_only : CountsTooMuch i.bus → EndsIn 8 e
