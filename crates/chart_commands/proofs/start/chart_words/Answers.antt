@@ -2,8 +2,13 @@ use Rattle.std.proofs.Common.{◌≢◌, ℕ, map, string_bytes, refl, sym, subs
 use Rattle.program_edge.specs.NamedSources.{word_source}
 use Rattle.bus_programs.specs.Named.{ran_words}
 use Rattle.bus_programs.proofs.CallerLemmas.{example_starts, some_words}
-use Rattle.chart_commands.proofs.OfWords.{over_starts, two_asked}
+use Rattle.chart_commands.proofs.OfWords.{over_starts, two_asked, no_words, without_words}
 use Rattle.chart_commands.proofs.start.chart_words.Goals as goal
+
+pub returns-then-is_empty-clause-words : goal.returns-then-is_empty-clause-words
+returns-then-is_empty-clause-words g c =
+    without_words _ _ _ _ _ _ _ _ (no_words string_bytes c.args.words.now (sym c.is_empty.ensures ∙ c.if-is_empty.true)) c.unopened.ensures.status
+    c.unopened.ensures.config c.unopened.ensures.script c.run_example.ensures
 
 pub returns-then-is_empty-clause-starts : goal.returns-then-is_empty-clause-starts
 returns-then-is_empty-clause-starts g c =
