@@ -21,7 +21,7 @@ returns g c =
     let read : Reading = record { before = clean_source c.new-script.result; after = clean_source c.run_campaign.new.script } in
     let disks : CampaignDisks = record {
       before = map (λ (disk : MemDisk). disk_of (contents disk)) c.in-Ok.disks.items;
-      after = map (λ (disk : MemDisk). disk_of (contents disk)) c.run_campaign.new.used.items;
+      after = map (λ (disk : MemDisk). disk_of (contents disk)) c.run_campaign.new.disks.items;
     } in (
       record { words = _; script = read },
       disks,
