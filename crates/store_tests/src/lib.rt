@@ -10,8 +10,6 @@ mod cutting;
 #[cfg(test)]
 mod either_stores;
 #[cfg(test)]
-mod growing_stores;
-#[cfg(test)]
 mod least_stores;
 #[cfg(test)]
 mod log_stores;
