@@ -97,6 +97,20 @@ disk_calm old new row refuses calm = by_status (disk_status old new row refuses)
     by_status (inr (inl ten)) = absurd (calm (disk_10 old new row refuses ten).0)
     by_status (inr (inr seven)) = inr seven
 
+-- a disk whose count rose comes to 10
+store_counted : (old new : DiskState) (fault : StoreFault) (row : Row) → LacksLedger old new (Store fault) → IsStoreRow fault row → old.faults < new.faults
+    → row.status ≡ 10
+store_counted old new store.DiskFailed row lacks is counts = status_of is
+store_counted old new store.NotFormatted row lacks is counts = (let same = lacks.cause.0 in absurd (omega (arith, counts, same)))
+store_counted old new store.TooSmall row lacks is counts =
+    let same : new.faults ≡ old.faults = ap (λ (d : DiskState). d.faults) lacks.cause.1 in absurd (omega (arith, counts, same))
+store_counted old new store.Memory row lacks is counts = (let same = lacks.cause.0 in absurd (omega (arith, counts, same)))
+store_counted old new (store.Damaged cell) row lacks is counts = (let same = lacks.cause.0 in absurd (omega (arith, counts, same)))
+
+pub disk_counted : (old new : DiskState) (row : Row) → RefusesLedger old new row → old.faults < new.faults → row.status ≡ 10
+disk_counted old new row (Store fault, lacks, is) counts = store_counted old new fault row lacks is counts
+disk_counted old new row (BadEntry bad, lacks, is) counts = (let same = lacks.reads.faults in absurd (omega (arith, counts, same)))
+
 -- ---- what is left of the disk
 
 pub kept_ledgers : (old new : DiskState) → ((t : Told) → old.told ≡ Some t → (HasNoHeader t.bytes → ⊥) → new.told ≡ old.told) → KeepsLedgers old new
