@@ -32,7 +32,7 @@ Moments = List (Moment LedgerEntry AdoptLine KeeperState)
 pub keeps_same : (c : Campaign) → KeepsEntries c c
 keeps_same c uid id e at = record { now = e; there = at; no_lower = omega arith }
 
-keeps_then : (a b c : Campaign) → KeepsEntries a b → KeepsEntries b c → KeepsEntries a c
+pub keeps_then : (a b c : Campaign) → KeepsEntries a b → KeepsEntries b c → KeepsEntries a c
 keeps_then a b c first second uid id e at =
     let mid = first uid id e at in
     let last = second uid id mid.now mid.there in
