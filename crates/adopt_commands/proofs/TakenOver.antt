@@ -1,5 +1,5 @@
 -- Entries that were taken over are there, with no lower counter
-use Rattle.std.proofs.Common.{◌≡◌, ◌≢◌, suc, zero, ◌∙◌, ℕ, ◌<◌, ◌≤◌, Bool, true, false, List, [], ◌∷◌, ◌++◌, length, length-append, refl, ap, subst, arith}
+use Rattle.std.proofs.Common.{◌≡◌, ◌≢◌, suc, ◌∙◌, ℕ, ◌≤◌, false, List, [], ◌∷◌, ◌++◌, length, length-append, refl, ap, subst, arith}
 use Rattle.std.proofs.lemmas.Bool.{true≢false}
 use Rattle.std.specs.Prelude.{All, Option, Some, None, Result, Ok, Err}
 use Rattle.key_campaign.specs.declared.adoption.Adoption.{Adoption}
@@ -46,11 +46,11 @@ one_reaches c entry (Err fault.Down) after sound is step isnt there = absurd (tr
 one_reaches c entry (Err fault.Faulted) after sound is step isnt there = absurd (true≢false isnt)
 one_reaches c entry (Err _) after sound is step isnt there = absurd step.1
 
-first_is : (a b : LedgerEntry) (as bs : List LedgerEntry) → a ∷ as ≡ b ∷ bs → a ≡ b
-first_is a b as bs same = cc
+first_is : (a b : LedgerEntry) (xs ys : List LedgerEntry) → a ∷ xs ≡ b ∷ ys → a ≡ b
+first_is a b xs ys same = cc
 
-rest_is : (a b : LedgerEntry) (as bs : List LedgerEntry) → a ∷ as ≡ b ∷ bs → as ≡ bs
-rest_is a b as bs same = cc
+rest_is : (a b : LedgerEntry) (xs ys : List LedgerEntry) → a ∷ xs ≡ b ∷ ys → xs ≡ ys
+rest_is a b xs ys same = cc
 
 pub all_reach : (c : Campaign) (entries : List LedgerEntry) (lines : List AdoptLine) (after : Campaign) → SoundLedger c → All IsEntry entries
     → AdoptsEach c entries lines after → NoneLast lines → (first rest : List LedgerEntry) (entry : LedgerEntry) → entries ≡ first ++ entry ∷ rest
