@@ -1,6 +1,6 @@
 -- How taking over entries ends, by what the printer says
-use Rattle.std.proofs.Common.{◌≡◌, suc, zero, ◌∙◌, ℕ, ◌<◌, Bool, true, false, List, [], ◌∷◌, ◌++◌, take, drop, length, refl, sym, ap, subst, inl, inr, arith}
-use Rattle.std.specs.Prelude.{All, Some, Result, Ok, Err, if◌then◌else◌}
+use Rattle.std.proofs.Common.{◌≡◌, suc, zero, ◌∙◌, ℕ, Bool, true, false, List, [], ◌∷◌, ◌++◌, take, drop, length, refl, sym, ap, subst, inl, inr, arith}
+use Rattle.std.specs.Prelude.{All, Some, Result, Ok, Err}
 use Rattle.std.proofs.lemmas.Bool.{cases_Bool, true≢false}
 use Rattle.std.proofs.lemmas.List.Elements.{All-append, All-take, All-pop}
 use Rattle.std.proofs.Math.Seq.{take-length}

@@ -1,8 +1,8 @@
 -- What a run of a keeper leaves
-use Rattle.std.proofs.Common.{◌≡◌, ◌≢◌, suc, zero, ◌∙◌, ℕ, ◌+◌, ◌*◌, ◌<◌, ◌≤◌, Bool, true, false, List, [], ◌∷◌, ◌++◌, take, drop, length, refl, sym, ap, ap₂, subst, inl, inr, append_assoc, arith}
+use Rattle.std.proofs.Common.{◌≡◌, ◌≢◌, suc, ◌∙◌, ℕ, ◌+◌, ◌*◌, Bool, true, false, List, [], ◌∷◌, ◌++◌, take, drop, length, refl, sym, ap, ap₂, subst, append_assoc, arith}
 use Rattle.std.specs.Prelude.{All, Result, Ok, Err, IfErr, ◌||◌}
 use Rattle.std.specs.List.{list_any}
-use Rattle.std.proofs.lemmas.Bool.{true≢false, cases_Bool}
+use Rattle.std.proofs.lemmas.Bool.{true≢false}
 use Rattle.std.proofs.lemmas.List.{take-append-drop, map-append}
 use Rattle.cut_disk.proofs.CallerLemmas.{runs_none, runs_join, runs_more}
 use Rattle.machine_runs.specs.Run.{Moment, Run, commands_in, lines_in}
@@ -20,7 +20,6 @@ use Rattle.key_campaign.specs.Adopting.{AdoptStep}
 use Rattle.key_campaign.specs.State.{LedgerState, ServedLedger}
 use Rattle.key_campaign.proofs.CallerLemmas.{adopted_keeps, adopted_sound}
 use Rattle.adopt_commands.specs.declared.lines.AdoptLine.{AdoptLine}
-use Rattle.adopt_commands.specs.declared.lines.AdoptLine.TheVariants as line
 use Rattle.adopt_commands.specs.AdoptTurns.{KeeperState, AdoptTurn, adopt_text, adopt_line, is_last_adoption, is_refused}
 use Rattle.adopt_commands.specs.Adoptions.{AdoptsEach, no_entries, one_adopted, NoneLast, adopt_texts, AllAdopted, LastNotPut}
 
@@ -32,7 +31,7 @@ Moments = List (Moment LedgerEntry AdoptLine KeeperState)
 pub keeps_same : (c : Campaign) → KeepsEntries c c
 keeps_same c uid id e at = record { now = e; there = at; no_lower = omega arith }
 
-keeps_then : (a b c : Campaign) → KeepsEntries a b → KeepsEntries b c → KeepsEntries a c
+pub keeps_then : (a b c : Campaign) → KeepsEntries a b → KeepsEntries b c → KeepsEntries a c
 keeps_then a b c first second uid id e at =
     let mid = first uid id e at in
     let last = second uid id mid.now mid.there in

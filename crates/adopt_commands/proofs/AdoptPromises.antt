@@ -1,12 +1,12 @@
 -- What taking over entries promises, by how it ends
-use Rattle.std.proofs.Common.{◌≡◌, ◌⊎◌, ◌∙◌, ℕ, Bool, true, false, List, [], ◌∷◌, ◌++◌, refl, sym, ap, subst, inl, inr, arith}
+use Rattle.std.proofs.Common.{◌≡◌, ◌⊎◌, ◌∙◌, ℕ, ◌<◌, Bool, true, false, List, [], ◌∷◌, ◌++◌, refl, sym, ap, subst, inl, inr, arith}
 use Rattle.std.specs.Prelude.{if◌then◌else◌, Any, Option, Some, None, Result, Ok, Err, codes}
 use Rattle.std.specs.List.{list_any}
 use Rattle.cut_disk.specs.State.{DiskState}
 use Rattle.program_edge.specs.Inputs.{Reading, SourceFailed, CountsFault, GivesTooMuch, CountsTooMuch}
 use Rattle.program_edge.specs.Rows.{Row}
-use Rattle.program_edge.specs.Endings.{Ending, EndsInRow, PrintsWhole, SinkFailed, CountsWriteFault}
-use Rattle.program_edge.proofs.CallerLemmas.{EndsInRow-at, EndsInRow-front, EndsInRow-rose, EndsInRow-only, EndsInRow-may, EndsInRow-well}
+use Rattle.program_edge.specs.Endings.{Ending, EndsInRow, MayEndIn, PrintsWhole, SinkFailed, CountsWriteFault}
+use Rattle.program_edge.proofs.CallerLemmas.{EndsInRow-more, EndsInRow-at, EndsInRow-front, EndsInRow-rose, EndsInRow-only, EndsInRow-may, EndsInRow-well}
 use Rattle.key_campaign.specs.declared.entries.LedgerEntry.{LedgerEntry}
 use Rattle.campaign_commands.specs.declared.opening.NoLedgerCause.{NoLedgerCause}
 use Rattle.campaign_commands.specs.Campaigns.{CountsNone, TellsNoLedger}
@@ -26,10 +26,10 @@ use Rattle.adopt_commands.specs.Adoptions.{EndsAdopting, WritesBefore, adopt_tex
 use Rattle.adopt_commands.specs.AdoptRows.{GivesEntries, LacksEntries, LacksOfFile, AdoptsInto, first_keeper, unroomed, no_other}
 use Rattle.adopt_commands.specs.AdoptFiles.{is_strict}
 use Rattle.adopt_commands.specs.AdoptRuns.{AdoptInputs, OpensNoLedger, OverEntries, UpToEntry, TookAll, StoppedAt, KeepsLedgers, ComesToAdopt, malformed, wrong_value, no_entries_given, no_disk_room, refused_disk}
-use Rattle.adopt_commands.specs.AdoptRuns.{FailsToOpen, HasNoBackup, OffersNoBackup, OffersEntries, OffersLedgerDisk, RefusesLedgers, RunsAdoption}
+use Rattle.adopt_commands.specs.AdoptRuns.{ComesOfAdoption, answers_none, answers_all, fails_at_one, adoption_row, failed_put_row, EndsAtEntry, FailsToOpen, HasNoBackup, OffersNoBackup, OffersEntries, OffersLedgerDisk, RefusesLedgers, RunsAdoption}
 use Rattle.adopt_commands.proofs.GivenFiles.{IsFileStatus, any_none, any_one, one_has, backup_none, of_file_status, of_file_4, of_file_5, of_file_7, of_file_8, of_file_9, of_file_fault, of_file_long, of_file_offered}
 use Rattle.adopt_commands.proofs.GivenFiles.{given_no_fault, given_not_long, given_backup, given_ledger}
-use Rattle.adopt_commands.proofs.LedgerDisks.{IsDiskStatus, disk_status, disk_7, disk_10, disk_calm, disk_keeps, disk_offered, not_opened_of_none}
+use Rattle.adopt_commands.proofs.LedgerDisks.{IsDiskStatus, disk_status, disk_7, disk_10, disk_calm, disk_counted, disk_keeps, disk_offered, not_opened_of_none}
 use Rattle.adopt_commands.proofs.Taken.{took_all, all_keeps, stopped_at, stopped_keeps}
 
 -- ---- one thing is asked, and one disk opened
@@ -295,6 +295,16 @@ module _ (i : AdoptInputs) (e : Ending) where
       (subst (λ (d : DiskState). CountsNone d on.new) (one_first i.before old on.old before on.before_is)
       (subst (λ (d : DiskState). CountsNone old d) (one_first i.after new on.new after on.after_is) calm))
 
+  counted_10 : (old new : DiskState) → i.before ≡ old ∷ [] → i.after ≡ new ∷ [] → old.faults < new.faults → (row : Row) → ComesToAdopt i row → row.status ≡ 10
+  counted_10 old new before after counts row (malformed none files unopened) = absurd (no_first i.before old unopened.none_before before)
+  counted_10 old new before after counts row (wrong_value number wrong files unopened) = absurd (no_first i.before old unopened.none_before before)
+  counted_10 old new before after counts row (no_entries_given asked _ is lacks unopened) = absurd (no_first i.before old unopened.none_before before)
+  counted_10 old new before after counts row (no_disk_room asked entries is gives unopened) = absurd (no_first i.before old unopened.none_before before)
+  counted_10 old new before after counts row (refused_disk _ (asked, entries, is, gives, on)) =
+      disk_counted on.old on.new row on.holds
+      (subst (λ (d : DiskState). d.faults < on.new.faults) (one_first i.before old on.old before on.before_is)
+      (subst (λ (d : DiskState). old.faults < d.faults) (one_first i.after new on.new after on.after_is) counts))
+
   row_offered : (asked : AdoptTask) → adoption_asked i.words ≡ Some (Ok asked) → OffersEntries asked i.files → OffersLedgerDisk i → (row : Row) → ComesToAdopt i row
       → row.status ≡ 7
   row_offered asked it offers disk row (malformed none files unopened) = absurd (not_none (adoption_asked i.words) (Ok asked) none it)
@@ -312,11 +322,13 @@ module _ (i : AdoptInputs) (e : Ending) where
       λ n low row comes at. omega (arith, low, at, row_status row comes) in
       let no_6 : (row : Row) → ComesToAdopt i row → row.status ≡ 6 → ⊥ = λ row comes six. omega (arith, six, row_status row comes) in
       record {
+        ends = inl (EndsInRow-more answers_none ends);
         taken_over = λ is. elim is [
           | inl zero ↦ EndsInRow-at ends 0 refl (λ row comes at prints. absurd (never 0 (inl refl) row comes at)) zero
           | inr one ↦ EndsInRow-at ends 1 refl (λ row comes at prints. absurd (never 1 (inr refl) row comes at)) one
         ];
         failed = λ ten. inl (EndsInRow-at ends 10 refl at_10 ten);
+        failed_only = λ old new before after counts. EndsInRow-may ends 10 (λ row comes. inl (counted_10 old new before after counts row comes));
         keeps = row_keeps ends.row ends.comes;
         early_ends = λ is. elim is [
           | inl six ↦ inl (inl (six, (EndsInRow-front ends no_6 six).1))
@@ -454,6 +466,12 @@ module _ (strict : Bool) (entries : List LedgerEntry) (e : Ending) (old new : Di
   calm_at (cut_off (inl (six, rose)) one) calm well = absurd (well rose)
   calm_at (cut_off (inr (seven, none)) one) calm well = inr (inr seven)
 
+  stopped_at_10 : EndsTaken strict entries e old new → old.faults < new.faults → MayEndIn 10 e
+  stopped_at_10 (to_all lines status took printed) counts = (let same = took.calm in absurd (omega (arith, counts, same)))
+  stopped_at_10 (to_one ten stopped) counts = inl ten
+  stopped_at_10 (cut_off (inl (six, rose)) one) counts = inr (inl six)
+  stopped_at_10 (cut_off (inr (seven, calm)) one) counts = inr (inr seven)
+
 abbrev HoldsAll : Ending → Bool → List LedgerEntry → DiskState → DiskState → Type 0
 HoldsAll e strict entries old new =
     (lines : List AdoptLine) × TookAll entries lines old new × (e.status ≡ (if list_any (is_refused strict) lines then 1 else 0)) × PrintsWhole e (adopt_texts lines)
@@ -465,14 +483,26 @@ HoldsOne e strict entries old new = UpToEntry entries (λ first entry.
 abbrev HoldsCut : Ending → Bool → List LedgerEntry → DiskState → DiskState → Type 0
 HoldsCut e strict entries old new = OneCut e entries old new
 
+abbrev HoldsAllRow : Row → Bool → List LedgerEntry → DiskState → DiskState → Type 0
+HoldsAllRow row strict entries old new = (lines : List AdoptLine) × TookAll entries lines old new × (row ≡ adoption_row strict lines)
+
+abbrev HoldsOneRow : Row → Bool → List LedgerEntry → DiskState → DiskState → Type 0
+HoldsOneRow row strict entries old new =
+    UpToEntry entries (λ first entry. (lines : List AdoptLine) × StoppedAt first lines entry old new × (row ≡ failed_put_row lines))
+
 pub runs_lines : (i : AdoptInputs) (e : Ending) → OverEntries i (λ strict entries old new. AdoptsInto strict entries e old new) → RunsAdoption i e
 runs_lines i e (asked, entries, is, gives, on) =
     let strict = is_strict asked in
     let taken = ends_taken strict entries e on.old on.new on.holds in
     let among = line_status strict entries e on.old on.new taken in
     record {
+      ends = table taken;
       taken_over = λ low. over (HoldsAll e) (all_at strict entries e on.old on.new taken low);
       failed = λ ten. inr (over (HoldsOne e) (one_at strict entries e on.old on.new taken ten));
+      failed_only = λ old new before after counts.
+          stopped_at_10 strict entries e on.old on.new taken
+          (subst (λ (d : DiskState). d.faults < on.new.faults) (one_first i.before old on.old before on.before_is)
+          (subst (λ (d : DiskState). old.faults < d.faults) (one_first i.after new on.new after on.after_is) counts));
       keeps = λ old new before after.
           subst (λ (d : DiskState). KeepsLedgers d new) (one_first i.before on.old old on.before_is before)
           (subst (λ (d : DiskState). KeepsLedgers on.old d) (one_first i.after on.new new on.after_is after)
@@ -500,6 +530,15 @@ runs_lines i e (asked, entries, is, gives, on) =
   where
     over : (Holds : Bool → List LedgerEntry → DiskState → DiskState → Type 0) → Holds (is_strict asked) entries on.old on.new → OverEntries i Holds
     over Holds holds = (asked, entries, is, gives, record { old = on.old; new = on.new; before_is = on.before_is; after_is = on.after_is; holds = holds })
+
+    table : EndsTaken (is_strict asked) entries e on.old on.new → EndsInRow (ComesOfAdoption i) e ⊎ EndsAtEntry i e
+    table (to_all lines status took printed) =
+        let row = adoption_row (is_strict asked) lines in
+        inl (record { row = row; comes = answers_all row (over (HoldsAllRow row) (lines, took, refl)); told = inl (status, printed) })
+    table (to_one ten (first, entry, rest, all, (lines, stopped, printed))) =
+        let row = failed_put_row lines in
+        inl (record { row = row; comes = fails_at_one row (over (HoldsOneRow row) (first, entry, rest, all, (lines, stopped, refl))); told = inl (ten, printed) })
+    table (cut_off early one) = inr (over (HoldsCut e) one)
 
     none_opened : (old new : DiskState) (cause : NoLedgerCause) → i.before ≡ old ∷ [] → TellsNoLedger cause old new → ⊥
     none_opened old new cause before tells =

@@ -11,7 +11,7 @@ use Rattle.program_edge.specs.Inputs.{Reading, ReadsWhole, SourceFailed, CountsF
 use Rattle.program_edge.proofs.CallerLemmas.{Lacks-whole, CountsFault-is, CountsTooMuch-is, Offers-is, Offers-whole}
 use Rattle.key_campaign.specs.declared.entries.LedgerEntry.{LedgerEntry}
 use Rattle.ledger_commands.specs.LedgerReads.{HasNoLedger, OffersLedger, OffersNone}
-use Rattle.ledger_commands.proofs.CallerLemmas.{lacks_5, lacks_7, lacks_8, lacks_9, lacks_fault, lacks_long, lacks_none, lacks_offered, lacks_status}
+use Rattle.ledger_commands.proofs.CallerLemmas.{lacks_5, lacks_7, lacks_8, lacks_9, lacks_fault, lacks_long, lacks_offered, lacks_status}
 use Rattle.ledger_commands.proofs.CallerLemmas.{read_no_fault, read_not_long, read_not_none}
 use Rattle.ledger_backups.specs.declared.reader.BackupLine.{BackupLine}
 use Rattle.ledger_backups.specs.Backups.{backup_lines_of, IsBackupOf, LacksBackup, bad_line, not_whole}

@@ -1,5 +1,5 @@
 -- A disk that gives no ledger: the rows that say so, and when they come
-use Rattle.std.proofs.Common.{◌≡◌, ◌⊎◌, ◌∙◌, ℕ, ◌<◌, ◌≤◌, List, [], length, refl, sym, ap, subst, inl, inr, arith}
+use Rattle.std.proofs.Common.{◌≡◌, ◌⊎◌, ◌∙◌, ℕ, ◌<◌, List, [], length, refl, sym, ap, subst, inl, inr, arith}
 use Rattle.std.specs.Prelude.{Option, None, Some}
 use Rattle.std.proofs.lemmas.List.{length-map, length-replicate}
 use Rattle.std.proofs.lemmas.Option.{same_Some}
@@ -11,7 +11,6 @@ use Rattle.cell_store.specs.declared.faults.StoreFault.{StoreFault}
 use Rattle.cell_store.specs.declared.faults.StoreFault.TheVariants as store
 use Rattle.cell_store.specs.Store.{HasHeader, Stands, FirstDamaged, store_size}
 use Rattle.cell_store.proofs.CallerLemmas.{header-not_blank, stands-whole, stands_once}
-use Rattle.any_cells.specs.Opening.{NoStoreOpened}
 use Rattle.program_edge.specs.Rows.{Row, memory_row}
 use Rattle.key_campaign.specs.declared.entries.LedgerEntry.{LedgerEntry}
 use Rattle.key_campaign.specs.Entries.{place_count, no_entries, AreLedgerEntries}
@@ -21,9 +20,9 @@ use Rattle.key_campaign.specs.State.{LedgerState}
 use Rattle.key_campaign.proofs.CallerLemmas.{none_bad}
 use Rattle.campaign_commands.specs.declared.opening.NoLedgerCause.{NoLedgerCause}
 use Rattle.campaign_commands.specs.declared.opening.NoLedgerCause.TheVariants.{Store, BadEntry}
-use Rattle.campaign_commands.specs.Opening.{ledger_layout, ledger_size, HasNoHeader, StandsForEntries, LedgerOpened, IsNoLedger, LacksLedger, HasLedger, HasEntries}
+use Rattle.campaign_commands.specs.Opening.{ledger_layout, ledger_size, HasNoHeader, StandsForEntries, LedgerOpened, IsNoLedger, LacksLedger, HasLedger}
 use Rattle.campaign_commands.specs.Campaigns.{CountsNone, TellsNoLedger}
-use Rattle.ledger_commands.specs.LedgerBytes.{HoldsLedger, bad_entry_row}
+use Rattle.ledger_commands.specs.LedgerBytes.{bad_entry_row}
 use Rattle.ledger_commands.specs.StoreRows.{IsStoreRow, disk_failed_row}
 use Rattle.adopt_commands.specs.AdoptRows.{IsLedgerRow, RefusesLedger}
 use Rattle.adopt_commands.specs.AdoptRuns.{StandsForLater, KeepsLedgers}
@@ -96,6 +95,20 @@ disk_calm old new row refuses calm = by_status (disk_status old new row refuses)
     by_status (inl nine) = inl nine
     by_status (inr (inl ten)) = absurd (calm (disk_10 old new row refuses ten).0)
     by_status (inr (inr seven)) = inr seven
+
+-- a disk whose count rose comes to 10
+store_counted : (old new : DiskState) (fault : StoreFault) (row : Row) → LacksLedger old new (Store fault) → IsStoreRow fault row → old.faults < new.faults
+    → row.status ≡ 10
+store_counted old new store.DiskFailed row lacks is counts = status_of is
+store_counted old new store.NotFormatted row lacks is counts = (let same = lacks.cause.0 in absurd (omega (arith, counts, same)))
+store_counted old new store.TooSmall row lacks is counts =
+    let same : new.faults ≡ old.faults = ap (λ (d : DiskState). d.faults) lacks.cause.1 in absurd (omega (arith, counts, same))
+store_counted old new store.Memory row lacks is counts = (let same = lacks.cause.0 in absurd (omega (arith, counts, same)))
+store_counted old new (store.Damaged cell) row lacks is counts = (let same = lacks.cause.0 in absurd (omega (arith, counts, same)))
+
+pub disk_counted : (old new : DiskState) (row : Row) → RefusesLedger old new row → old.faults < new.faults → row.status ≡ 10
+disk_counted old new row (Store fault, lacks, is) counts = store_counted old new fault row lacks is counts
+disk_counted old new row (BadEntry bad, lacks, is) counts = (let same = lacks.reads.faults in absurd (omega (arith, counts, same)))
 
 -- ---- what is left of the disk
 

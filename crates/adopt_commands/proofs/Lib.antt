@@ -3,6 +3,7 @@ pub mod AdoptEnds
 pub mod OverDisks
 pub mod Naming
 pub mod Taken
+pub mod TakenOver
 pub mod GivenFiles
 pub mod LedgerDisks
 pub mod AdoptPromises

@@ -1,9 +1,7 @@
 -- What arguments name, and how taking over entries over it ends
-use Rattle.std.proofs.Common.{◌≡◌, ℕ, List, [], ◌∷◌, ◌++◌, map, refl, sym, ap, subst, ◌∙◌}
-use Rattle.std.specs.Prelude.{Some, take}
+use Rattle.std.proofs.Common.{◌≡◌, ℕ, List, [], ◌∷◌, sym, subst}
+use Rattle.std.specs.Prelude.{Some}
 use Rattle.bus_port.specs.Source.{SourceState}
-use Rattle.cut_disk.specs.State.{DiskState}
-use Rattle.file_disk.specs.NamedDisks.{OpenedByWords}
 use Rattle.program_edge.specs.NamedSources.{Openings, behind, IsNamed}
 use Rattle.program_edge.specs.Inputs.{Reading}
 use Rattle.ledger_commands.specs.Named.{AllNamed, none_yet, one_more, OverAllNamed}

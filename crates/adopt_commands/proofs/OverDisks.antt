@@ -1,5 +1,5 @@
 -- Taking over entries over the first disk, or over none
-use Rattle.std.proofs.Common.{◌≡◌, ℕ, ◌<◌, Bool, List, [], ◌∷◌, ◌++◌, length, refl, ap, ap₂, map, get_or, take, drop, sym, subst, arith}
+use Rattle.std.proofs.Common.{◌≡◌, ◌<◌, Bool, List, [], ◌∷◌, ◌++◌, length, refl, ap, ap₂, map, get_or, take, drop, sym, arith}
 use Rattle.cut_disk.specs.State.{DiskState}
 use Rattle.program_edge.specs.Endings.{Ending, EndsInRow}
 use Rattle.key_campaign.specs.declared.entries.LedgerEntry.{LedgerEntry}

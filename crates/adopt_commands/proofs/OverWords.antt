@@ -6,17 +6,16 @@ use Rattle.cut_disk.specs.State.{DiskState}
 use Rattle.file_disk.specs.NamedDisks.{IsOpenedBy, OpenedByWords}
 use Rattle.text_lines.specs.Readings.{nth_word}
 use Rattle.program_edge.specs.Inputs.{Reading}
-use Rattle.program_edge.specs.Rows.{Row, row_of, memory_row}
-use Rattle.program_edge.specs.Endings.{Ending, EndsInRow}
+use Rattle.program_edge.specs.Rows.{Row}
+use Rattle.program_edge.specs.Endings.{Ending}
 use Rattle.program_edge.proofs.CallerLemmas.{EndsInRow-more}
 use Rattle.key_campaign.specs.declared.entries.LedgerEntry.{LedgerEntry}
-use Rattle.ledger_commands.specs.LedgerRows.{ledger_usage, ledger_value_text}
-use Rattle.ledger_commands.specs.Named.{AllNamed, OverAllNamed}
+use Rattle.ledger_commands.specs.Named.{AllNamed}
 use Rattle.adopt_commands.specs.declared.tasks.AdoptTask.{AdoptTask}
 use Rattle.adopt_commands.specs.AdoptTasks.{adoption_asked}
 use Rattle.adopt_commands.specs.AdoptRows.{AsksNoAdoption, GivesEntries, EndsOnLedger, EndsOverLedgers, not_opened, adopts_into, without_disk, on_first_disk}
-use Rattle.adopt_commands.specs.AdoptFiles.{files_of, files_asked, adoption_files, is_strict, EndsInto, EndsAdoptTask, EndsAdoptWords, no_room, over_disk, in_row, with_entries, asks_nothing, asks_it}
-use Rattle.adopt_commands.specs.AdoptRuns.{AdoptInputs, OpensNoLedger, OnLedgerDisk, ComesToAdopt, RunsAdoption, malformed, wrong_value, no_entries_given, no_disk_room, refused_disk}
+use Rattle.adopt_commands.specs.AdoptFiles.{files_of, adoption_files, is_strict, EndsInto, EndsAdoptTask, EndsAdoptWords, no_room, over_disk, in_row, with_entries, asks_nothing, asks_it}
+use Rattle.adopt_commands.specs.AdoptRuns.{AdoptInputs, OpensNoLedger, ComesToAdopt, RunsAdoption, malformed, wrong_value, no_entries_given, no_disk_room, refused_disk}
 use Rattle.adopt_commands.specs.AdoptsOver.{OpensDisk, AdoptsOver, none_opened, one_opened}
 use Rattle.adopt_commands.proofs.Naming.{over_none_named}
 use Rattle.adopt_commands.proofs.AdoptPromises.{runs_row, runs_lines}

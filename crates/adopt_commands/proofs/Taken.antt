@@ -1,5 +1,5 @@
 -- What taking over entries leaves of the disk whose ledger was opened
-use Rattle.std.proofs.Common.{◌≡◌, ◌⊎◌, ◌∙◌, ℕ, ◌+◌, ◌*◌, ◌≤◌, Bool, true, List, [], ◌∷◌, ◌++◌, length, refl, sym, ap, subst, inl, inr, arith}
+use Rattle.std.proofs.Common.{◌≡◌, ◌∙◌, ℕ, ◌+◌, ◌*◌, ◌≤◌, Bool, true, List, [], length, sym, ap, subst, inl, inr, arith}
 use Rattle.std.specs.Prelude.{Option, None, Some, option_map}
 use Rattle.std.proofs.lemmas.Option.{same_Some}
 use Rattle.cut_disk.specs.State.{DiskState, Told}
@@ -25,7 +25,7 @@ use Rattle.adopt_commands.specs.declared.lines.AdoptLine.{AdoptLine}
 use Rattle.adopt_commands.specs.AdoptTurns.{KeeperState}
 use Rattle.adopt_commands.specs.Adoptions.{AdoptsEach, AllAdopted, LastNotPut}
 use Rattle.adopt_commands.specs.AdoptRows.{first_keeper}
-use Rattle.adopt_commands.specs.AdoptRuns.{most_to_adopt, TookAll, StoppedAt, StandsWithChange, StandsForLater, KeepsLedgers}
+use Rattle.adopt_commands.specs.AdoptRuns.{most_to_adopt, TookAll, StoppedAt, StandsWithChange, KeepsLedgers}
 
 -- ---- a ledger that is up
 

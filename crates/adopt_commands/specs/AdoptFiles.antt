@@ -4,7 +4,7 @@ use Rattle.bus_port.specs.Source.{SourceState}
 use Rattle.cut_disk.specs.State.{DiskState}
 use Rattle.file_disk.specs.NamedDisks.{IsOpenedBy, OpenedByWords}
 use Rattle.text_lines.specs.Readings.{nth_word}
-use Rattle.program_edge.specs.Rows.{Row, memory_row}
+use Rattle.program_edge.specs.Rows.{memory_row}
 use Rattle.program_edge.specs.Inputs.{Reading}
 use Rattle.program_edge.specs.Endings.{Ending, EndsInRow}
 use Rattle.key_campaign.specs.declared.entries.LedgerEntry.{LedgerEntry}

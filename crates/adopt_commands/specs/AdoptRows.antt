@@ -1,5 +1,5 @@
 -- The table of answers of `ledger adopt`, `import` and `merge`: its rows, and when each comes
-use Rattle.std.specs.Prelude.{◌≡◌, ◌⊎◌, ℕ, Bool, true, false, Option, Some, None, List, [], ◌∷◌, Result, Ok, Err, codes}
+use Rattle.std.specs.Prelude.{◌≡◌, ◌⊎◌, ℕ, Bool, false, Option, Some, None, List, [], ◌∷◌, Result, Ok, Err, codes}
 use Rattle.cut_disk.specs.State.{DiskState}
 use Rattle.program_edge.specs.declared.input.InputFault.{InputFault}
 use Rattle.program_edge.specs.Rows.{Row, row_of, input_row, memory_row}

@@ -1,5 +1,5 @@
 -- What `ledger adopt`, `import` and `merge` promise
-use Rattle.std.specs.Prelude.{◌≡◌, ◌⊎◌, ◌+◌, ◌*◌, ℕ, Bool, if◌then◌else◌, All, Any, Option, Some, None, List, []}
+use Rattle.std.specs.Prelude.{◌≡◌, ◌⊎◌, ◌+◌, ◌*◌, ◌<◌, ℕ, Bool, if◌then◌else◌, All, Any, Option, Some, None, List, []}
 use Rattle.std.specs.Prelude.{◌∷◌, ◌++◌, length, Ok, Err, codes}
 use Rattle.std.specs.List.{list_any}
 use Rattle.cut_disk.specs.State.{DiskState}
@@ -159,6 +159,23 @@ EndsAtEntry i e = OverEntries i (λ strict entries old new. UpToEntry entries (�
     × TookAll (first ++ entry ∷ []) (lines ++ told ∷ []) old new × WritesBefore e lines told)
     ⊎ ((lines : List AdoptLine) × StoppedAt first lines entry old new × WritesBefore e lines Failed)))
 
+-- the row of these answers: 1 if one was refused, else 0, and their lines
+abbrev pub adoption_row : Bool → List AdoptLine → Row
+adoption_row strict lines = row_of (if list_any (is_refused strict) lines then 1 else 0) (adopt_texts lines)
+
+-- the row of a disk that failed as an entry was put: the lines of those before it, and `refused MEMORY_FAILURE`
+abbrev pub failed_put_row : List AdoptLine → Row
+failed_put_row lines = row_of 10 (adopt_texts lines ++ adopt_text 0 Failed)
+
+-- the table of answers: a row instead of taking over; the lines of all entries; or those up to one that wasn't put
+pub data ComesOfAdoption (i : AdoptInputs) : Row → Type 0 where
+  answers_none : (row : Row) → ComesToAdopt i row → ComesOfAdoption i row
+  answers_all : (row : Row) → OverEntries i (λ strict entries old new. (lines : List AdoptLine)
+      × TookAll entries lines old new × (row ≡ adoption_row strict lines)) → ComesOfAdoption i row
+  fails_at_one : (row : Row) → OverEntries i (λ strict entries old new. UpToEntry entries (λ first entry.
+      (lines : List AdoptLine) × StoppedAt first lines entry old new × (row ≡ failed_put_row lines)))
+      → ComesOfAdoption i row
+
 -- no entry was answered: at 6 a prefix of a row that comes was written, and at 7 nothing
 abbrev pub TakesNone : AdoptInputs → Ending → Type 0
 TakesNone i e = ((e.status ≡ 6) × PrintsFront (ComesToAdopt i) e) ⊎ ((e.status ≡ 7) × PrintsWhole e [])
@@ -195,10 +212,16 @@ RefusesLedgers i e =
 
 -- what is promised of these arguments, file and disk if it ends so, in the order of the table of answers
 pub record RunsAdoption (i : AdoptInputs) (e : Ending) : Type 0 where
+  -- The program prints a row of the table and ends with its status, or at 6 a prefix of one; or, at 6 and 7, it ends at
+  -- the line of an entry, after the whole lines of those before.
+  pub ends : EndsInRow (ComesOfAdoption i) e ⊎ EndsAtEntry i e
   -- 0 and 1: all entries were answered, and exactly their lines were printed; 1 exactly if one was refused.
   pub taken_over : (e.status ≡ 0) ⊎ (e.status ≡ 1) → TakesAll i e
-  -- 10: the disk's count rose as its ledger was opened, or as an entry was put; what was answered before was printed.
+  -- 10: exactly if the disk's count rose, as its ledger was opened or as an entry was put; what was answered before was
+  -- printed.
   pub failed : e.status ≡ 10 → FailsToOpen i e ⊎ StopsAtEntry i e
+  pub failed_only : (old new : DiskState) → i.before ≡ old ∷ [] → i.after ≡ new ∷ [] → old.faults < new.faults
+      → MayEndIn 10 e
   -- At every status: no entry went and no counter fell, whatever a power cut leaves.
   pub keeps : (old new : DiskState) → i.before ≡ old ∷ [] → i.after ≡ new ∷ [] → KeepsLedgers old new
   -- 6 and 7: no entry was answered; or those up to one were, whose line wasn't written whole.

@@ -1,5 +1,5 @@
 -- What the arguments after `ledger` ask for, if entries are to be taken over
-use Rattle.std.specs.Prelude.{ℕ, ◌==◌, ◌&&◌, Bool, if◌then◌else◌, List, [], ◌∷◌, length, true}
+use Rattle.std.specs.Prelude.{ℕ, ◌==◌, ◌&&◌, Bool, if◌then◌else◌, List, length, true}
 use Rattle.std.specs.Prelude.{Option, Some, None, Result, Ok, codes, bytes_eq}
 use Rattle.std.specs.Option.{ok_or}
 use Rattle.secoc_words.specs.KeyForms.{engine_uid_form}

@@ -1,4 +1,4 @@
-use Rattle.std.proofs.Common.{refl, map, sym, ap, subst}
+use Rattle.std.proofs.Common.{refl, map, ap}
 use Rattle.program_edge.specs.NamedSources.{word_source}
 use Rattle.adopt_commands.specs.declared.tasks.AdoptTask.TheVariants.{One, All}
 use Rattle.adopt_commands.specs.AdoptFiles.{asks_nothing, asks_it, with_entries}

@@ -1,7 +1,5 @@
-use Rattle.std.proofs.Common.{List, ℕ, refl, map, sym, ap, subst, ◌∙◌, ◌++◌, ◌∷◌, []}
-use Rattle.std.proofs.lemmas.List.{map-append}
+use Rattle.std.proofs.Common.{refl, map, sym, ap, subst, ◌∙◌, ◌++◌, ◌∷◌, []}
 use Rattle.program_edge.specs.Inputs.{Reading}
-use Rattle.program_edge.specs.Rows.{Row}
 use Rattle.program_edge.specs.NamedSources.{word_source}
 use Rattle.adopt_commands.specs.declared.tasks.AdoptTask.TheVariants.{All}
 use Rattle.adopt_commands.specs.AdoptRows.{LacksEntries, unroomed, no_other}
