@@ -10,8 +10,7 @@ use Rattle.key_campaign.specs.Entries.{IsEntry, entry_for, entry_counter, last_i
 use Rattle.key_campaign.specs.Campaign.{Campaign, SoundLedger}
 use Rattle.key_campaign.specs.Claims.{KeepsEntries}
 use Rattle.key_campaign.specs.Adopting.{AdoptStep}
-use Rattle.key_campaign.proofs.Adoptions.{adopted_reaches}
-use Rattle.key_campaign.proofs.CallerLemmas.{adopted_keeps, adopted_sound}
+use Rattle.key_campaign.proofs.CallerLemmas.{adopted_keeps, adopted_reaches, adopted_sound}
 use Rattle.adopt_commands.specs.declared.lines.AdoptLine.{AdoptLine}
 use Rattle.adopt_commands.specs.declared.lines.AdoptLine.TheVariants as line
 use Rattle.adopt_commands.specs.AdoptTurns.{adopt_line, is_last_adoption}

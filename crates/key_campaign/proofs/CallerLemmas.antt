@@ -1,5 +1,5 @@
 -- The lemmas that crates above cite.
-pub use Rattle.key_campaign.proofs.Adoptions.{adopted_keeps, adopted_sound}
+pub use Rattle.key_campaign.proofs.Adoptions.{adopted_keeps, adopted_reaches, adopted_sound}
 pub use Rattle.key_campaign.proofs.CellLaws.{one_ledger}
 pub use Rattle.key_campaign.proofs.Changes.{AreLedgerEntries-change}
 pub use Rattle.key_campaign.proofs.CutLaws.{none_bad}
