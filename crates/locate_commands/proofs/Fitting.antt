@@ -139,13 +139,29 @@ low_on start step low is = omega (arith, is)
 -- ---- the frames after the first
 
 -- one frame more is looked at
-pub count_next : (r : KnownReceiver) (v k : ℕ) (frames : List (List ℕ)) (d : List ℕ) (o : Option ℕ) → k < length frames
+count_next : (r : KnownReceiver) (v k : ℕ) (frames : List (List ℕ)) (d : List ℕ) (o : Option ℕ) → k < length frames
     → o ≡ accepted_freshness (knowing v r) (get_or frames k d)
     → accepted_count r v (drop k frames) ≡ (if is_some o then 1 else 0) + accepted_count r (unwrap_or o v) (drop (k + 1) frames)
 unfolding accepted_count
 count_next r v k frames d o within is =
     ap (accepted_count r v) (drop-cons frames k d within ∙ ap (λ (n : ℕ). get_or frames k d ∷ drop n frames) (let e : suc k ≡ k + 1 = omega arith in e))
     ∙ ap (λ (p : Option ℕ). (if is_some p then 1 else 0) + accepted_count r (unwrap_or p v) (drop (k + 1) frames)) (sym is)
+
+-- one that is accepted counts, and its freshness is the counter of the next
+pub count_accepted : (r : KnownReceiver) (total count v next k : ℕ) (frames : List (List ℕ)) (d : List ℕ) → k < length frames
+    → total ≡ count + accepted_count r v (drop k frames) → accepted_freshness (knowing v r) (get_or frames k d) ≡ Some next
+    → total ≡ count + 1 + accepted_count r next (drop (k + 1) frames)
+count_accepted r total count v next k frames d within so_far is =
+    let step : accepted_count r v (drop k frames) ≡ 1 + accepted_count r next (drop (k + 1) frames) = count_next r v k frames d (Some next) within (sym is) in
+    omega (arith, so_far, step)
+
+-- another changes nothing
+pub count_refused : (r : KnownReceiver) (total count v k : ℕ) (frames : List (List ℕ)) (d : List ℕ) → k < length frames
+    → total ≡ count + accepted_count r v (drop k frames) → accepted_freshness (knowing v r) (get_or frames k d) ≡ None
+    → total ≡ count + accepted_count r v (drop (k + 1) frames)
+count_refused r total count v k frames d within so_far is =
+    let step : accepted_count r v (drop k frames) ≡ 0 + accepted_count r v (drop (k + 1) frames) = count_next r v k frames d None within (sym is) in
+    omega (arith, so_far, step)
 
 -- none is left
 pub count_end : (r : KnownReceiver) (v k : ℕ) (frames : List (List ℕ)) → length frames ≤ k → accepted_count r v (drop k frames) ≡ 0
