@@ -21,7 +21,13 @@ pub fn located(
     ensures { result ≡ located receiver.now frames.now candidates }
 {
     let (first, rest) = frames.split_first()?;
-    locate_first(receiver, first.bytes(), rest, candidates.first, candidates.last)
+    locate_first(
+        receiver,
+        first.bytes(),
+        rest,
+        candidates.first,
+        candidates.last,
+    )
 }
 
 /// The same of the first frame and the others.
