@@ -1,7 +1,6 @@
 //! The least freshness of a range that fits frames of a log.
 ghost use Rattle.std.specs.List.{range_with_len};
 ghost use Rattle.std.specs.Prelude.{◌≡◌, ◌+◌, ◌-◌, ◌%◌, ◌^◌, ◌<◌, ◌≤◌, find, length, slice_index, None, IfSome, ℕ};
-ghost use Rattle.std.specs.Prelude.{nat_le};
 ghost use Rattle.locate_commands.specs.Locating.{knowing, accepted_count, fit_first, located, IsLeast};
 
 use crate::options::Candidates;
@@ -21,13 +20,8 @@ pub fn located(
     ensures { result ≡ located receiver.now frames.now candidates }
 {
     let (first, rest) = frames.split_first()?;
-    locate_first(
-        receiver,
-        first.bytes(),
-        rest,
-        candidates.first,
-        candidates.last,
-    )
+    let (from, last) = (candidates.first, candidates.last);
+    locate_first(receiver, first.bytes(), rest, from, last)
 }
 
 /// The same of the first frame and the others.

@@ -1,8 +1,7 @@
-use Rattle.std.proofs.Common.{◌≡◌, ◌+◌, ◌<◌, ◌≤◌, ℕ, List, length, get_or, drop, sym, ap, ◌∙◌, arith}
-use Rattle.std.specs.Prelude.{None, Some}
+use Rattle.std.proofs.Common.{◌≡◌, ◌+◌, ◌<◌, ℕ, List, length, get_or, sym, ap, ◌∙◌, arith}
 use Rattle.explain_commands.specs.declared.trials.KnownReceiver.{KnownReceiver}
 use Rattle.explain_commands.specs.Trials.{accepted_freshness}
-use Rattle.locate_commands.specs.Locating.{knowing, accepted_count}
+use Rattle.locate_commands.specs.Locating.{knowing}
 use Rattle.locate_commands.proofs.Fitting.{count_accepted, count_refused, count_end}
 use Rattle.locate_commands.proofs.searching.accepted_count.Goals as goal
 use Rattle.locate_commands.proofs.searching.accepted_count.Goals.{in-Some, in_default}

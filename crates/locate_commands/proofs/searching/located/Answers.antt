@@ -1,4 +1,4 @@
-use Rattle.std.proofs.Common.{◌≡◌, ℕ, List, sym, ◌∙◌}
+use Rattle.std.proofs.Common.{ℕ, List, sym, ◌∙◌}
 use Rattle.locate_commands.specs.Locating.{fits}
 use Rattle.locate_commands.proofs.Fitting.{found_none, none_fits}
 use Rattle.locate_commands.proofs.searching.located.Goals as goal
