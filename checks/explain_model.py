@@ -176,13 +176,13 @@ def explained(map_text, log_text):
 
 
 def frames_of(line, mapping, log_text):
-    """The data of the first three frames of a log that a line of a map hears."""
+    """The data of the first sixteen frames of a log that a line of a map hears."""
     found = []
     for text in log_text.split(b"\n"):
         frame = frame_of(text)
         if frame and next((l for l in mapping if l.can == frame[0] and l.channel in (None, frame[1])), None) is line:
             found.append(frame[2])
-    return found[:3]
+    return found[:16]
 
 
 def verifies(line, data, freshness):
@@ -198,13 +198,17 @@ def next_of(line, counter, data):
 
 
 def located(line, frames, first, last):
-    """The least freshness of a range that fits three frames."""
-    if len(frames) < 3 or len(frames[0]) < line.size + 4:
+    """The least freshness of a range with which the first frame verifies, and after which two others are accepted."""
+    if not frames or len(frames[0]) < line.size + 4:
         return None
     for value in range(first + (frames[0][line.size] - first) % 256, last + 1, 256):
         if verifies(line, frames[0], value):
-            second = next_of(line, value, frames[1])
-            if second is not None and next_of(line, second, frames[2]) is not None:
+            counter, accepted = value, 0
+            for frame in frames[1:]:
+                following = next_of(line, counter, frame)
+                if following is not None:
+                    counter, accepted = following, accepted + 1
+            if accepted >= 2:
                 return value
     return None
 

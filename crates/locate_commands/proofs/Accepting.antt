@@ -1,14 +1,15 @@
 -- A receiver accepts the frames that a freshness fits
-use Rattle.std.proofs.Common.{◌≡◌, ℕ, ◌+◌, ◌-◌, ◌≤◌, ◌&&◌, Bool, true, false, List, [], ◌∷◌, refl, ◌∙◌, ap, arith}
-use Rattle.std.specs.Prelude.{if◌then◌else◌, is_some, Option, None, Some}
+use Rattle.std.proofs.Common.{◌≡◌, ℕ, ◌+◌, ◌-◌, ◌≤◌, ◌&&◌, Bool, true, false, List, ◌∷◌, refl, ◌∙◌, ap, arith}
+use Rattle.std.specs.Prelude.{if◌then◌else◌, nat_le, Option, None, Some}
 use Rattle.std.proofs.lemmas.Bool.{and_parts}
+use Rattle.std.proofs.lemmas.Bool.Decides.{nat_tests}
 use Rattle.explain_commands.specs.declared.trials.Comparison.{Comparison}
 use Rattle.explain_commands.specs.declared.trials.Comparison.TheVariants as compared
 use Rattle.explain_commands.specs.declared.trials.Making.TheVariants as making
 use Rattle.explain_commands.specs.declared.trials.KnownReceiver.{KnownReceiver}
 use Rattle.explain_commands.specs.Trials.{tag_by, has_room, has_low, low_carried, tag_trial, trial_with, candidate, agrees, accepted_candidate, accepted_freshness}
 use Rattle.explain_commands.proofs.CallerLemmas.{found_within}
-use Rattle.locate_commands.specs.Locating.{knowing, accepts_third, is_followed, fits, AcceptsThree}
+use Rattle.locate_commands.specs.Locating.{knowing, accepted_count, fits, AcceptsFrames}
 
 -- the tests of a try that agrees
 tests_passed : (room low : Bool) (t : Comparison) → agrees (if room && low then t else compared.Skipped) ≡ true
@@ -38,25 +39,14 @@ first_accepted r first v some wide is =
     accepted_by (has_room r.size first) (knowing (v - 1) r) first (candidate (v - 1) r.window (low_carried r first)) v passed.0
     (next_candidate v r.window (low_carried r first) some wide passed.1) (ap agrees (other_counter r (v - 1) first v) ∙ passed.2)
 
-some_is : (o : Option ℕ) → is_some o ≡ true → (v : ℕ) × (o ≡ Some v)
-some_is None is = absurd (cc is)
-some_is (Some v) is = (v, refl)
+at_least : (n m : ℕ) → nat_le n m ≡ true → n ≤ m
+at_least n m is = grind (arith, nat_tests, is)
 
--- the second frame and the third
-both_accepted : (r : KnownReceiver) (third : List ℕ) (o : Option ℕ) → accepts_third r third o ≡ true
-    → (next last : ℕ) × (o ≡ Some next) × (accepted_freshness (knowing next r) third ≡ Some last)
-both_accepted r third None is = absurd (cc is)
-both_accepted r third (Some next) is = let found = some_is (accepted_freshness (knowing next r) third) is in (next, found.0, refl, found.1)
-
-pub fits_accepted : (r : KnownReceiver) (first second third : List ℕ) (v : ℕ) → 1 ≤ v → 1 ≤ r.window
-    → fits r (first ∷ second ∷ third ∷ []) v ≡ true → AcceptsThree r first second third v
-fits_accepted r first second third v some wide is =
-    let parts = and_parts (agrees (trial_with r first v)) (is_followed r v second third) is in
-    let (next, last, second_is, third_is) = both_accepted r third (accepted_freshness (knowing v r) second) parts.1 in
+pub fits_accepted : (r : KnownReceiver) (first : List ℕ) (rest : List (List ℕ)) (v : ℕ) → 1 ≤ v → 1 ≤ r.window
+    → fits r (first ∷ rest) v ≡ true → AcceptsFrames r first rest v
+fits_accepted r first rest v some wide is =
+    let parts = and_parts (agrees (trial_with r first v)) (nat_le 2 (accepted_count r v rest)) is in
     record {
-      next = next;
-      last = last;
       accepts_first = first_accepted r first v some wide parts.0;
-      accepts_second = second_is;
-      accepts_last = third_is;
+      accepts_two = at_least 2 (accepted_count r v rest) parts.1;
     }

@@ -1,16 +1,18 @@
 -- The least freshness that fits, step by step of 256
-use Rattle.std.proofs.Common.{◌≡◌, ℕ, zero, suc, ◌+◌, ◌-◌, ◌*◌, ◌%◌, ◌^◌, ◌<◌, ◌≤◌, ◌==◌, ◌&&◌, Bool, true, false, List, [], ◌∷◌, length, refl, ◌∙◌, ap, arith, inl, inr}
-use Rattle.std.specs.Prelude.{find, if◌then◌else◌, slice_index, nat_lt, nat_le, Option, None, Some}
+use Rattle.std.proofs.Common.{◌≡◌, ℕ, zero, suc, ◌+◌, ◌-◌, ◌*◌, ◌%◌, ◌^◌, ◌<◌, ◌≤◌, ◌==◌, ◌&&◌, Bool, true, false, List, [], ◌∷◌, length, get_or, drop, refl, sym, ◌∙◌, ap, arith, inl, inr}
+use Rattle.std.specs.Prelude.{find, if◌then◌else◌, slice_index, nat_lt, nat_le, is_some, unwrap_or, Option, None, Some}
+use Rattle.std.proofs.Math.Seq.{drop-cons}
+use Rattle.std.proofs.lemmas.List.{drop_all}
 use Rattle.std.specs.List.{range_with_len}
 use Rattle.std.proofs.lemmas.Bool.Decides.{nat_tests}
 use Rattle.explain_commands.specs.declared.trials.Comparison.{Comparison}
 use Rattle.explain_commands.specs.declared.trials.Comparison.TheVariants as compared
 use Rattle.explain_commands.specs.declared.trials.Making.TheVariants as making
 use Rattle.explain_commands.specs.declared.trials.KnownReceiver.{KnownReceiver}
-use Rattle.explain_commands.specs.Trials.{has_room, has_low, low_carried, tag_trial, trial_with, agrees}
+use Rattle.explain_commands.specs.Trials.{has_room, has_low, low_carried, tag_trial, trial_with, agrees, accepted_freshness}
 use Rattle.explain_commands.proofs.CallerLemmas.{none_more, found_within}
 use Rattle.std.proofs.lemmas.Bool.{cases_lt}
-use Rattle.locate_commands.specs.Locating.{is_followed, fit_three, fits, IsLeast}
+use Rattle.locate_commands.specs.Locating.{knowing, accepted_count, fit_first, fits, IsLeast}
 
 -- nothing is found among more numbers, if none of these is
 pub none_by : (test : ℕ → Bool) (a n d : ℕ) → find test (range_with_len a n) ≡ None → ((k : ℕ) → n ≤ k → k < n + d → test (a + k) ≡ false)
@@ -53,26 +55,29 @@ same_low v low is = grind (arith, nat_tests, is)
 small : (v : ℕ) → v < 2 ^ 64 → nat_lt v (2 ^ 64) ≡ true
 small v is = grind (arith, nat_tests, is)
 
-module _ (r : KnownReceiver) (first second third : List ℕ) where
+module _ (r : KnownReceiver) (first : List ℕ) (rest : List (List ℕ)) where
+  -- two of the other frames are accepted
+  abbrev enough : ℕ → Bool
+  enough v = nat_le 2 (accepted_count r v rest)
+
   -- a freshness with another low byte doesn't
-  pub fails_low : (v : ℕ) → ¬ (v % 256 ≡ slice_index first r.size) → fit_three r first second third v ≡ false
+  pub fails_low : (v : ℕ) → ¬ (v % 256 ≡ slice_index first r.size) → fit_first r first rest v ≡ false
   unfolding trial_with
   fails_low v other =
-      fails_by (has_room r.size first) (has_low (low_carried r first) v) (is_followed r v second third) (tag_trial making.Standard r first v)
+      fails_by (has_room r.size first) (has_low (low_carried r first) v) (enough v) (tag_trial making.Standard r first v)
       (and_false (v % 256 == low_carried r first) (nat_lt v (2 ^ 64)) (other_low v (low_carried r first) other))
 
   -- none does with a frame that is too short
-  pub fails_room : (v : ℕ) → has_room r.size first ≡ false → fit_three r first second third v ≡ false
+  pub fails_room : (v : ℕ) → has_room r.size first ≡ false → fit_first r first rest v ≡ false
   unfolding trial_with
-  fails_room v is =
-      fails_short (has_room r.size first) (has_low (low_carried r first) v) (is_followed r v second third) (tag_trial making.Standard r first v) is
+  fails_room v is = fails_short (has_room r.size first) (has_low (low_carried r first) v) (enough v) (tag_trial making.Standard r first v) is
 
   -- the others are tried
   pub fit_tried : (v : ℕ) → has_room r.size first ≡ true → v % 256 ≡ slice_index first r.size → v < 2 ^ 64
-      → fit_three r first second third v ≡ (agrees (tag_trial making.Standard r first v) && is_followed r v second third)
+      → fit_first r first rest v ≡ (agrees (tag_trial making.Standard r first v) && nat_le 2 (accepted_count r v rest))
   unfolding trial_with
   fit_tried v room low few =
-      holds_by (has_room r.size first) (has_low (low_carried r first) v) (is_followed r v second third) (tag_trial making.Standard r first v) room
+      holds_by (has_room r.size first) (has_low (low_carried r first) v) (enough v) (tag_trial making.Standard r first v) room
       (both_true (v % 256 == low_carried r first) (nat_lt v (2 ^ 64)) (same_low v (low_carried r first) low) (small v few))
 
 -- two values with the same low byte are 256 apart
@@ -131,10 +136,39 @@ least_found test first start last (Some v) from fails (above, below, passes, non
 pub low_on : (start step low : ℕ) → start % 256 ≡ low → (start + 256 * step) % 256 ≡ low
 low_on start step low is = omega (arith, is)
 
--- frames that aren't three fit no value
-pub not_three : (r : KnownReceiver) (frames : List (List ℕ)) (v : ℕ) → ¬ (length frames ≡ 3) → fits r frames v ≡ false
-not_three r [] v other = refl
-not_three r (first ∷ []) v other = refl
-not_three r (first ∷ second ∷ []) v other = refl
-not_three r (first ∷ second ∷ third ∷ []) v other = absurd (other refl)
-not_three r (first ∷ second ∷ third ∷ fourth ∷ more) v other = refl
+-- ---- the frames after the first
+
+-- one frame more is looked at
+count_next : (r : KnownReceiver) (v k : ℕ) (frames : List (List ℕ)) (d : List ℕ) (o : Option ℕ) → k < length frames
+    → o ≡ accepted_freshness (knowing v r) (get_or frames k d)
+    → accepted_count r v (drop k frames) ≡ (if is_some o then 1 else 0) + accepted_count r (unwrap_or o v) (drop (k + 1) frames)
+unfolding accepted_count
+count_next r v k frames d o within is =
+    ap (accepted_count r v) (drop-cons frames k d within ∙ ap (λ (n : ℕ). get_or frames k d ∷ drop n frames) (let e : suc k ≡ k + 1 = omega arith in e))
+    ∙ ap (λ (p : Option ℕ). (if is_some p then 1 else 0) + accepted_count r (unwrap_or p v) (drop (k + 1) frames)) (sym is)
+
+-- one that is accepted counts, and its freshness is the counter of the next
+pub count_accepted : (r : KnownReceiver) (total count v next k : ℕ) (frames : List (List ℕ)) (d : List ℕ) → k < length frames
+    → total ≡ count + accepted_count r v (drop k frames) → accepted_freshness (knowing v r) (get_or frames k d) ≡ Some next
+    → total ≡ count + 1 + accepted_count r next (drop (k + 1) frames)
+count_accepted r total count v next k frames d within so_far is =
+    let step : accepted_count r v (drop k frames) ≡ 1 + accepted_count r next (drop (k + 1) frames) = count_next r v k frames d (Some next) within (sym is) in
+    omega (arith, so_far, step)
+
+-- another changes nothing
+pub count_refused : (r : KnownReceiver) (total count v k : ℕ) (frames : List (List ℕ)) (d : List ℕ) → k < length frames
+    → total ≡ count + accepted_count r v (drop k frames) → accepted_freshness (knowing v r) (get_or frames k d) ≡ None
+    → total ≡ count + accepted_count r v (drop (k + 1) frames)
+count_refused r total count v k frames d within so_far is =
+    let step : accepted_count r v (drop k frames) ≡ 0 + accepted_count r v (drop (k + 1) frames) = count_next r v k frames d None within (sym is) in
+    omega (arith, so_far, step)
+
+-- none is left
+pub count_end : (r : KnownReceiver) (v k : ℕ) (frames : List (List ℕ)) → length frames ≤ k → accepted_count r v (drop k frames) ≡ 0
+unfolding accepted_count
+count_end r v k frames all = ap (accepted_count r v) (drop_all k frames all)
+
+-- no frame fits no value
+pub none_fits : (r : KnownReceiver) (frames : List (List ℕ)) (v : ℕ) → length frames ≡ 0 → fits r frames v ≡ false
+none_fits r [] v none = refl
+none_fits r (first ∷ rest) v none = absurd (omega (arith, none))

@@ -25,7 +25,7 @@ pub record Locates (i : AuditInputs) (e : WatchEnding) : Type 0 where
   -- prefix of one.
   pub ends : EndsLocate i e
   -- 0 and 1: map and log were read whole, and exactly the map was printed, in which each FRESH that is `?` is one less
-  -- than the least freshness of the range that fits the first three frames of its line. 0 if there is one for each.
+  -- than the least freshness of the range that fits the first frames of its line. 0 if there is one for each.
   pub found : IsMapPrinted e.status → OverLocate i (λ text f. (e.status ≡ locate_status text f)
       × WritesWhole e.output (located_text text f) × IsUnwritten e.errors)
   -- 2: exactly if the arguments are malformed; nothing was read, and the usage is on standard error.

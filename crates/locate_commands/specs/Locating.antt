@@ -41,9 +41,9 @@ abbrev pub as_list : Option (List ℕ) → List (List ℕ)
 as_list None = []
 as_list (Some bytes) = bytes ∷ []
 
--- the first three frames of a log that this line hears
+-- the first sixteen frames of a log that this line hears
 abbrev pub first_frames : List MapLine → ℕ → List ℕ → List (List ℕ)
-first_frames mapping place log = take 3 (filter_map (heard_in mapping place) (log_lines log))
+first_frames mapping place log = take 16 (filter_map (heard_in mapping place) (log_lines log))
 
 -- ---- the freshness of the first of them
 
@@ -51,32 +51,26 @@ first_frames mapping place log = take 3 (filter_map (heard_in mapping place) (lo
 abbrev pub knowing : ℕ → KnownReceiver → KnownReceiver
 knowing v r = record r { counter = v }
 
--- it accepts the second frame, and then the third
-abbrev pub accepts_third : KnownReceiver → List ℕ → Option ℕ → Bool
-accepts_third r third None = false
-accepts_third r third (Some v) = is_some (accepted_freshness (knowing v r) third)
+-- how many of these frames a receiver accepts, one after the other, that accepted this freshness last. One that it
+-- doesn't accept changes nothing
+unfoldable pub accepted_count : KnownReceiver → ℕ → List (List ℕ) → ℕ
+accepted_count r v [] = 0
+accepted_count r v (frame ∷ frames) =
+    (if is_some (accepted_freshness (knowing v r) frame) then 1 else 0)
+    + accepted_count r (unwrap_or (accepted_freshness (knowing v r) frame) v) frames
 
-abbrev pub is_followed : KnownReceiver → ℕ → List ℕ → List ℕ → Bool
-is_followed r v second third = accepts_third r third (accepted_freshness (knowing v r) second)
-
--- the first of three frames verifies with this freshness, and the two after it are accepted
-abbrev pub fit_three : KnownReceiver → List ℕ → List ℕ → List ℕ → ℕ → Bool
-fit_three r first second third v = agrees (trial_with r first v) && is_followed r v second third
+-- the first of these frames verifies with this freshness, and two after it are accepted
+abbrev pub fit_first : KnownReceiver → List ℕ → List (List ℕ) → ℕ → Bool
+fit_first r first rest v = agrees (trial_with r first v) && nat_le 2 (accepted_count r v rest)
 
 abbrev pub fits : KnownReceiver → List (List ℕ) → ℕ → Bool
 fits r [] v = false
-fits r (first ∷ []) v = false
-fits r (first ∷ second ∷ []) v = false
-fits r (first ∷ second ∷ third ∷ []) v = fit_three r first second third v
-fits r (first ∷ second ∷ third ∷ fourth ∷ more) v = false
+fits r (first ∷ rest) v = fit_first r first rest v
 
--- a receiver accepts three frames in a row, the first with this freshness, one above its counter
-pub record AcceptsThree (r : KnownReceiver) (first second third : List ℕ) (v : ℕ) : Type 0 where
-  pub next : ℕ
-  pub last : ℕ
+-- a receiver accepts the first of these frames with this freshness, one above its counter, and two after it at least
+pub record AcceptsFrames (r : KnownReceiver) (first : List ℕ) (rest : List (List ℕ)) (v : ℕ) : Type 0 where
   pub accepts_first : accepted_freshness (knowing (v - 1) r) first ≡ Some v
-  pub accepts_second : accepted_freshness (knowing v r) second ≡ Some next
-  pub accepts_last : accepted_freshness (knowing next r) third ≡ Some last
+  pub accepts_two : 2 ≤ accepted_count r v rest
 
 -- the values of freshness of a range
 abbrev pub candidate_values : Candidates → List ℕ

@@ -16,9 +16,9 @@ use trace_audit::{FrameBytes, MapLine, log_frame, place_for, until_feed};
 const LINE_LIMIT: usize = 4096;
 
 /// The frames that are looked at.
-const FEW: usize = 3;
+const FEW: usize = 16;
 
-/// The data of at most three frames, each of at most 64 bytes. A contract sees the list of them.
+/// The data of at most sixteen frames, each of at most 64 bytes. A contract sees the list of them.
 #[derive(Drop)]
 pub struct FirstFrames {
     frames: Vec<FrameBytes>,
@@ -31,11 +31,11 @@ impl Model for FirstFrames {
 
     ghost view = { λ f. f.frames.items };
 
-    ghost invariant = { λ f. length f.frames.items ≤ 3 };
+    ghost invariant = { λ f. length f.frames.items ≤ 16 };
 }
 
 impl FirstFrames {
-    /// The first three that the line of a map at a place hears in a log.
+    /// The first sixteen that the line of a map at a place hears in a log.
     pub fn of(
         alloc: Global,
         map: &[MapLine],

@@ -3,8 +3,8 @@
 //!
 //! [`run_locate`] prints a map in which each FRESH that was `?` is filled in, with the record `Locates`;
 //! [`locate_words`] does so over the sources that the arguments name. [`located`] looks for one freshness: the least of
-//! a range with which the first of three frames verifies, and after which the other two are accepted. With one less as
-//! FRESH a receiver accepts all three ([`laws`]).
+//! a range with which the first of sixteen frames verifies, and after which two others are accepted. With one less as
+//! FRESH a receiver accepts these three ([`laws`]).
 #![tactic(auto)]
 
 mod filling;

@@ -29,7 +29,7 @@ struct Locating {
 
 /// Prints a map in which each FRESH that is `?` is filled in, and gives the status that the program ends with. FRESH is
 /// one less than the freshness of the line's first frame in the log: the least of a range with which this frame
-/// verifies, and after which the next two are accepted. The words are `--locate [--from N] [--to N] MAP LOG`, the
+/// verifies, and after which two of the next fifteen are. The words are `--locate [--from N] [--to N] MAP LOG`, the
 /// program's name left out. All reading comes before all printing. Faults are told on `errors`.
 ///
 /// The statuses are looked for in the order 2, then 5, 8 and 4 of the map, then 5 and 8 of the log. Out of memory, 7,

@@ -1,15 +1,15 @@
 //! The least freshness of a range that fits frames of a log.
 ghost use Rattle.std.specs.List.{range_with_len};
 ghost use Rattle.std.specs.Prelude.{◌≡◌, ◌+◌, ◌-◌, ◌%◌, ◌^◌, ◌<◌, ◌≤◌, find, length, slice_index, None, IfSome, ℕ};
-ghost use Rattle.locate_commands.specs.Locating.{knowing, is_followed, fit_three, located, IsLeast};
+ghost use Rattle.locate_commands.specs.Locating.{knowing, accepted_count, fit_first, located, IsLeast};
 
 use crate::options::Candidates;
 use explain_commands::{KnownReceiver, Making, accepted_freshness, tag_trial_by};
 use she_aes::{Schedule, expand};
 use trace_audit::FrameBytes;
 
-/// The least freshness of a range with which the first of three frames verifies, and after which a receiver accepts the
-/// other two. `None` if there aren't three.
+/// The least freshness of a range with which the first of these frames verifies, and after which a receiver accepts two
+/// of the others. `None` if there is none.
 pub fn located(
     receiver: &KnownReceiver,
     frames: &[FrameBytes],
@@ -19,35 +19,28 @@ pub fn located(
     requires few { receiver.now.size ≤ 60 }
     ensures { result ≡ located receiver.now frames.now candidates }
 {
-    match frames {
-        [first, second, third] => {
-            let (second, third) = (second.bytes(), third.bytes());
-            let (from, last) = (candidates.first, candidates.last);
-            locate_three(receiver, first.bytes(), second, third, from, last)
-        }
-        _ => None,
-    }
+    let (first, rest) = frames.split_first()?;
+    let (from, last) = (candidates.first, candidates.last);
+    locate_first(receiver, first.bytes(), rest, from, last)
 }
 
-/// The same of three frames.
-fn locate_three(
+/// The same of the first frame and the others.
+fn locate_first(
     receiver: &KnownReceiver,
     first: &[u8],
-    second: &[u8],
-    third: &[u8],
+    rest: &[FrameBytes],
     from: u64,
     last: u64,
 ) -> Option<u64>
     requires some { 1 ≤ receiver.now.size }
     requires few { receiver.now.size ≤ 60 }
-    ensures { result ≡ find (fit_three receiver.now first.now second.now third.now)
-        (range_with_len from (last + 1 - from)) }
+    ensures { result ≡ find (fit_first receiver.now first.now rest.now) (range_with_len from (last + 1 - from)) }
 {
     if first.len() < receiver.size + 4 {
         return None;
     }
     match first_with(from, first[receiver.size]) {
-        Some(start) => search_from(receiver, first, second, third, start, last),
+        Some(start) => search_from(receiver, first, rest, start, last),
         None => None,
     }
 }
@@ -56,8 +49,7 @@ fn locate_three(
 fn search_from(
     receiver: &KnownReceiver,
     first: &[u8],
-    second: &[u8],
-    third: &[u8],
+    rest: &[FrameBytes],
     start: u64,
     last: u64,
 ) -> Option<u64>
@@ -65,7 +57,7 @@ fn search_from(
     requires few { receiver.now.size ≤ 60 }
     requires enough { receiver.now.size + 4 ≤ length first.now }
     requires low { start % 256 ≡ slice_index first.now receiver.now.size }
-    ensures { IsLeast (fit_three receiver.now first.now second.now third.now) start last result }
+    ensures { IsLeast (fit_first receiver.now first.now rest.now) start last result }
 {
     if start > last {
         return None;
@@ -73,20 +65,19 @@ fn search_from(
     let schedule = expand(&receiver.key);
     for step in 0..(last - start) / 256 + 1 {
         let v = start + 256 * step;
-        if fit(&schedule, receiver, first, second, third, v) {
+        if fit(&schedule, receiver, first, rest, v) {
             return Some(v);
         }
     }
     None
 }
 
-/// Whether three frames fit a freshness with the low byte of the first.
+/// Whether frames fit a freshness with the low byte of the first.
 fn fit(
     schedule: &Schedule,
     receiver: &KnownReceiver,
     first: &[u8],
-    second: &[u8],
-    third: &[u8],
+    rest: &[FrameBytes],
     v: u64,
 ) -> bool
     requires key { schedule.now ≡ receiver.now.key }
@@ -94,12 +85,12 @@ fn fit(
     requires few { receiver.now.size ≤ 60 }
     requires enough { receiver.now.size + 4 ≤ length first.now }
     requires low { v % 256 ≡ slice_index first.now receiver.now.size }
-    ensures { result ≡ fit_three receiver.now first.now second.now third.now v }
+    ensures { result ≡ fit_first receiver.now first.now rest.now v }
 {
     if !tag_trial_by(schedule, Making::Standard, receiver, first, v).agrees() {
         return false;
     }
-    is_followed(receiver, v, second, third)
+    accepted_count(receiver, v, rest) >= 2
 }
 
 /// The least freshness from this one on that has this low byte.
@@ -111,14 +102,19 @@ fn first_with(first: u64, low: u8) -> Option<u64>
     first.checked_add(ahead)
 }
 
-/// Whether a receiver that accepted this freshness last accepts the second frame, and then the third.
-fn is_followed(receiver: &KnownReceiver, v: u64, second: &[u8], third: &[u8]) -> bool
-    ensures { result ≡ is_followed receiver.now v second.now third.now }
+/// How many of these frames a receiver accepts, one after the other, that accepted this freshness last.
+fn accepted_count(receiver: &KnownReceiver, v: u64, rest: &[FrameBytes]) -> usize
+    ensures { result ≡ accepted_count receiver.now v rest.now }
 {
-    match accepted_freshness(&knowing(receiver, v), second) {
-        Some(next) => accepted_freshness(&knowing(receiver, next), third).is_some(),
-        None => false,
+    let mut counter = v;
+    let mut count = 0;
+    for frame in rest {
+        if let Some(next) = accepted_freshness(&knowing(receiver, counter), frame.bytes()) {
+            counter = next;
+            count += 1;
+        }
     }
+    count
 }
 
 /// A receiver that accepted this freshness last.

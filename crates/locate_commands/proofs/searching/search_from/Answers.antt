@@ -2,7 +2,7 @@ use Rattle.std.proofs.Common.{◌≡◌, ℕ, List, ◌+◌, ◌*◌, ◌%◌, �
 use Rattle.std.specs.Prelude.{slice_index}
 use Rattle.std.proofs.lemmas.Bool.{cases_lt}
 use Rattle.explain_commands.specs.declared.trials.KnownReceiver.{KnownReceiver}
-use Rattle.locate_commands.specs.Locating.{fit_three}
+use Rattle.locate_commands.specs.Locating.{fit_first}
 use Rattle.locate_commands.proofs.Fitting.{low_on, apart, fails_low}
 use Rattle.locate_commands.proofs.searching.search_from.Goals as goal
 
@@ -24,12 +24,12 @@ returns-then-fit c = (
 )
 
 -- the value of this turn doesn't fit, and none between it and that of the next
-turn : (r : KnownReceiver) (first second third : List ℕ) (v w : ℕ) → v % 256 ≡ slice_index first r.size → fit_three r first second third v ≡ false
-    → v ≤ w → w < v + 256 → fit_three r first second third w ≡ false
-turn r first second third v w low fails from less = elim (cases_lt v w) [
-  | inl more ↦ fails_low r first second third w (apart v w (slice_index first r.size) low more less)
+turn : (r : KnownReceiver) (first : List ℕ) (rest : List (List ℕ)) (v w : ℕ) → v % 256 ≡ slice_index first r.size → fit_first r first rest v ≡ false
+    → v ≤ w → w < v + 256 → fit_first r first rest w ≡ false
+turn r first rest v w low fails from less = elim (cases_lt v w) [
+  | inl more ↦ fails_low r first rest w (apart v w (slice_index first r.size) low more less)
   | inr same ↦
-      let is : v ≡ w = omega (arith, from, same) in subst (λ (x : ℕ). fit_three r first second third x ≡ false) is fails
+      let is : v ≡ w = omega (arith, from, same) in subst (λ (x : ℕ). fit_first r first rest x ≡ false) is fails
 ]
 
 pub loop-step-preserved : goal.loop-step-preserved
@@ -40,7 +40,7 @@ loop-step-preserved c = λ w from less.
     elim (cases_lt w v) [
       | inl before ↦ c.loop-step.invariant w from before
       | inr after ↦
-          turn r first c.args.second.now c.args.third.now v w (low_on c.args.start c.loop-step.step (slice_index first r.size) c.requires.low)
+          turn r first c.args.rest.now v w (low_on c.args.start c.loop-step.step (slice_index first r.size) c.requires.low)
           (sym c.fit.ensures ∙ c.if-fit.false) after (omega (arith, less))
     ]
 

@@ -52,10 +52,10 @@ returns c =
     let left : List (List ℕ) = filter_map heard (log_lines (drop c.loop-at.at log)) in
     elim c.loop-at-test.branch [
       | then-loop-at-test+else-len-lt-FEW w ↦
-          let full : 3 ≤ length frames = omega (arith, w.if-len-lt-FEW.false, w.len.ensures) in
-          sym (ap (take 3) c.loop-at.invariant.all ∙ take-append-le 3 frames left full ∙ take_all 3 frames c.loop-at.invariant.few)
+          let full : 16 ≤ length frames = omega (arith, w.if-len-lt-FEW.false, w.len.ensures) in
+          sym (ap (take 16) c.loop-at.invariant.all ∙ take-append-le 16 frames left full ∙ take_all 16 frames c.loop-at.invariant.few)
       | else-loop-at-test w ↦
-          sym (ap (take 3) (c.loop-at.invariant.all
+          sym (ap (take 16) (c.loop-at.invariant.all
           ∙ ap (λ (t : List (List ℕ)). frames ++ t) (heard_end heard (empty_heard c.args.map.now c.args.place) c.loop-at.at log (omega (arith, w.loop-at-test.false)))
-          ∙ append-nil frames) ∙ take_all 3 frames c.loop-at.invariant.few)
+          ∙ append-nil frames) ∙ take_all 16 frames c.loop-at.invariant.few)
     ]

@@ -7,7 +7,7 @@ use Rattle.locate_commands.proofs.frames.FirstFrames.of.Given as goal
 
 abbrev pub invariant-loop-at : goal.invariant-loop-at
 invariant-loop-at l = record {
-  few : length l.frames.items ≤ 3;
+  few : length l.frames.items ≤ 16;
   all : filter_map (heard_in l.map l.place) (log_lines l.log)
       ≡ l.frames.items ++ filter_map (heard_in l.map l.place) (log_lines (drop l.at l.log));
 }
