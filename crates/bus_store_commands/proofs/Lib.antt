@@ -4,6 +4,7 @@ pub mod CheckPhases
 pub mod GrowPromises
 pub mod GrowPhases
 pub mod Making
+pub mod MakeCuts
 pub mod MakeTells
 pub mod MakePromises
 pub mod MakePhases
