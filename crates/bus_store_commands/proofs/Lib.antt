@@ -3,7 +3,7 @@ pub mod CheckPromises
 pub mod CheckPhases
 pub mod GrowPromises
 pub mod GrowPhases
-pub mod Making
+pub mod MakingStores
 pub mod MakeCuts
 pub mod MakeTells
 pub mod MakePromises

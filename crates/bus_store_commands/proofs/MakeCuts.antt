@@ -42,7 +42,7 @@ use Rattle.bus_store_commands.specs.declared.making.MakeFault.{MakeFault}
 use Rattle.bus_store_commands.specs.declared.making.MakeFault.TheVariants as fault
 use Rattle.bus_store_commands.specs.NodeStores.{made, stood, MadeOrFound, StoreMade, StoreUnmade}
 use Rattle.bus_store_commands.specs.CutMakes.{whole, blank, torn, NewStore, TornHeader, CutMake}
-use Rattle.bus_store_commands.proofs.Making.{standing_header, new_length}
+use Rattle.bus_store_commands.proofs.MakingStores.{standing_header, new_length}
 
 -- ---- zeros
 
