@@ -13,6 +13,7 @@
 mod checking;
 mod grow_start;
 mod growing;
+mod laws;
 mod make;
 mod making;
 mod node_buses;
@@ -22,6 +23,7 @@ mod words;
 pub use checking::run_bus_check;
 pub use grow_start::grow_words;
 pub use growing::grow_over;
+pub use laws::{a_cut_make_leaves_a_new_node_or_none, zeros_are_blank_and_hold_no_cells};
 pub use make::{MakeJob, make_words};
 pub use making::{MakeFault, Unmade, make_store};
 pub use node_buses::node_bus_from;

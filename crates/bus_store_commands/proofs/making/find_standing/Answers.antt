@@ -3,7 +3,7 @@ use Rattle.cell_store.specs.Cells.{CellsState}
 use Rattle.cell_store.specs.ReadOrder.{reads, reads_to}
 use Rattle.any_cells.specs.Either.{any_state}
 use Rattle.freshness_routes.specs.Config.{IsConfig}
-use Rattle.bus_store_commands.proofs.Making.{copy_made, copy_cells, copy_unread}
+use Rattle.bus_store_commands.proofs.MakingStores.{copy_made, copy_cells, copy_unread}
 use Rattle.bus_store_commands.proofs.making.find_standing.Goals as goal
 
 pub returns-in-Ok-attach-clause-made : goal.returns-in-Ok-attach-clause-made

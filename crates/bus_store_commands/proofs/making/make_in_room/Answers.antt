@@ -1,6 +1,6 @@
 use Rattle.std.proofs.lemmas.Result.{IfOk-weaker}
 use Rattle.any_cells.specs.declared.looking.Found.TheVariants.{Blank, Standing}
-use Rattle.bus_store_commands.proofs.Making.{look_finds, finds_after, room_after, made_after, unmade_after, look_failed, if_err_weaker}
+use Rattle.bus_store_commands.proofs.MakingStores.{look_finds, finds_after, room_after, made_after, unmade_after, look_failed, if_err_weaker}
 use Rattle.bus_store_commands.proofs.making.make_in_room.Goals as goal
 
 pub make_new-requires : goal.make_new-requires

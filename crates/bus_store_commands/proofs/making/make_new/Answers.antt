@@ -1,4 +1,4 @@
-use Rattle.bus_store_commands.proofs.Making.{new_made, new_unmade}
+use Rattle.bus_store_commands.proofs.MakingStores.{new_made, new_unmade}
 use Rattle.bus_store_commands.proofs.making.make_new.Goals as goal
 
 pub returns-in-Ok-clause-made : goal.returns-in-Ok-clause-made

@@ -35,7 +35,7 @@ use Rattle.bus_store_commands.specs.NodeStores.{made, stood, StoreMade, StoreUnm
 -- ---- what a look finds
 
 -- a store that stands has its header
-standing_header : (kind : Kind) (version : Version) (n : ℕ) (x : List ℕ) → IsFound kind version n x Standing → HasHeader (layout kind version) n x
+pub standing_header : (kind : Kind) (version : Version) (n : ℕ) (x : List ℕ) → IsFound kind version n x Standing → HasHeader (layout kind version) n x
 standing_header kind One n x (inl (high, is)) = absurd (standing_not_foreign is)
 standing_header kind One n x (inr (no, inl (blank, is))) = absurd (standing_not_blank is)
 standing_header kind One n x (inr (no, inr (not, inl (low, is)))) = low
@@ -60,7 +60,7 @@ module _ (kind : Kind) (version : Version) (config : Config) where
 
   -- ---- a new store
 
-  new_length : IsConfig config → length (new_cells config) ≡ cells_in config
+  pub new_length : IsConfig config → length (new_cells config) ≡ cells_in config
   new_length good = length-CellsOf config (first_node config).kept (first_is_kept config good)
 
   pub new_made : {calls : ℕ} (before after : DiskState) (first : List (List ℕ)) → first ≡ new_cells config → IsConfig config
