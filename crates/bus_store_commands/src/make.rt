@@ -150,24 +150,34 @@ fn make_over<D: Disk, K: Sink>(alloc: Global, disk: D, job: &MakeJob, sink: &mut
     match make_store(alloc, bus.kind(), bus.version(), node_config(bus), disk) {
         Ok(disk) => (tell(sink, job.text.as_slice(), DONE), disk),
         Err(unmade) => {
-            let refusal = make_refusal(alloc, &unmade.fault);
+            let refusal = make_refusal(alloc, unmade.fault);
             (tell_refusal(sink, &refusal), unmade.disk)
         }
     }
 }
 
 /// The refusal of a store that isn't made.
-fn make_refusal(alloc: Global, fault: &MakeFault) -> Refusal
-    ensures { IsMakeRow fault.now result }
+fn make_refusal(alloc: Global, fault: MakeFault) -> Refusal
+    ensures { IsMakeRow fault result }
 {
     match fault {
-        MakeFault::Store(StoreFault::DiskFailed) => Refusal::fixed(10, "store: DiskFailed\n"),
-        MakeFault::Store(fault) => store_refusal(alloc, *fault),
+        MakeFault::Store(fault) => store_fault_refusal(alloc, fault),
         MakeFault::BadSlot(slot) => {
             let number = slot.number();
             made(format!(in alloc; "store: BadSlot {number}\n"))
         }
         MakeFault::BadBound(cell) => made(format!(in alloc; "store: BadBound {cell}\n")),
+    }
+}
+
+/// The refusal of a fault of the store: 10 if the disk failed, which was asked for a change, and else as `check FILE`
+/// tells it.
+fn store_fault_refusal(alloc: Global, fault: StoreFault) -> Refusal
+    ensures { IsMakeRow (MakeFault.Store fault) result }
+{
+    match fault {
+        StoreFault::DiskFailed => Refusal::fixed(10, "store: DiskFailed\n"),
+        _ => store_refusal(alloc, fault),
     }
 }
 
