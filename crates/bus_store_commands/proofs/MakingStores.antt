@@ -266,8 +266,7 @@ pub zeros_read : (disk : DiskState) (out : List ℕ) (size : ℕ) (says : Bool) 
     → IsTrue says ↔ (out ≡ replicate size 0) → (t : Told) → disk.told ≡ Some t → IsTrue says ↔ AllZeros t.bytes
 zeros_read disk out size says is sized all reads equal t tells =
     let same = whole_read disk out is (sized ∙ all) reads t tells in
-    let long : length t.bytes ≡ size = ap length (sym same) ∙ sized in
-    (
+    let long : length t.bytes ≡ size = ap length (sym same) ∙ sized in (
       λ yes. sym same ∙ (equal.0 yes ∙ ap (λ (n : ℕ). replicate n 0) (sym long)),
       λ zeros. equal.1 (same ∙ (zeros ∙ ap (λ (n : ℕ). replicate n 0) long)),
     )
