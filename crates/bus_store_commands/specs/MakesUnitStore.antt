@@ -28,8 +28,8 @@ use Rattle.bus_store_commands.specs.BusWords.{asks_over_bus}
 use Rattle.bus_store_commands.specs.MakeRows.{MakeInputs, AsksMake, OpensNoDisk, OverDisk, ComesOfMake, make_row}
 use Rattle.bus_store_commands.specs.MakeRows.{make_usage, made_text, node_config}
 
--- the disk that was opened was quiet, or its count of faults didn't rise; and this holds of its size and its bytes, which
--- it tells
+-- the disk that was opened was quiet, or its count of faults didn't rise; and this holds of its size and its bytes,
+-- which it tells
 pub record OpenedWell (i : MakeInputs) (Has : ℕ → List ℕ → Type 0) : Type 0 where
   pub disk : DiskState
   pub is : i.opened ≡ Some disk

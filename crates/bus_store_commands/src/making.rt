@@ -40,12 +40,12 @@ pub struct Unmade<D> {
 }
 
 /// Makes the store of a node with this configuration on the disk, of this kind and version, if all bytes of the disk
-/// are zeros: with the cells of a new node, as the node's first start would. The node's store that stands there whole is
-/// only read, and so is anything else, which is refused.
+/// are zeros: with the cells of a new node, as the node's first start would. The node's store that stands there whole
+/// is only read, and so is anything else, which is refused.
 ///
-/// Errors, in this order: `TooSmall`; `DiskFailed` of the look; `NotFormatted`; of blank headers `Memory`, `DiskFailed`
-/// of the bytes, `NotFormatted` if one isn't zero, and `DiskFailed` of the format; of the store that stands, `Memory`,
-/// `DiskFailed`, `Damaged`, `BadSlot` and `BadBound`.
+/// Errors, in this order: `TooSmall`; `DiskFailed` of the look; `NotFormatted`; of blank headers `Memory`,
+/// `DiskFailed` of the bytes, `NotFormatted` if one isn't zero, and `DiskFailed` of the format; of the store that
+/// stands, `Memory`, `DiskFailed`, `Damaged`, `BadSlot` and `BadBound`.
 pub fn make_store<D: Disk>(
     alloc: Global,
     kind: Kind,
