@@ -1,5 +1,5 @@
 //! A node's store on a disk: made if the disk is unused, and found if it stands there.
-ghost use Rattle.std.specs.Prelude.{◌≡◌, ◌↔◌, ◌≤◌, ◌+◌, IsTrue, length, Some, IfOk, IfErr, OnOk};
+ghost use Rattle.std.specs.Prelude.{◌≡◌, ◌↔◌, ◌≤◌, ◌+◌, IsTrue, length, replicate, Some, IfOk, IfErr, OnOk};
 ghost use Rattle.any_cells.specs.Either.{layout};
 ghost use Rattle.any_cells.specs.Looking.{IsFound};
 ghost use Rattle.any_cells.specs.declared.looking.Found.TheVariants.{Blank, Standing};
@@ -141,8 +141,20 @@ fn is_zeroed<D: Disk>(alloc: Global, disk: &mut D) -> Result<bool, StoreFault>
     let Ok(mut bytes) = vec![in alloc; 0; size] else {
         return Err(StoreFault::Memory);
     };
-    match disk.read(0, bytes.as_mut_slice()) {
-        Ok(()) => Ok(bytes.as_slice() == zeros.as_slice()),
+    read_zeros(disk, bytes.as_mut_slice(), zeros.as_slice())
+}
+
+/// The same in room for the bytes, beside as many zeros.
+fn read_zeros<D: Disk>(disk: &mut D, bytes: &mut [u8], zeros: &[u8]) -> Result<bool, StoreFault>
+    requires sized { length bytes.old ≡ (D.state disk.old).size }
+    requires zeros { zeros.now ≡ replicate (D.state disk.old).size 0 }
+    ensures zeros { IfOk result (λ zeros. (t : Told) → (D.state disk.old).told ≡ Some t
+        → (IsTrue zeros ↔ AllZeros t.bytes)) }
+    ensures as_before { OnOk result (AsBefore 1 (D.state disk.old) (D.state disk.new)) }
+    ensures refused { IfErr result (ZerosUnread (D.state disk.old) (D.state disk.new)) }
+{
+    match disk.read(0, bytes) {
+        Ok(()) => Ok(bytes[..] == zeros[..]),
         Err(DiskFailed) => Err(StoreFault::DiskFailed),
     }
 }

@@ -1,7 +1,7 @@
 use Rattle.std.proofs.Common.{refl}
 use Rattle.cut_disk.proofs.CallerLemmas.{runs_of_call, quiet_never_rose}
 use Rattle.bus_store_commands.proofs.MakingStores.{zeros_read}
-use Rattle.bus_store_commands.proofs.making.is_zeroed.Goals as goal
+use Rattle.bus_store_commands.proofs.making.read_zeros.Goals as goal
 
 pub returns-in-Ok-clause-zeros : goal.returns-in-Ok-clause-zeros
 returns-in-Ok-clause-zeros g c = ?
