@@ -249,9 +249,11 @@ fresh_header kind version cells size y room fresh =
     let r : List ℕ = drop (base version + length (fresh_store (layout kind version) cells)) (replicate size 0) in
     let front : length (take (base version) (replicate {A = ℕ} size 0)) ≡ base version =
     length-take-le (base version) (replicate size 0) (let long = length-replicate {A = ℕ} size 0 in omega (arith, long, room)) in
+    let zeros_before : List ℕ = take (base version) (replicate size 0) in
     ap (λ (z : List ℕ). part 0 32 (from_base version z)) fresh
-    ∙ (ap (take 32) (drop_at (take (base version) (replicate size 0)) ((h ++ fresh_cells kind cells) ++ r) (base version) front)
-    ∙ (ap (take 32) (append_assoc h (fresh_cells kind cells) r) ∙ take_at h (fresh_cells kind cells ++ r) 32 (length-header (layout kind version) (length cells))))
+    ∙ (ap (λ (z : List ℕ). take 32 (drop (base version) z)) (append_assoc zeros_before (h ++ fresh_cells kind cells) r)
+    ∙ (ap (take 32) (drop_at zeros_before (h ++ fresh_cells kind cells ++ r) (base version) front)
+    ∙ (ap (take 32) (append_assoc h (fresh_cells kind cells) r) ∙ take_at h (fresh_cells kind cells ++ r) 32 (length-header (layout kind version) (length cells)))))
 
 -- ---- headers
 

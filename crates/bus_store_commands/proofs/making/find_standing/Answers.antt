@@ -9,8 +9,8 @@ use Rattle.bus_store_commands.proofs.making.find_standing.Goals as goal
 pub returns-in-Ok-attach-clause-made : goal.returns-in-Ok-attach-clause-made
 returns-in-Ok-attach-clause-made g c =
     copy_made c.args.kind c.args.version c.args.config.now c.in-Ok.config c.in-Ok.ensures _ c.cells_of.ensures.cells (g.D.Disk.state c.args.disk) c.requires.standing
-    (reads c.args.kind) (g.D.Disk.state c.release.result) (any_state c.in-Ok-attach_as.cells) (subst IsConfig (sym c.in-Ok.ensures) c.requires.config) c.in-Ok-attach_as.ensures.attached
-    (c.release.ensures ∙ ap (λ (s : CellsState). s.disk) (c.release-in-Ok-attach.ensures ∙ c.in-Ok-attach.ensures.store)) c.in-Ok-attach.node.node
+    (reads c.args.kind) (g.D.Disk.state c.release-in-Ok-attach.result) (any_state c.in-Ok-attach_as.cells) (subst IsConfig (sym c.in-Ok.ensures) c.requires.config) c.in-Ok-attach_as.ensures.attached
+    (c.release-in-Ok-attach.ensures ∙ ap (λ (s : CellsState). s.disk) (c.release.ensures ∙ c.in-Ok-attach.ensures.store)) c.in-Ok-attach.node.node
     c.in-Ok-attach.ensures.up c.in-Ok-attach.ensures.kept c.in-Ok-attach.ensures.sound
 
 pub returns-in-Err-attach-clause-refused : goal.returns-in-Err-attach-clause-refused
