@@ -2,6 +2,7 @@
 use Rattle.std.specs.Prelude.{◌≡◌, ◌↔◌, ℕ, ◌+◌, ◌-◌, ◌<◌, ◌≤◌, Bool, true, false, IsTrue, Option, Some, List, length, take, replicate, Result, Ok, Err, IfErr}
 use Rattle.std.proofs.Common.{refl, sym, ap, ◌∙◌, subst, arith, inl, inr}
 use Rattle.cut_disk.specs.State.{DiskState, Told}
+use Rattle.std.proofs.lemmas.Bool.{false≢true}
 use Rattle.std.proofs.lemmas.List.{take_all}
 use Rattle.cut_disk.specs.Calls.{Rose, IsQuiet, IsDisk, AsBefore}
 use Rattle.cut_disk.specs.Images.{ReadsAs}
@@ -191,12 +192,12 @@ module _ (kind : Kind) (version : Version) (config : Config) where
         → zeros ≡ true → Unused mid
     unused_after zeros blank says is t tells =
         let told = sym look.told ∙ tells in
-        (blank t told, (says t told).0 (subst IsTrue (sym is) tt))
+        (blank t told, (says t told).0 is)
 
     pub used_unmade : (zeros : Bool) → FindsTold before Blank → ((t : Told) → before.told ≡ Some t → IsTrue zeros ↔ AllZeros t.bytes)
         → zeros ≡ false → StoreUnmade kind version config before mid (fault.Store store.NotFormatted)
     used_unmade zeros blank says is =
-        ((look.told, look.faults), λ t tells. inr (inr (blank t tells, λ all. subst IsTrue is ((says t tells).1 all))))
+        ((look.told, look.faults), λ t tells. inr (inr (blank t tells, λ all. absurd (false≢true (sym is ∙ (says t tells).1 all)))))
 
     -- and what is refused at once was only read
     pub refused_at_once : (what : Found) → FindsTold before what → ¬ (what ≡ Blank) → ¬ (what ≡ Standing)

@@ -10,7 +10,7 @@ make_new-requires g c =
       config = c.requires.config;
       room = room_after c.args.kind c.args.version c.args.config.now before mid c.in-Ok-true.ensures.as_before c.requires.room;
       unused = unused_after c.args.kind c.args.version c.args.config.now before mid c.in-Ok-true.ensures.as_before _ c.requires.blank
-          c.in-Ok-true.ensures.zeros c.in-Ok-true.field-0-is;
+          c.in-Ok-true.ensures.zeros c.in-Ok-true.field-0-test;
     }
 
 pub returns-in-Ok-true-clause-made : goal.returns-in-Ok-true-clause-made
@@ -29,7 +29,7 @@ returns-in-Ok-true-clause-refused g c =
 pub returns-in-Ok-false-clause-refused : goal.returns-in-Ok-false-clause-refused
 returns-in-Ok-false-clause-refused g c =
     used_unmade c.args.kind c.args.version c.args.config.now (g.D.Disk.state c.args.disk) (g.D.Disk.state c.is_zeroed.new.disk) c.in-Ok-false.ensures.as_before
-    _ c.requires.blank c.in-Ok-false.ensures.zeros c.in-Ok-false.field-0-is
+    _ c.requires.blank c.in-Ok-false.ensures.zeros c.in-Ok-false.field-0-test
 
 pub returns-in-Err-clause-refused : goal.returns-in-Err-clause-refused
 returns-in-Err-clause-refused g c =
