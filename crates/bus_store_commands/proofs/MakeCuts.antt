@@ -1,6 +1,6 @@
 -- What a power cut leaves of a disk of zeros on which a node's store is made
 use Rattle.std.proofs.Common.{◌≡◌, ◌⊎◌, ℕ, zero, suc, ◌+◌, ◌*◌, ◌-◌, ◌<◌, ◌≤◌, Bool, true, false, ◌==◌, Option, Some, None, List, [], ◌∷◌}
-use Rattle.std.proofs.Common.{◌++◌, length, take, drop, map, get_or, replicate, refl, sym, ap, subst, ◌∙◌, inl, inr, arith, ⊥}
+use Rattle.std.proofs.Common.{◌++◌, length, take, drop, map, get_or, replicate, refl, sym, ap, subst, ◌∙◌, inl, inr, arith}
 use Rattle.std.proofs.Common.{length-take, length-drop, length-append}
 use Rattle.std.proofs.lemmas.Bool.{cases_lt, cases_Bool, false≢true}
 use Rattle.std.proofs.lemmas.Slice.Eq.{bytes_eq-Decides}
@@ -46,7 +46,7 @@ use Rattle.bus_store_commands.proofs.MakingStores.{standing_header, new_length}
 
 -- ---- zeros
 
-zero_at : (size k : ℕ) → get_or (replicate size 0) k 0 ≡ 0
+zero_at : (size k : ℕ) → ◌≡◌ {A = ℕ} (get_or (replicate size 0) k 0) 0
 zero_at size k = elim (cases_lt k size) [
   | inl below ↦ get_or-replicate size k 0 0 below
   | inr past ↦ get_or_past (replicate size 0) k 0 (let e = length-replicate {A = ℕ} size 0 in omega (arith, e, past))
@@ -120,7 +120,7 @@ header_size Log n = omega arith
 
 zero_part : (at : ℕ) (x : List ℕ) → at + 32 ≤ length x → ((k : ℕ) → at ≤ k → k < at + 32 → get_or x k 0 ≡ 0) → part 0 32 (drop at x) ≡ replicate 32 0
 zero_part at x room zeros = ext_get_or 0 (part 0 32 (drop at x)) (replicate 32 0) lengths each where
-  lengths : length (part 0 32 (drop at x)) ≡ length (replicate 32 0)
+  lengths : length (part 0 32 (drop at x)) ≡ length (replicate {A = ℕ} 32 0)
   lengths = simp (length-take, length-drop) (omega (arith, room))
 
   each : (k : ℕ) → k < length (part 0 32 (drop at x)) → get_or (part 0 32 (drop at x)) k 0 ≡ get_or (replicate 32 0) k 0
@@ -218,7 +218,8 @@ both_sized xs ys one two i below = elim (cases_lt i (length xs)) [
 
 new_sized : (config : Config) → Sized (new_cells config)
 unfolding CellsOf
-new_sized config = both_sized _ _ (slots_sized 14) (bounds_sized config.routes (first_node config).kept.bounds)
+new_sized config =
+    both_sized (map slot_cell (replicate 14 Empty)) (bound_cells config.routes (first_node config).kept.bounds) (slots_sized 14) (bounds_sized config.routes (first_node config).kept.bounds)
 
 fresh_size : (kind : Kind) (version : Version) (cells : List (List ℕ)) → Sized cells
     → length (fresh_store (layout kind version) cells) ≡ size_from_base kind (length cells)
@@ -244,13 +245,15 @@ fresh_header : (kind : Kind) (version : Version) (cells : List (List ℕ)) (size
     → Fresh (layout kind version) cells (replicate size 0) y → HasHeader (layout kind version) (length cells) y
 unfolding Fresh splice
 fresh_header kind version cells size y room fresh =
-    let h = header (layout kind version) (length cells) in
-    let r = drop (base version + length (fresh_store (layout kind version) cells)) (replicate size 0) in
-    let front : length (take (base version) (replicate size 0)) ≡ base version =
+    let h : List ℕ = header (layout kind version) (length cells) in
+    let r : List ℕ = drop (base version + length (fresh_store (layout kind version) cells)) (replicate size 0) in
+    let front : length (take (base version) (replicate {A = ℕ} size 0)) ≡ base version =
     length-take-le (base version) (replicate size 0) (let long = length-replicate {A = ℕ} size 0 in omega (arith, long, room)) in
+    let zeros_before : List ℕ = take (base version) (replicate size 0) in
     ap (λ (z : List ℕ). part 0 32 (from_base version z)) fresh
-    ∙ (ap (take 32) (drop_at (take (base version) (replicate size 0)) ((h ++ fresh_cells kind cells) ++ r) (base version) front)
-    ∙ (ap (take 32) (append_assoc h (fresh_cells kind cells) r) ∙ take_at h (fresh_cells kind cells ++ r) 32 (length-header (layout kind version) (length cells))))
+    ∙ (ap (λ (z : List ℕ). take 32 (drop (base version) z)) (append_assoc zeros_before (h ++ fresh_cells kind cells) r)
+    ∙ (ap (take 32) (drop_at zeros_before (h ++ fresh_cells kind cells ++ r) (base version) front)
+    ∙ (ap (take 32) (append_assoc h (fresh_cells kind cells) r) ∙ take_at h (fresh_cells kind cells ++ r) 32 (length-header (layout kind version) (length cells)))))
 
 -- ---- headers
 

@@ -37,13 +37,13 @@ use Rattle.bus_store_commands.specs.NodeStores.{made, stood, StoreMade, StoreUnm
 -- a store that stands has its header
 pub standing_header : (kind : Kind) (version : Version) (n : ℕ) (x : List ℕ) → IsFound kind version n x Standing → HasHeader (layout kind version) n x
 standing_header kind One n x (inl (high, is)) = absurd (standing_not_foreign is)
-standing_header kind One n x (inr (no, inl (blank, is))) = absurd (standing_not_blank is)
-standing_header kind One n x (inr (no, inr (not, inl (low, is)))) = low
-standing_header kind One n x (inr (no, inr (not, inr (other, is)))) = absurd (standing_not_foreign is)
+standing_header kind One n x (inr (none, inl (blank, is))) = absurd (standing_not_blank is)
+standing_header kind One n x (inr (none, inr (neither, inl (low, is)))) = low
+standing_header kind One n x (inr (none, inr (neither, inr (other, is)))) = absurd (standing_not_foreign is)
 standing_header kind Two n x (inl (high, is)) = high
-standing_header kind Two n x (inr (no, inl (low, is))) = absurd (standing_not_older is)
-standing_header kind Two n x (inr (no, inr (not, inl (blank, is)))) = absurd (standing_not_blank is)
-standing_header kind Two n x (inr (no, inr (not, inr (other, is)))) = absurd (standing_not_foreign is)
+standing_header kind Two n x (inr (none, inl (low, is))) = absurd (standing_not_older is)
+standing_header kind Two n x (inr (none, inr (neither, inl (blank, is)))) = absurd (standing_not_blank is)
+standing_header kind Two n x (inr (none, inr (neither, inr (other, is)))) = absurd (standing_not_foreign is)
 
 module _ (kind : Kind) (version : Version) (config : Config) where
   -- this is found of told bytes
@@ -72,19 +72,19 @@ module _ (kind : Kind) (version : Version) (config : Config) where
     told = λ t tells. made (blank t tells) (subst (λ (c : List (List ℕ)). FreshOn (layout kind version) c t after.told) is (f.fresh t tells));
   }
 
-  pub new_unmade : {calls : ℕ} (before after : DiskState) (first : List (List ℕ)) (f : StoreFault) → first ≡ new_cells config → IsConfig config
+  pub new_unmade : (calls : ℕ) (before after : DiskState) (first : List (List ℕ)) (f : StoreFault) → first ≡ new_cells config → IsConfig config
       → NotFormed (layout kind version) calls first before after f → FindsTold before Blank
       → StoreUnmade kind version config before after (fault.Store f)
-  new_unmade before after first store.TooSmall is good h blank =
+  new_unmade calls before after first store.TooSmall is good h blank =
       (subst (λ (n : ℕ). before.size < store_size (layout kind version) n) (ap length is ∙ new_length good) h.0, h.1)
-  new_unmade before after first store.DiskFailed is good h blank = (
+  new_unmade calls before after first store.DiskFailed is good h blank = (
     h.rose,
     (λ quiet. quiet_never_rose quiet (h.runs.quiet refl quiet) h.rose),
     inr (blank, subst (λ (c : List (List ℕ)). LeavesUnformed (layout kind version) c before.told after.told) is h.unformed),
   )
-  new_unmade before after first store.NotFormatted is good h blank = absurd h
-  new_unmade before after first (store.Damaged place) is good h blank = absurd h
-  new_unmade before after first store.Memory is good h blank = absurd h
+  new_unmade calls before after first store.NotFormatted is good h blank = absurd h
+  new_unmade calls before after first (store.Damaged place) is good h blank = absurd h
+  new_unmade calls before after first store.Memory is good h blank = absurd h
 
   -- ---- one that stands
 
@@ -113,18 +113,18 @@ module _ (kind : Kind) (version : Version) (config : Config) where
         (left, λ t tells. (standing t tells, record { cells = s.cells; count = a.count; stands = a.stands t tells; such = cause }))
     cells_unmade cells.Memory cause = left
 
-  pub unread_unmade : {reads : ℕ} {to : ℕ → ℕ} (before after : DiskState) (f : StoreFault)
+  pub unread_unmade : (reads : ℕ) (to : ℕ → ℕ) (before after : DiskState) (f : StoreFault)
       → NotAttached (layout kind version) reads to (cells_in config) before after f → FindsTold before Standing
       → StoreUnmade kind version config before after (fault.Store f)
-  unread_unmade before after store.TooSmall h standing = h
-  unread_unmade before after store.Memory h standing = (ap (λ (d : DiskState). d.told) h.1, ap (λ (d : DiskState). d.faults) h.1)
-  unread_unmade before after store.DiskFailed h standing =
+  unread_unmade reads to before after store.TooSmall h standing = h
+  unread_unmade reads to before after store.Memory h standing = (ap (λ (d : DiskState). d.told) h.1, ap (λ (d : DiskState). d.faults) h.1)
+  unread_unmade reads to before after store.DiskFailed h standing =
       (h.leaves.rose, (λ quiet. quiet_never_rose quiet (h.leaves.runs.quiet refl quiet) h.leaves.rose), inl h.leaves.told)
-  unread_unmade before after store.NotFormatted h standing = (
+  unread_unmade reads to before after store.NotFormatted h standing = (
     (h.leaves.told, h.leaves.faults),
     λ t tells. absurd (h.finds t tells (standing_header kind version (cells_in config) t.bytes (standing t tells))),
   )
-  unread_unmade before after (store.Damaged place) h standing =
+  unread_unmade reads to before after (store.Damaged place) h standing =
       ((h.leaves.told, h.leaves.faults), λ t tells. (standing t tells, (h.finds t tells).1))
 
   -- ---- after a look
@@ -148,7 +148,7 @@ module _ (kind : Kind) (version : Version) (config : Config) where
     quiet_after : IsQuiet before → IsQuiet mid
     quiet_after quiet =
         let stays = look.runs.quiet refl quiet in
-        record { quiet = stays.quiet; below = subst (λ (k : ℕ). k < _) (sym stays.faults) quiet.below }
+        record { quiet = stays.quiet; below = rw stays.faults quiet.below }
 
     failed_after : (after : DiskState) → FailedToMake kind version config mid after → FailedToMake kind version config before after
     failed_after after (rose, not, inl told) =
@@ -202,25 +202,25 @@ module _ (kind : Kind) (version : Version) (config copy : Config) (is : copy ≡
   of_copy : FindsTold kind version copy before Standing
   of_copy = subst (λ (c : Config). FindsTold kind version c before Standing) (sym is) standing
 
-  pub copy_made : {reads : ℕ → ℕ} (after : DiskState) (s : CellsState) → IsConfig copy → Attached (layout kind version) (reads n) n before s
+  pub copy_made : (reads : ℕ → ℕ) (after : DiskState) (s : CellsState) → IsConfig copy → Attached (layout kind version) (reads n) n before s
       → after ≡ s.disk → (node : Node) → node ≡ powered copy node.kept → s.cells ≡ CellsOf copy node.kept → Sound node
       → StoreMade kind version config before after
-  copy_made {reads} after s good a same node up kept sound =
+  copy_made reads after s good a same node up kept sound =
       subst (λ (c : Config). StoreMade kind version c before after) is
       (stood_made kind version copy before after s (subst (λ (k : ℕ). Attached (layout kind version) (reads k) k before s) cells_are a) same of_copy
       good node up kept sound)
 
-  pub copy_cells : {reads : ℕ → ℕ} (after : DiskState) (s : CellsState) → Attached (layout kind version) (reads n) n before s → after ≡ s.disk
+  pub copy_cells : (reads : ℕ → ℕ) (after : DiskState) (s : CellsState) → Attached (layout kind version) (reads n) n before s → after ≡ s.disk
       → (f : AttachFault) → AttachCause copy.routes s.cells f → StoreUnmade kind version config before after (fault_of_cells f)
-  copy_cells {reads} after s a same f cause =
+  copy_cells reads after s a same f cause =
       subst (λ (c : Config). StoreUnmade kind version c before after (fault_of_cells f)) is
       (cells_unmade kind version copy before after s (subst (λ (k : ℕ). Attached (layout kind version) (reads k) k before s) cells_are a) same of_copy f cause)
 
-  pub copy_unread : {reads : ℕ → ℕ} {to : ℕ → ℕ → ℕ} (after : DiskState) (f : StoreFault)
+  pub copy_unread : (reads : ℕ → ℕ) (to : ℕ → ℕ → ℕ) (after : DiskState) (f : StoreFault)
       → NotAttached (layout kind version) (reads n) (to n) n before after f → StoreUnmade kind version config before after (fault.Store f)
-  copy_unread {reads} {to} after f h =
+  copy_unread reads to after f h =
       subst (λ (c : Config). StoreUnmade kind version c before after (fault.Store f)) is
-      (unread_unmade kind version copy before after f (subst (λ (k : ℕ). NotAttached (layout kind version) (reads k) (to k) k before after f) cells_are h) of_copy)
+      (unread_unmade kind version copy (reads (cells_in copy)) (to (cells_in copy)) before after f (subst (λ (k : ℕ). NotAttached (layout kind version) (reads k) (to k) k before after f) cells_are h) of_copy)
 
 -- what is refused, for a weaker reason
 pub if_err_weaker : {X Y : Type 0} (r : Result X Y) (P Q : Y → Type 0) → ((y : Y) → P y → Q y) → IfErr r P → IfErr r Q

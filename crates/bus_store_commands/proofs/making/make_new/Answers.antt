@@ -8,5 +8,5 @@ returns-in-Ok-clause-made g c =
 
 pub returns-in-Err-clause-refused : goal.returns-in-Err-clause-refused
 returns-in-Err-clause-refused g c =
-    new_unmade c.args.kind c.args.version c.args.config.now (g.D.Disk.state c.args.disk) (g.D.Disk.state c.in-Err.refused.disk) _ c.in-Err.refused.fault
+    new_unmade c.args.kind c.args.version c.args.config.now _ (g.D.Disk.state c.args.disk) (g.D.Disk.state c.in-Err.refused.disk) _ c.in-Err.refused.fault
     c.first_cells-count.ensures.cells c.requires.config c.in-Err.ensures.refused c.requires.blank
