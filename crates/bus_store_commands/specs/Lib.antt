@@ -4,3 +4,8 @@ pub mod CheckRows
 pub mod ChecksOverBus
 pub mod GrowRows
 pub mod GrowsOverBus
+pub mod NodeStores
+pub mod CutMakes
+pub mod MakeRows
+pub mod MakeSteps
+pub mod MakesUnitStore

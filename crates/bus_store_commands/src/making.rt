@@ -1,0 +1,229 @@
+//! A node's store on a disk: made if the disk is unused, and found if it stands there.
+ghost use Rattle.std.specs.Prelude.{◌≡◌, ◌↔◌, ◌≤◌, ◌+◌, IsTrue, length, replicate, Some, IfOk, IfErr, OnOk};
+ghost use Rattle.any_cells.specs.Either.{layout};
+ghost use Rattle.any_cells.specs.Looking.{IsFound};
+ghost use Rattle.any_cells.specs.declared.looking.Found.TheVariants.{Blank, Standing};
+ghost use Rattle.cell_store.specs.Store.{store_size};
+ghost use Rattle.cut_disk.specs.State.{Told};
+ghost use Rattle.cut_disk.specs.Calls.{AsBefore};
+ghost use Rattle.freshness_routes.specs.Config.{IsConfig};
+ghost use Rattle.bus_store_commands.specs.NodeStores.{StoreMade, StoreUnmade, fault_of_cells};
+ghost use Rattle.bus_store_commands.specs.NodeStores.{AllZeros, IsUnused, ZerosUnread};
+
+use any_cells::{AnyCells, Found, look, store_size};
+use cell_store::{Cells, Kind, StoreFault, Version};
+use cut_disk::{Disk, DiskFailed};
+use freshness_routes::NodeConfig;
+use key_slots::SlotId;
+use secoc_node::{AttachFault, Node, first_cells};
+use std::alloc::Global;
+
+/// Why a node's store isn't made.
+#[derive(Clone, Copy, Debug, PartialEq, Eq, Drop)]
+pub enum MakeFault {
+    /// The disk failed or has no room, another store or something else stands there, the node's store there is damaged,
+    /// or memory is out.
+    Store(StoreFault),
+    /// The node's store stands there, and this slot's cell holds no slot.
+    BadSlot(SlotId),
+    /// It stands there, and this cell doesn't hold the bound of its route.
+    BadBound(u16),
+}
+
+/// A disk that is handed back, and why the node's store isn't made there.
+#[derive(Drop)]
+pub struct Unmade<D> {
+    /// The disk.
+    pub disk: D,
+    /// The cause.
+    pub fault: MakeFault,
+}
+
+/// Makes the store of a node with this configuration on the disk, of this kind and version, if all bytes of the disk
+/// are zeros: with the cells of a new node, as the node's first start would. The node's store that stands there whole
+/// is only read, and so is anything else, which is refused.
+///
+/// Errors, in this order: `TooSmall`; `DiskFailed` of the look; `NotFormatted`; of blank headers `Memory`,
+/// `DiskFailed` of the bytes, `NotFormatted` if one isn't zero, and `DiskFailed` of the format; of the store that
+/// stands, `Memory`, `DiskFailed`, `Damaged`, `BadSlot` and `BadBound`.
+pub fn make_store<D: Disk>(
+    alloc: Global,
+    kind: Kind,
+    version: Version,
+    config: &NodeConfig,
+    disk: D,
+) -> Result<D, Unmade<D>>
+    requires { IsConfig config.now }
+    ensures made { IfOk result (λ d. StoreMade kind version config.now (D.state disk) (D.state d)) }
+    ensures refused { IfErr result (λ u. StoreUnmade kind version config.now (D.state disk) (D.state u.disk) u.fault) }
+{
+    if disk.size() < store_size(kind, version, cells_of(config)) {
+        let fault = MakeFault::Store(StoreFault::TooSmall);
+        return Err(Unmade { disk, fault });
+    }
+    make_in_room(alloc, kind, version, config, disk)
+}
+
+/// The number of cells of a node with this configuration.
+pub(crate) fn cells_of(config: &NodeConfig) -> u16
+    ensures cells { result ≡ 14 + length config.now.routes }
+    ensures most { result ≤ 270 }
+{
+    14 + config.routes.as_slice().len() as u16
+}
+
+/// The same if there is room on the disk.
+fn make_in_room<D: Disk>(
+    alloc: Global,
+    kind: Kind,
+    version: Version,
+    config: &NodeConfig,
+    mut disk: D,
+) -> Result<D, Unmade<D>>
+    requires config { IsConfig config.now }
+    requires room { store_size (layout kind version) (14 + length config.now.routes) ≤ (D.state disk).size }
+    ensures made { IfOk result (λ d. StoreMade kind version config.now (D.state disk) (D.state d)) }
+    ensures refused { IfErr result (λ u. StoreUnmade kind version config.now (D.state disk) (D.state u.disk) u.fault) }
+{
+    match look(&mut disk, kind, version, cells_of(config)) {
+        Ok(Found::Blank) => make_blank(alloc, kind, version, config, disk),
+        Ok(Found::Standing) => find_standing(alloc, kind, version, config, disk),
+        Ok(_) => {
+            let fault = MakeFault::Store(StoreFault::NotFormatted);
+            Err(Unmade { disk, fault })
+        }
+        Err(DiskFailed) => {
+            let fault = MakeFault::Store(StoreFault::DiskFailed);
+            Err(Unmade { disk, fault })
+        }
+    }
+}
+
+/// Makes the store on a disk whose headers are blank, if all bytes are zeros.
+fn make_blank<D: Disk>(
+    alloc: Global,
+    kind: Kind,
+    version: Version,
+    config: &NodeConfig,
+    mut disk: D,
+) -> Result<D, Unmade<D>>
+    requires config { IsConfig config.now }
+    requires room { store_size (layout kind version) (14 + length config.now.routes) ≤ (D.state disk).size }
+    requires blank { (t : Told) → (D.state disk).told ≡ Some t
+        → IsFound kind version (14 + length config.now.routes) t.bytes Blank }
+    ensures made { IfOk result (λ d. StoreMade kind version config.now (D.state disk) (D.state d)) }
+    ensures refused { IfErr result (λ u. StoreUnmade kind version config.now (D.state disk) (D.state u.disk) u.fault) }
+{
+    match is_zeroed(alloc, &mut disk) {
+        Ok(true) => make_new(kind, version, config, disk),
+        Ok(false) => {
+            let fault = MakeFault::Store(StoreFault::NotFormatted);
+            Err(Unmade { disk, fault })
+        }
+        Err(fault) => Err(Unmade {
+            disk,
+            fault: MakeFault::Store(fault),
+        }),
+    }
+}
+
+/// Whether all bytes of the disk are zeros: they are read.
+fn is_zeroed<D: Disk>(alloc: Global, disk: &mut D) -> Result<bool, StoreFault>
+    ensures zeros { IfOk result (λ zeros. (t : Told) → (D.state disk.old).told ≡ Some t
+        → (IsTrue zeros ↔ AllZeros t.bytes)) }
+    ensures as_before { OnOk result (AsBefore 1 (D.state disk.old) (D.state disk.new)) }
+    ensures refused { IfErr result (ZerosUnread (D.state disk.old) (D.state disk.new)) }
+{
+    let size = disk.size() as usize;
+    let Ok(zeros) = vec![in alloc; 0; size] else {
+        return Err(StoreFault::Memory);
+    };
+    let Ok(mut bytes) = vec![in alloc; 0; size] else {
+        return Err(StoreFault::Memory);
+    };
+    read_zeros(disk, bytes.as_mut_slice(), zeros.as_slice())
+}
+
+/// The same in room for the bytes, beside as many zeros.
+fn read_zeros<D: Disk>(disk: &mut D, bytes: &mut [u8], zeros: &[u8]) -> Result<bool, StoreFault>
+    requires sized { length bytes.old ≡ (D.state disk.old).size }
+    requires zeros { zeros.now ≡ replicate (D.state disk.old).size 0 }
+    ensures zeros { IfOk result (λ zeros. (t : Told) → (D.state disk.old).told ≡ Some t
+        → (IsTrue zeros ↔ AllZeros t.bytes)) }
+    ensures as_before { OnOk result (AsBefore 1 (D.state disk.old) (D.state disk.new)) }
+    ensures refused { IfErr result (ZerosUnread (D.state disk.old) (D.state disk.new)) }
+{
+    match disk.read(0, bytes) {
+        Ok(()) => Ok(bytes[..] == zeros[..]),
+        Err(DiskFailed) => Err(StoreFault::DiskFailed),
+    }
+}
+
+/// Formats an unused disk as a store of the first cells of a node with this configuration.
+fn make_new<D: Disk>(
+    kind: Kind,
+    version: Version,
+    config: &NodeConfig,
+    disk: D,
+) -> Result<D, Unmade<D>>
+    requires config { IsConfig config.now }
+    requires room { store_size (layout kind version) (14 + length config.now.routes) ≤ (D.state disk).size }
+    requires unused { (t : Told) → (D.state disk).told ≡ Some t → IsUnused kind version config.now t.bytes }
+    ensures made { IfOk result (λ d. StoreMade kind version config.now (D.state disk) (D.state d)) }
+    ensures refused { IfErr result (λ u. StoreUnmade kind version config.now (D.state disk) (D.state u.disk) u.fault) }
+{
+    let mut cells = [[0; 32]; 270];
+    let count = first_cells(config, &mut cells);
+    match AnyCells::format_as(disk, kind, version, &cells[..count]) {
+        Ok(disk) => Ok(disk),
+        Err(refused) => Err(Unmade {
+            disk: refused.disk,
+            fault: MakeFault::Store(refused.fault),
+        }),
+    }
+}
+
+/// Reads the store of a node with this configuration, whose header stands on the disk.
+fn find_standing<D: Disk>(
+    alloc: Global,
+    kind: Kind,
+    version: Version,
+    config: &NodeConfig,
+    disk: D,
+) -> Result<D, Unmade<D>>
+    requires config { IsConfig config.now }
+    requires room { store_size (layout kind version) (14 + length config.now.routes) ≤ (D.state disk).size }
+    requires standing { (t : Told) → (D.state disk).told ≡ Some t
+        → IsFound kind version (14 + length config.now.routes) t.bytes Standing }
+    ensures made { IfOk result (λ d. StoreMade kind version config.now (D.state disk) (D.state d)) }
+    ensures refused { IfErr result (λ u. StoreUnmade kind version config.now (D.state disk) (D.state u.disk) u.fault) }
+{
+    let Ok(config) = config.copy(alloc) else {
+        let fault = MakeFault::Store(StoreFault::Memory);
+        return Err(Unmade { disk, fault });
+    };
+    match AnyCells::attach_as(alloc, disk, kind, version, cells_of(&config)) {
+        Ok(cells) => match Node::attach(alloc, config, cells) {
+            Ok(node) => Ok(node.release().release()),
+            Err(refused) => Err(Unmade {
+                disk: refused.cells.release(),
+                fault: attach_fault(&refused.fault),
+            }),
+        },
+        Err(unread) => Err(Unmade {
+            disk: unread.disk,
+            fault: MakeFault::Store(unread.fault),
+        }),
+    }
+}
+
+/// Why cells are no node's.
+fn attach_fault(fault: &AttachFault) -> MakeFault
+    ensures { result ≡ fault_of_cells fault.now }
+{
+    match fault {
+        AttachFault::BadSlot(slot) => MakeFault::BadSlot(*slot),
+        AttachFault::BadBound(cell) => MakeFault::BadBound(*cell),
+        AttachFault::Memory => MakeFault::Store(StoreFault::Memory),
+    }
+}
