@@ -24,7 +24,7 @@ use Rattle.store_growing.specs.declared.faults.GrowFault.{GrowFault}
 use Rattle.store_growing.specs.declared.faults.GrowFault.TheVariants as fault
 use Rattle.store_growing.specs.RouteCells.{route_cell, first_bound, IsNextCell, CanGrow, HasVersionTwo, RefusesBytes}
 use Rattle.store_growing.specs.GrowingStores.{OfBytes, GrowsOne, AddsRoutes, no_more, one_more, CutsRoutes, within, later, GrowsStore, CutsStore, NotGrown}
-use Rattle.store_growing.specs.GrowingStores.{HasRoomFor, CanBeGrown, CannotBeGrown, newer, by_bytes}
+use Rattle.store_growing.specs.GrowingStores.{HasRouteRoom, CanBeGrown, CannotBeGrown, newer, by_bytes}
 use Rattle.store_growing.specs.GrowSteps.{Sees, NotSeen, SaysStore, CanGet, RoomAfter, PlansNext, AddsOnDisk, CutsOnDisk}
 use Rattle.store_growing.proofs.CellsAdded.{Head, one_ends, one_within, erased_kept}
 
@@ -185,14 +185,14 @@ module _ (routes given : List Route) (cell count : ℕ) (image : List ℕ) (old 
 
 -- ---- why it isn't grown
 
-pub not_seen : (routes : List Route) (old new : DiskState) (f : GrowFault) → HasRoomFor routes old → NotSeen old new f → NotGrown routes old new f
+pub not_seen : (routes : List Route) (old new : DiskState) (f : GrowFault) → HasRouteRoom routes old → NotSeen old new f → NotGrown routes old new f
 not_seen routes old new fault.NotFormatted room why = (why.0, λ x told. newer x room told (why.1 x told))
 not_seen routes old new fault.DiskFailed room why = (why.0, inl why.1)
 not_seen routes old new fault.TooSmall room why = absurd why
 not_seen routes old new (fault.BadBound bad) room why = absurd why
 not_seen routes old new fault.Memory room why = absurd why
 
-module _ (routes : List Route) (old new : DiskState) (image : List ℕ) (room : HasRoomFor routes old) (sees : Sees old image)
+module _ (routes : List Route) (old new : DiskState) (image : List ℕ) (room : HasRouteRoom routes old) (sees : Sees old image)
     (version : OfBytes old (λ x. ¬ HasVersionTwo x)) where
   cause : (f : GrowFault) → RefusesBytes routes image f → OfBytes old (λ x. CannotBeGrown routes old f)
   cause f why x told = by_bytes x f room told (version x told) (subst (λ (b : List ℕ). RefusesBytes routes b f) (sees x told) why)
@@ -205,7 +205,7 @@ module _ (routes : List Route) (old new : DiskState) (image : List ℕ) (room : 
   bytes_refused fault.DiskFailed before why = absurd why
 
 -- and why it is
-pub could_be : (routes : List Route) (old : DiskState) (image : List ℕ) (count : ℕ) → HasRoomFor routes old → Sees old image
+pub could_be : (routes : List Route) (old : DiskState) (image : List ℕ) (count : ℕ) → HasRouteRoom routes old → Sees old image
     → OfBytes old (λ x. ¬ HasVersionTwo x) → CanGrow routes image count → OfBytes old (λ x. CanBeGrown routes old)
 could_be routes old image count room sees version can x told = record {
   room = room;

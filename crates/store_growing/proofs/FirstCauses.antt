@@ -24,7 +24,7 @@ use Rattle.store_growing.specs.declared.faults.GrowFault.TheVariants.{DiskFailed
 use Rattle.store_growing.specs.RouteCells.{route_cell, RouteAt, first_bound, HoldsRoute, HasCell, IsNextCell, HaveCells, CanGrow, HasVersionTwo}
 use Rattle.store_growing.specs.RouteCells.{LacksNext, HasOtherCount, HoldsOther, IsUsedAfter, RefusesBytes}
 use Rattle.store_growing.specs.LookSteps.{ErasedFrom, UsedAfter}
-use Rattle.store_growing.specs.GrowingStores.{CanBeGrown, CannotBeGrown, no_room, newer, by_bytes}
+use Rattle.store_growing.specs.GrowingStores.{OfBytes, CanBeGrown, CannotBeGrown, no_room, newer, by_bytes}
 use Rattle.store_growing.proofs.CellsAdded.{Head}
 use Rattle.store_growing.proofs.RoutesKept.{same_at, routes_some, have_none, have_more, next_isnt_there, there_is_some, next_is_some, isnt_refused}
 
@@ -358,3 +358,10 @@ can_or_cannot routes old x few told sized = elim (cases_lt old.size (twin_size (
     ]
   ]
 ]
+
+-- a disk that tells its bytes is too small by its size or by them
+pub small_told : (routes : List Route) (old : DiskState) (x : List ℕ) → old.told ≡ Some (firm x)
+    → (old.size < twin_size (route_cell (length routes) + 1)) ⊎ OfBytes old (λ x. CannotBeGrown routes old TooSmall)
+    → CannotBeGrown routes old TooSmall
+small_told routes old x told (inl less) = no_room less
+small_told routes old x told (inr of) = of x told

@@ -62,13 +62,13 @@ abbrev pub CutsStore : List Route → DiskState → DiskState → Type 0
 CutsStore routes old new = (new.told ≡ old.told) ⊎ OfBytes old (λ x. EachImage new.told (GrownInPart routes x))
 
 -- the disk has room for a cell for each route, and for one more
-abbrev pub HasRoomFor : List Route → DiskState → Type 0
-HasRoomFor routes disk = twin_size (route_cell (length routes) + 1) ≤ disk.size
+abbrev pub HasRouteRoom : List Route → DiskState → Type 0
+HasRouteRoom routes disk = twin_size (route_cell (length routes) + 1) ≤ disk.size
 
 -- The store on a disk can be grown to a cell for each route: there is room, and the bytes that the disk tells, none of
 -- them loose, have no store of version 2, but one that can get the cells.
 pub record CanBeGrown (routes : List Route) (old : DiskState) : Type 0 where
-  pub room : HasRoomFor routes old
+  pub room : HasRouteRoom routes old
   pub bytes : List ℕ
   pub told : old.told ≡ Some (firm bytes)
   pub version : ¬ HasVersionTwo bytes
@@ -79,9 +79,9 @@ pub record CanBeGrown (routes : List Route) (old : DiskState) : Type 0 where
 -- the cells. The other two faults have no such cause.
 pub data CannotBeGrown (routes : List Route) (old : DiskState) : GrowFault → Type 0 where
   no_room : old.size < twin_size (route_cell (length routes) + 1) → CannotBeGrown routes old TooSmall
-  newer : (x : List ℕ) → HasRoomFor routes old → old.told ≡ Some (firm x) → HasVersionTwo x
+  newer : (x : List ℕ) → HasRouteRoom routes old → old.told ≡ Some (firm x) → HasVersionTwo x
       → CannotBeGrown routes old NotFormatted
-  by_bytes : (x : List ℕ) (fault : GrowFault) → HasRoomFor routes old → old.told ≡ Some (firm x) → ¬ HasVersionTwo x
+  by_bytes : (x : List ℕ) (fault : GrowFault) → HasRouteRoom routes old → old.told ≡ Some (firm x) → ¬ HasVersionTwo x
       → RefusesBytes routes x fault → CannotBeGrown routes old fault
 
 -- Why a store doesn't get the cells. Nothing was written, unless a call of the disk failed.

@@ -1,4 +1,3 @@
--- Not checked yet: the form is bus_check_words'
 use Rattle.std.proofs.Common.{refl}
 use Rattle.program_edge.specs.NamedSources.{word_source}
 use Rattle.bus_store_commands.proofs.GrowPhases.{with_routes, without_routes}
