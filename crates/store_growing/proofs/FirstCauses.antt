@@ -199,20 +199,20 @@ module _ (x : List ℕ) (cell : ℕ) (route : Route) (room : 32 ≤ length x) wh
   ]
 
 -- the bound that a cell holds, if it holds one
-abbrev bound_bytes : List ℕ → List ℕ
-bound_bytes cell = part 4 8 cell
+abbrev eight_bytes : List ℕ → List ℕ
+eight_bytes cell = part 4 8 cell
 
-bound_bytes_are : (cell : List ℕ) (route : Route) (bound : ℕ) → cell ≡ bound_cell route.id route.direction bound → bound_bytes cell ≡ bytes_of 8 bound
+eight_bytes_are : (cell : List ℕ) (route : Route) (bound : ℕ) → cell ≡ bound_cell route.id route.direction bound → eight_bytes cell ≡ bytes_of 8 bound
 unfolding bound_cell bytes_of
-bound_bytes_are cell route bound e = rw e refl
+eight_bytes_are cell route bound e = rw e refl
 
-bound_of : (cell : List ℕ) (route : Route) (bound : ℕ) → HoldsBound cell route.id route.direction bound → number_of (bound_bytes cell) ≡ bound
+bound_of : (cell : List ℕ) (route : Route) (bound : ℕ) → HoldsBound cell route.id route.direction bound → number_of (eight_bytes cell) ≡ bound
 bound_of cell route bound h =
-    ap number_of (bound_bytes_are cell route bound h.cell_is) ∙ number_of-bytes_of-lt 8 bound (let low = h.bound_fits in omega (arith, low))
+    ap number_of (eight_bytes_are cell route bound h.cell_is) ∙ number_of-bytes_of-lt 8 bound (let low = h.bound_fits in omega (arith, low))
 
 holds_or_not : (cell : List ℕ) (route : Route) → Decided ((bound : ℕ) × HoldsBound cell route.id route.direction bound)
 holds_or_not cell route =
-    let bound : ℕ = number_of (bound_bytes cell) in
+    let bound : ℕ = number_of (eight_bytes cell) in
     elim (cases_lt route.id (2 ^ 16)) [
       | inl id_fits ↦ elim (cases_lt bound (2 ^ 64)) [
         | inl bound_fits ↦ elim (bytes_same cell (bound_cell route.id route.direction bound)) [
@@ -254,35 +254,44 @@ module _ (routes : List Route) (x : List ℕ) (room : 32 ≤ length x) where
   -- where every route has its cell the number of cells decides
   all_there : HaveCells routes x (length routes) → Seen
   all_there have = elim (decide-head (route_cell (length routes)) x) [
-    | inl head ↦ inl (length routes, record {
-      have = have;
-      full = λ same. head;
-      next = λ route at. absurd (let low = at.0 in omega (arith, low));
-      erased = λ place least below. absurd (omega (arith, least, below));
-    })
+    | inl head ↦ inl (
+      length routes,
+      record {
+        have = have;
+        full = λ same. head;
+        next = λ route at. absurd (let low = at.0 in omega (arith, low));
+        erased = λ place least below. absurd (omega (arith, least, below));
+      },
+    )
     | inr other ↦ inr (NotFormatted, inr (record { have = have; other = other }))
   ]
 
   -- and where one hasn't, what stands after it
   next_there : (count : ℕ) (route : Route) → HaveCells routes x count → RouteAt routes count route → IsNextCell x (route_cell count) route
       → ErasedFrom x count (length routes) ⊎ ((place : ℕ) × UsedAfter x count (length routes) place) → Seen
-  next_there count route have at next (inl erased) = inl (count, record {
-    have = have;
-    full = λ all. absurd (let low = at.0 in omega (arith, low, all));
-    next = λ other there. subst (IsNextCell x (route_cell count)) (same_at routes count route other at there) next;
-    erased = erased;
-  })
-  next_there count route have at next (inr (place, used)) = inr (TooSmall, record {
-    count = count;
-    route = route;
-    have = have;
-    at = at;
-    next = next;
-    place = place;
-    from = used.least;
-    below = used.below;
-    used = used.used;
-  })
+  next_there count route have at next (inl erased) = inl (
+    count,
+    record {
+      have = have;
+      full = λ all. absurd (let low = at.0 in omega (arith, low, all));
+      next = λ other there. subst (IsNextCell x (route_cell count)) (same_at routes count route other at there) next;
+      erased = erased;
+    },
+  )
+  next_there count route have at next (inr (place, used)) = inr (
+    TooSmall,
+    record {
+      count = count;
+      route = route;
+      have = have;
+      at = at;
+      next = next;
+      place = place;
+      from = used.least;
+      below = used.below;
+      used = used.used;
+    },
+  )
 
   seen_from : (left count : ℕ) → count + left ≡ length routes → HaveCells routes x count → Seen
   seen_from zero count is have = all_there (subst (HaveCells routes x) (let e : count ≡ length routes = omega (arith, is) in e) have)
