@@ -5,7 +5,7 @@ use Rattle.std.proofs.lemmas.Bool.{cases_Bool, cases_lt, false≢true}
 use Rattle.std.proofs.lemmas.Slice.Eq.{bytes_eq-Decides}
 use Rattle.basics.specs.Numbers.{number_of, bytes_of}
 use Rattle.basics.proofs.CallerLemmas.{number_of-bytes_of-lt}
-use Rattle.cut_disk.specs.State.{DiskState}
+use Rattle.cut_disk.specs.State.{DiskState, Told}
 use Rattle.cut_disk.specs.Images.{firm}
 use Rattle.cell_store.specs.declared.kinds.Kind.{Kind}
 use Rattle.cell_store.specs.declared.kinds.Kind.TheVariants.{Twin, Log}
@@ -120,7 +120,9 @@ module _ (routes : List Route) (x : List ℕ) (few : length routes ≤ 256) wher
 -- ---- one disk
 
 same_bytes : (old : DiskState) (x y : List ℕ) → old.told ≡ Some (firm x) → old.told ≡ Some (firm y) → x ≡ y
-same_bytes old x y told also = cc
+same_bytes old x y told also =
+    let e : firm x ≡ firm y = cc in
+    ap (λ (t : Told). t.bytes) e
 
 pub refused_once : (routes : List Route) (old : DiskState) (one other : GrowFault) → length routes ≤ 256 → CannotBeGrown routes old one
     → CannotBeGrown routes old other → one ≡ other
@@ -308,7 +310,7 @@ module _ (routes : List Route) (x : List ℕ) (room : 32 ≤ length x) where
       ]
 
   pub seen : Seen
-  seen = seen_from (length routes) 0 refl (have_none routes x)
+  seen = seen_from (length routes) 0 (omega arith) (have_none routes x)
 
 -- ---- a store of version 2
 
