@@ -6,7 +6,7 @@ use Rattle.program_edge.specs.Input.{input_fault_text}
 use Rattle.program_edge.specs.Rows.{Row, memory_row}
 use Rattle.program_edge.specs.Inputs.{Reading, IsUnread, Offers, SourceFailed, GivesTooMuch}
 use Rattle.program_edge.specs.Endings.{Ending, PrintsWhole, EndsInRow}
-use Rattle.program_edge.proofs.CallerLemmas.{EndsInRow-at, EndsInRow-front, EndsInRow-rose, EndsInRow-only, EndsInRow-may}
+use Rattle.program_edge.proofs.CallerLemmas.{EndsInRow-at, EndsInRow-front, EndsInRow-rose, EndsInRow-only, EndsInRow-may, EndsInRow-done}
 use Rattle.cut_disk.specs.State.{DiskState}
 use Rattle.cut_disk.specs.Calls.{Rose, AsBefore}
 use Rattle.file_disk.specs.NamedDisks.{TellsFirmBytes}
