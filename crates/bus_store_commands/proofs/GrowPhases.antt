@@ -1,5 +1,5 @@
 -- The phases of a run of `slots grow FILE BUS`, put together
-use Rattle.std.proofs.Common.{◌≡◌, ◌∙◌, ℕ, List, [], ◌∷◌, ◌++◌, false, refl, sym, ap, subst, arith, ◌≤◌}
+use Rattle.std.proofs.Common.{◌≡◌, ◌∙◌, ℕ, List, [], ◌∷◌, ◌++◌, false, refl, sym, ap, subst}
 use Rattle.std.specs.Prelude.{Option, Some, None, Result, Ok, Err, length, codes}
 use Rattle.text_lines.specs.Written.{written}
 use Rattle.cut_disk.specs.State.{DiskState}

@@ -1,5 +1,5 @@
 -- One cause at most stands why a store isn't grown, none if it can be, and one of the two always
-use Rattle.std.proofs.Common.{◌≡◌, ◌⊎◌, ◌∙◌, ℕ, zero, suc, ◌+◌, ◌<◌, ◌≤◌, ◌^◌, List, [], ◌∷◌, length, get_or, refl, sym, ap, subst, inl, inr, arith, Some, None, replicate}
+use Rattle.std.proofs.Common.{◌≡◌, ◌⊎◌, ◌∙◌, ℕ, zero, suc, ◌+◌, ◌<◌, ◌≤◌, ◌^◌, List, length, refl, sym, ap, subst, inl, inr, arith, Some, None, replicate}
 use Rattle.std.specs.Prelude.{Option, bytes_eq}
 use Rattle.std.proofs.lemmas.Bool.{cases_Bool, cases_lt, false≢true}
 use Rattle.std.proofs.lemmas.Slice.Eq.{bytes_eq-Decides}
@@ -15,7 +15,6 @@ use Rattle.cell_store.specs.Twin.{cell_at, twin_size, fresh_cell, first_at}
 use Rattle.cell_store.specs.Store.{FewCells, HasHeader}
 use Rattle.freshness_routes.specs.declared.routes.Route.{Route}
 use Rattle.freshness_store.specs.Bound.{bound_cell, HoldsBound}
-use Rattle.store_plan.specs.declared.growing.Growth.{Growth}
 use Rattle.store_plan.specs.declared.growing.Growth.TheVariants.{Before, Counting, After, Beyond}
 use Rattle.store_plan.specs.Growing.{NoGrowth, HasHeadButCount, HasFreshCell, IsErasedAfter, with_number}
 use Rattle.store_plan.proofs.CallerLemmas.{decide-head, head-counted}

@@ -1,5 +1,5 @@
 use Rattle.std.proofs.Common.{ℕ, ◌+◌, refl, subst, arith}
-use Rattle.cut_disk.specs.Calls.{Rose}
+use Rattle.cut_disk.specs.Calls.{Rose, AsBefore}
 use Rattle.std.proofs.lemmas.Result.{err_from_is_err_and}
 use Rattle.store_growing.proofs.DiskSteps.{not_seen, bytes_refused, could_be, store_cut, rest_from, runs_all, runs_less, get_here}
 use Rattle.store_growing.proofs.growing.grow_image.Goals as goal
@@ -17,7 +17,8 @@ returns-in_err-see-clause-refused g c =
 pub returns-in_err-there-clause-refused : goal.returns-in_err-there-clause-refused
 returns-in_err-there-clause-refused g c =
     let p = err_from_is_err_and c.from_residual-in_err-there.result c.from_residual-in_err-there.ensures.1 in
-    let before = record { runs = c.see.ensures.runs; told = c.see.ensures.same; faults = c.in_ok-see.ensures.faults } in
+    let before : AsBefore 2 (g.D.Disk.state c.args.disk.now) (g.D.Disk.state c.see.new.disk) =
+    record { runs = c.see.ensures.runs; told = c.see.ensures.same; faults = c.in_ok-see.ensures.faults } in
     rw (p.1, p.2) (bytes_refused c.args.routes.now (g.D.Disk.state c.args.disk.now) (g.D.Disk.state c.see.new.disk) c.see.new.image
     (omega (arith, c.requires.room, c.requires.sized)) c.in_ok-see.ensures.sees c.in_ok-see.ensures.version _ before c.in_err-there.ensures.refused)
 
