@@ -24,6 +24,7 @@ use Rattle.store_growing.specs.declared.faults.GrowFault.{GrowFault}
 use Rattle.store_growing.specs.declared.faults.GrowFault.TheVariants as fault
 use Rattle.store_growing.specs.RouteCells.{route_cell, first_bound, IsNextCell, CanGrow, HasVersionTwo, RefusesBytes}
 use Rattle.store_growing.specs.GrowingStores.{OfBytes, GrowsOne, AddsRoutes, no_more, one_more, CutsRoutes, within, later, GrowsStore, CutsStore, NotGrown}
+use Rattle.store_growing.specs.GrowingStores.{HasRouteRoom, CanBeGrown, CannotBeGrown, newer, by_bytes}
 use Rattle.store_growing.specs.GrowSteps.{Sees, NotSeen, SaysStore, CanGet, RoomAfter, PlansNext, AddsOnDisk, CutsOnDisk}
 use Rattle.store_growing.proofs.CellsAdded.{Head, one_ends, one_within, erased_kept}
 
@@ -184,23 +185,36 @@ module _ (routes given : List Route) (cell count : ℕ) (image : List ℕ) (old 
 
 -- ---- why it isn't grown
 
-pub not_seen : (routes : List Route) (old new : DiskState) (f : GrowFault) → NotSeen old new f → NotGrown routes old new f
-not_seen routes old new fault.NotFormatted why = (why.0, λ x told. inl (why.1 x told))
-not_seen routes old new fault.DiskFailed why = (why.0, inl why.1)
-not_seen routes old new fault.TooSmall why = absurd why
-not_seen routes old new (fault.BadBound bad) why = absurd why
-not_seen routes old new fault.Memory why = absurd why
+pub not_seen : (routes : List Route) (old new : DiskState) (f : GrowFault) → HasRouteRoom routes old → NotSeen old new f → NotGrown routes old new f
+not_seen routes old new fault.NotFormatted room why = (why.0, λ x told. newer x room told (why.1 x told))
+not_seen routes old new fault.DiskFailed room why = (why.0, inl why.1)
+not_seen routes old new fault.TooSmall room why = absurd why
+not_seen routes old new (fault.BadBound bad) room why = absurd why
+not_seen routes old new fault.Memory room why = absurd why
 
-pub bytes_refused : (routes : List Route) (old new : DiskState) (image : List ℕ) (f : GrowFault) → AsBefore 2 old new → Sees old image
-    → RefusesBytes routes image f → NotGrown routes old new f
-bytes_refused routes old new image fault.NotFormatted before sees why =
-    (before, λ x told. inr (subst (λ (b : List ℕ). RefusesBytes routes b fault.NotFormatted) (sees x told) why))
-bytes_refused routes old new image fault.TooSmall before sees why =
-    (before, inr (λ x told. subst (λ (b : List ℕ). RefusesBytes routes b fault.TooSmall) (sees x told) why))
-bytes_refused routes old new image (fault.BadBound bad) before sees why =
-    (before, λ x told. subst (λ (b : List ℕ). RefusesBytes routes b (fault.BadBound bad)) (sees x told) why)
-bytes_refused routes old new image fault.Memory before sees why = absurd why
-bytes_refused routes old new image fault.DiskFailed before sees why = absurd why
+module _ (routes : List Route) (old new : DiskState) (image : List ℕ) (room : HasRouteRoom routes old) (sees : Sees old image)
+    (version : OfBytes old (λ x. ¬ HasVersionTwo x)) where
+  cause : (f : GrowFault) → RefusesBytes routes image f → OfBytes old (λ x. CannotBeGrown routes old f)
+  cause f why x told = by_bytes x f room told (version x told) (subst (λ (b : List ℕ). RefusesBytes routes b f) (sees x told) why)
+
+  pub bytes_refused : (f : GrowFault) → AsBefore 2 old new → RefusesBytes routes image f → NotGrown routes old new f
+  bytes_refused fault.NotFormatted before why = (before, cause fault.NotFormatted why)
+  bytes_refused fault.TooSmall before why = (before, inr (cause fault.TooSmall why))
+  bytes_refused (fault.BadBound bad) before why = (before, cause (fault.BadBound bad) why)
+  bytes_refused fault.Memory before why = absurd why
+  bytes_refused fault.DiskFailed before why = absurd why
+
+-- and why it is
+pub could_be : (routes : List Route) (old : DiskState) (image : List ℕ) (count : ℕ) → HasRouteRoom routes old → Sees old image
+    → OfBytes old (λ x. ¬ HasVersionTwo x) → CanGrow routes image count → OfBytes old (λ x. CanBeGrown routes old)
+could_be routes old image count room sees version can x told = record {
+  room = room;
+  bytes = x;
+  told = told;
+  version = version x told;
+  count = count;
+  could = subst (λ (b : List ℕ). CanGrow routes b count) (sees x told) can;
+}
 
 pub as_it_was : (disk : DiskState) → AsBefore 2 disk disk
 as_it_was disk = as_before_more 2 (omega arith) (as_before_none disk)

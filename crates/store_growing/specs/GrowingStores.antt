@@ -1,6 +1,6 @@
 -- What `grow_store` makes of a disk: a cell at the end of the store for each route that the bus has more, one after the
 -- other, each whole or absent
-use Rattle.std.specs.Prelude.{◌≡◌, ◌⊎◌, ℕ, ◌+◌, ◌<◌, List, [], ◌∷◌, length, drop, Some}
+use Rattle.std.specs.Prelude.{◌≡◌, ◌⊎◌, ℕ, ◌+◌, ◌<◌, ◌≤◌, List, [], ◌∷◌, length, drop, Some}
 use Rattle.cut_disk.specs.State.{DiskState}
 use Rattle.cut_disk.specs.Images.{firm, EachImage}
 use Rattle.cut_disk.specs.Calls.{Rose, AsBefore}
@@ -61,14 +61,37 @@ GrowsStore routes old new = OfBytes old (λ x. (z : List ℕ) × GrownTo routes 
 abbrev pub CutsStore : List Route → DiskState → DiskState → Type 0
 CutsStore routes old new = (new.told ≡ old.told) ⊎ OfBytes old (λ x. EachImage new.told (GrownInPart routes x))
 
+-- the disk has room for a cell for each route, and for one more
+abbrev pub HasRouteRoom : List Route → DiskState → Type 0
+HasRouteRoom routes disk = twin_size (route_cell (length routes) + 1) ≤ disk.size
+
+-- The store on a disk can be grown to a cell for each route: there is room, and the bytes that the disk tells, none of
+-- them loose, have no store of version 2, but one that can get the cells.
+pub record CanBeGrown (routes : List Route) (old : DiskState) : Type 0 where
+  pub room : HasRouteRoom routes old
+  pub bytes : List ℕ
+  pub told : old.told ≡ Some (firm bytes)
+  pub version : ¬ HasVersionTwo bytes
+  pub count : ℕ
+  pub could : CanGrow routes bytes count
+
+-- Why it can't, by the first cause: there is no room; else the bytes have a store of version 2; else what they say of
+-- the cells. The other two faults have no such cause.
+pub data CannotBeGrown (routes : List Route) (old : DiskState) : GrowFault → Type 0 where
+  no_room : old.size < twin_size (route_cell (length routes) + 1) → CannotBeGrown routes old TooSmall
+  newer : (x : List ℕ) → HasRouteRoom routes old → old.told ≡ Some (firm x) → HasVersionTwo x
+      → CannotBeGrown routes old NotFormatted
+  by_bytes : (x : List ℕ) (fault : GrowFault) → HasRouteRoom routes old → old.told ≡ Some (firm x) → ¬ HasVersionTwo x
+      → RefusesBytes routes x fault → CannotBeGrown routes old fault
+
 -- Why a store doesn't get the cells. Nothing was written, unless a call of the disk failed.
 abbrev pub NotGrown : List Route → DiskState → DiskState → GrowFault → Type 0
 NotGrown routes old new TooSmall =
     AsBefore 2 old new
-    × ((old.size < twin_size (route_cell (length routes) + 1)) ⊎ OfBytes old (λ x. RefusesBytes routes x TooSmall))
+    × ((old.size < twin_size (route_cell (length routes) + 1)) ⊎ OfBytes old (λ x. CannotBeGrown routes old TooSmall))
 NotGrown routes old new NotFormatted =
-    AsBefore 2 old new × OfBytes old (λ x. HasVersionTwo x ⊎ RefusesBytes routes x NotFormatted)
+    AsBefore 2 old new × OfBytes old (λ x. CannotBeGrown routes old NotFormatted)
 NotGrown routes old new (BadBound cell) =
-    AsBefore 2 old new × OfBytes old (λ x. RefusesBytes routes x (BadBound cell))
+    AsBefore 2 old new × OfBytes old (λ x. CannotBeGrown routes old (BadBound cell))
 NotGrown routes old new Memory = AsBefore 2 old new
 NotGrown routes old new DiskFailed = Rose old.faults new.faults × CutsStore routes old new

@@ -4,7 +4,7 @@ ghost use Rattle.cut_disk.specs.Calls.{Rose, Runs};
 ghost use Rattle.cell_store.specs.Twin.{twin_size};
 ghost use Rattle.store_plan.specs.Plans.{PlanFits};
 ghost use Rattle.store_growing.specs.RouteCells.{route_cell, IsNextCell, HasVersionTwo};
-ghost use Rattle.store_growing.specs.GrowingStores.{OfBytes, GrowsStore, NotGrown};
+ghost use Rattle.store_growing.specs.GrowingStores.{OfBytes, CanBeGrown, GrowsStore, NotGrown};
 ghost use Rattle.store_growing.specs.GrowSteps.{Sees, NotSeen, SaysStore, CanGet, RoomAfter};
 ghost use Rattle.store_growing.specs.GrowSteps.{PlansNext, AddsOnDisk, CutsOnDisk};
 
@@ -25,6 +25,7 @@ use store_plan::{Plan, has_head, perform, plan_count, plan_growth};
 pub fn grow_store<D: Disk>(alloc: Global, disk: &mut D, routes: &[Route]) -> Result<u16, GrowFault>
     requires { length routes.now ≤ 256 }
     ensures count { IfOk result (λ n. n ≡ route_cell (length routes.now)) }
+    ensures could { OnOk result (OfBytes (D.state disk.old) (λ x. CanBeGrown routes.now (D.state disk.old))) }
     ensures grown { OnOk result (GrowsStore routes.now (D.state disk.old) (D.state disk.new)) }
     ensures faults { OnOk result ((D.state disk.new).faults ≡ (D.state disk.old).faults) }
     ensures refused { IfErr result (NotGrown routes.now (D.state disk.old) (D.state disk.new)) }
@@ -45,6 +46,7 @@ fn grow_image<D: Disk>(disk: &mut D, image: &mut [u8], routes: &[Route]) -> Resu
     requires room { twin_size (route_cell (length routes.now) + 1) ≤ length image.old }
     requires sized { length image.old ≡ (D.state disk.old).size }
     ensures count { IfOk result (λ n. n ≡ route_cell (length routes.now)) }
+    ensures could { OnOk result (OfBytes (D.state disk.old) (λ x. CanBeGrown routes.now (D.state disk.old))) }
     ensures grown { OnOk result (GrowsStore routes.now (D.state disk.old) (D.state disk.new)) }
     ensures faults { OnOk result ((D.state disk.new).faults ≡ (D.state disk.old).faults) }
     ensures refused { IfErr result (NotGrown routes.now (D.state disk.old) (D.state disk.new)) }

@@ -1,12 +1,13 @@
 //! Laws of a store that grows: the contract of each function is the law, and its body is empty.
-ghost use Rattle.std.specs.Prelude.{◌≡◌, ◌+◌, ◌<◌, ◌≤◌, ℕ, List, All, length, Some};
+ghost use Rattle.std.specs.Prelude.{◌≡◌, ◌⊎◌, ◌+◌, ◌<◌, ◌≤◌, ℕ, List, All, length, Some};
+ghost use Rattle.cut_disk.specs.State.{DiskState};
+ghost use Rattle.cut_disk.specs.Images.{firm};
 ghost use Rattle.cell_store.specs.Twin.{cell_at, twin_size};
 ghost use Rattle.freshness_routes.specs.declared.routes.Route.{Route};
 ghost use Rattle.freshness_routes.specs.Config.{IsRoute};
 ghost use Rattle.store_growing.specs.declared.faults.GrowFault.{GrowFault};
 ghost use Rattle.store_growing.specs.RouteCells.{route_cell, RouteAt, first_bound, HoldsRoute, CanGrow, HasVersionTwo};
-ghost use Rattle.store_growing.specs.RouteCells.{RefusesBytes};
-ghost use Rattle.store_growing.specs.GrowingStores.{CutsRoutes, GrownTo, GrownInPart};
+ghost use Rattle.store_growing.specs.GrowingStores.{CutsRoutes, GrownTo, GrownInPart, CanBeGrown, CannotBeGrown};
 
 /// Whenever the power goes while a store gets cells at its end, each cell that it had is as it was: no counter of a
 /// slot falls, and no bound.
@@ -39,8 +40,21 @@ pub fn a_cut_store_can_grow()
         → (¬ HasVersionTwo y) × ((count : ℕ) × CanGrow routes y count) }
 {}
 
-/// Bytes that can grow aren't refused.
+/// A store that can be grown isn't refused for a cause of its own: only memory and the disk can fail.
 pub fn a_store_that_can_grow_is_not_refused()
-    ensures { (routes : List Route) (x : List ℕ) (count : ℕ) (fault : GrowFault) → length routes ≤ 256
-        → CanGrow routes x count → ¬ RefusesBytes routes x fault }
+    ensures { (routes : List Route) (old : DiskState) (fault : GrowFault) → length routes ≤ 256
+        → CanBeGrown routes old → ¬ CannotBeGrown routes old fault }
+{}
+
+/// One disk is refused for one cause: the first in a fixed order.
+pub fn refused_once()
+    ensures { (routes : List Route) (old : DiskState) (one other : GrowFault) → length routes ≤ 256
+        → CannotBeGrown routes old one → CannotBeGrown routes old other → one ≡ other }
+{}
+
+/// Bytes that are told, none of them loose, can be grown, or there is a cause why not: no disk is between the two.
+pub fn can_or_cannot()
+    ensures { (routes : List Route) (old : DiskState) (x : List ℕ) → length routes ≤ 256 → old.told ≡ Some (firm x)
+        → length x ≡ old.size
+        → CanBeGrown routes old ⊎ ((fault : GrowFault) × CannotBeGrown routes old fault) }
 {}
