@@ -10,7 +10,7 @@ use Rattle.cell_store.specs.Twin.{cell_at, is_live, twin_size, first_at, second_
 use Rattle.cell_store.proofs.CallerLemmas.{part-same, part-splice, SameOutside-after, SameOutside-refl, SameOutside-widen}
 use Rattle.freshness_routes.specs.declared.routes.Route.{Route}
 use Rattle.freshness_routes.specs.Config.{IsRoute}
-use Rattle.store_growing.specs.RouteCells.{route_cell, RouteAt, first_bound, HoldsRoute, IsErased, IsFree, HasHead, EndsErased, CanGrow}
+use Rattle.store_growing.specs.RouteCells.{route_cell, RouteAt, first_bound, HoldsRoute, IsErased, IsFree, HaveCells, HasHead, EndsErased, CanGrow}
 use Rattle.store_growing.specs.GrowingStores.{first_copy, with_cell, with_cells, with_routes}
 use Rattle.store_growing.proofs.OneCell.{Apart, head_same, counted_same, cell_same, held_same, erased_same, free_same, erased_closed, whole_holds, copy_sized, with_cell_same}
 
@@ -37,6 +37,31 @@ drop_at_route (first ∷ routes) (suc count) route rest is =
     let more = drop_at_route routes count route rest is in
     let e : suc count + 1 ≡ suc (count + 1) = omega arith in
     ((let low = more.0.0 in omega (arith, low), more.0.1), ap (λ (k : ℕ). drop k (first ∷ routes)) e ∙ more.1)
+
+-- ---- the routes that have their cells, and the cells that can be written
+
+pub have_none : (routes : List Route) (x : List ℕ) → HaveCells routes x 0
+have_none routes x = record { few = omega arith; held = λ place route low at. absurd (omega (arith, low)) }
+
+pub have_more : (routes : List Route) (x : List ℕ) (count : ℕ) (route : Route) → HaveCells routes x count → RouteAt routes count route
+    → HoldsRoute x (route_cell count) route → HaveCells routes x (count + 1)
+have_more routes x count route have at held = record {
+  few = let low = at.0 in omega (arith, low);
+  held = λ place other low there. elim (cases_lt place count) [
+    | inl before ↦ have.held place other before there
+    | inr from ↦ (let e : place ≡ count = omega (arith, from, low) in
+        let same : route ≡ other = same_at routes count route other at (subst (λ (k : ℕ). RouteAt routes k other) e there) in
+        subst (λ (k : ℕ). HoldsRoute x (route_cell k) other) (sym e)
+        (subst (λ (r : Route). HoldsRoute x (route_cell count) r) same held))
+  ];
+}
+
+pub first_or_later : (x : List ℕ) (from : ℕ) → IsFree x (route_cell from) → (place : ℕ) → from ≤ place
+    → (from < place → IsFree x (route_cell place)) → IsFree x (route_cell place)
+first_or_later x from free place least later = elim (cases_lt from place) [
+  | inl more ↦ later more
+  | inr to ↦ (let e : from ≡ place = omega (arith, least, to) in subst (λ (k : ℕ). IsFree x (route_cell k)) e free)
+]
 
 -- ---- what stays outside of the cells that are written
 
@@ -125,16 +150,7 @@ module _ (routes : List Route) (x : List ℕ) (count : ℕ) (route : Route) (few
     pub one_more : part (first_at here) 34 y ≡ first_copy route → CanGrow routes y (count + 1)
     one_more whole = record {
       head = head_kept;
-      have = record {
-        few = omega (arith, below);
-        held = λ place other low there. elim (cases_lt place count) [
-          | inl before ↦ held_kept place other before there
-          | inr from ↦ (let e : place ≡ count = omega (arith, from, low) in
-              let is : route ≡ other = same_at routes count route other at (subst (λ (k : ℕ). RouteAt routes k other) e there) in
-              subst (λ (k : ℕ). HoldsRoute y (route_cell k) other) (sym e)
-              (subst (λ (r : Route). HoldsRoute y here r) is (first_holds whole)))
-        ];
-      };
+      have = have_more routes y count route (record { few = can.have.few; held = held_kept }) at (first_holds whole);
       free = λ place from low. free_after place (omega (arith, from)) low;
       ends = ends_kept;
     }

@@ -135,18 +135,21 @@ module _ (routes : List Route) (w y : List ℕ) (room : twin_size (route_cell (l
   none_lacking : (v : List ℕ) → with_routes routes (length routes) v ≡ v
   none_lacking v = ap (λ (rs : List Route). with_cells (route_cell (length routes)) rs v) (drop_all routes)
 
+  pub number_can : CanGrow routes y (length routes)
+  number_can = record {
+    head = but-count (route_cell (length routes)) w y (omega (arith, room)) same can.head;
+    have = record {
+      few = omega arith;
+      held = λ place route low at. held_same (route_cell place) 10 2 route w y same (inr (omega arith)) (can.have.held place route low at);
+    };
+    free = λ place from low. absurd (omega (arith, from, low));
+    ends = erased_same (first_at (route_cell (length routes))) 68 10 2 w y same (inr (omega arith)) can.ends;
+  }
+
   pub number_goes : Goes routes w y
   number_goes = record {
     count = length routes;
-    can = record {
-      head = but-count (route_cell (length routes)) w y (omega (arith, room)) same can.head;
-      have = record {
-        few = omega arith;
-        held = λ place route low at. held_same (route_cell place) 10 2 route w y same (inr (omega arith)) (can.have.held place route low at);
-      };
-      free = λ place from low. absurd (omega (arith, from, low));
-      ends = erased_same (first_at (route_cell (length routes))) 68 10 2 w y same (inr (omega arith)) can.ends;
-    };
+    can = number_can;
     same = ap (with_number (route_cell (length routes))) (none_lacking y)
         ∙ written_over 10 (bytes_of 2 (route_cell (length routes))) w y (omega (arith, room, length-bytes_of 2 (route_cell (length routes))))
         (subst (λ (n : ℕ). SameOutside 10 n w y) (sym (length-bytes_of 2 (route_cell (length routes)))) same);

@@ -72,31 +72,35 @@ abbrev pub CutsStore : List Route → DiskState → DiskState → Type 0
 CutsStore routes old new = (new.told ≡ old.told) ⊎ OfBytes old (λ x. EachImage new.told (GrownInPart routes x))
 
 -- the disk has room for a cell for each route, and for one more
-abbrev pub HasRoomFor : List Route → DiskState → Type 0
-HasRoomFor routes disk = twin_size (route_cell (length routes) + 1) ≤ disk.size
+abbrev pub HasRouteRoom : List Route → DiskState → Type 0
+HasRouteRoom routes disk = twin_size (route_cell (length routes) + 1) ≤ disk.size
 
--- the store on a disk, none of whose bytes is loose, can be grown
+-- The store on a disk can be grown to a cell for each route: there is room, and the bytes that the disk tells, none of
+-- them loose, have no store of version 2, but one that can get the cells.
 pub record CanBeGrown (routes : List Route) (old : DiskState) : Type 0 where
-  pub room : HasRoomFor routes old
+  pub room : HasRouteRoom routes old
   pub bytes : List ℕ
   pub told : old.told ≡ Some (firm bytes)
   pub version : ¬ HasVersionTwo bytes
   pub count : ℕ
   pub could : CanGrow routes bytes count
 
--- why it can't, in the order in which the causes are looked for; none for Memory, DiskFailed
+-- Why it can't, by the first cause: there is no room; else the bytes have a store of version 2; else what they say of
+-- the cells. The other two faults have no such cause.
 pub data CannotBeGrown (routes : List Route) (old : DiskState) : GrowFault → Type 0 where
-  no_room : ¬ HasRoomFor routes old → CannotBeGrown routes old TooSmall
-  newer : (x : List ℕ) → HasRoomFor routes old → old.told ≡ Some (firm x) → HasVersionTwo x
+  no_room : old.size < twin_size (route_cell (length routes) + 1) → CannotBeGrown routes old TooSmall
+  newer : (x : List ℕ) → HasRouteRoom routes old → old.told ≡ Some (firm x) → HasVersionTwo x
       → CannotBeGrown routes old NotFormatted
-  by_bytes : (x : List ℕ) (fault : GrowFault) → HasRoomFor routes old → old.told ≡ Some (firm x) → ¬ HasVersionTwo x
+  by_bytes : (x : List ℕ) (fault : GrowFault) → HasRouteRoom routes old → old.told ≡ Some (firm x) → ¬ HasVersionTwo x
       → RefusesBytes routes x fault → CannotBeGrown routes old fault
 
 -- Why a store doesn't get the cells. Nothing was written, unless a call of the disk failed.
 abbrev pub NotGrown : List Route → DiskState → DiskState → GrowFault → Type 0
 NotGrown routes old new TooSmall =
-    AsBefore 2 old new × ((¬ HasRoomFor routes old) ⊎ OfBytes old (λ x. CannotBeGrown routes old TooSmall))
-NotGrown routes old new NotFormatted = AsBefore 2 old new × OfBytes old (λ x. CannotBeGrown routes old NotFormatted)
+    AsBefore 2 old new
+    × ((old.size < twin_size (route_cell (length routes) + 1)) ⊎ OfBytes old (λ x. CannotBeGrown routes old TooSmall))
+NotGrown routes old new NotFormatted =
+    AsBefore 2 old new × OfBytes old (λ x. CannotBeGrown routes old NotFormatted)
 NotGrown routes old new (BadBound cell) =
     AsBefore 2 old new × OfBytes old (λ x. CannotBeGrown routes old (BadBound cell))
 NotGrown routes old new Memory = AsBefore 2 old new
