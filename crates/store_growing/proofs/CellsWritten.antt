@@ -11,6 +11,7 @@ use Rattle.cell_store.proofs.CallerLemmas.{part-same, part-splice, SameOutside-a
 use Rattle.freshness_routes.specs.declared.routes.Route.{Route}
 use Rattle.freshness_routes.specs.Config.{IsRoute}
 use Rattle.store_growing.specs.RouteCells.{route_cell, RouteAt, first_bound, HoldsRoute, IsErased, IsFree, HaveCells, HasHead, EndsErased, CanGrow}
+use Rattle.store_growing.specs.LookSteps.{HaveJust}
 use Rattle.store_growing.specs.GrowingStores.{first_copy, with_cell, with_cells, with_routes}
 use Rattle.store_growing.proofs.OneCell.{Apart, head_same, counted_same, cell_same, held_same, erased_same, free_same, erased_closed, whole_holds, copy_sized, with_cell_same}
 
@@ -55,6 +56,16 @@ have_more routes x count route have at held = record {
         (subst (λ (r : Route). HoldsRoute x (route_cell count) r) same held))
   ];
 }
+
+pub have_just : (routes : List Route) (x : List ℕ) (count : ℕ) (route : Route) → HaveCells routes x count → RouteAt routes count route
+    → ¬ HoldsRoute x (route_cell count) route → HaveJust routes x count
+have_just routes x count route have at none = record {
+  have = have;
+  lacks = λ other there. subst (λ (r : Route). ¬ HoldsRoute x (route_cell count) r) (same_at routes count route other at there) none;
+}
+
+pub have_all : (routes : List Route) (x : List ℕ) → HaveCells routes x (length routes) → HaveJust routes x (length routes)
+have_all routes x have = record { have = have; lacks = λ route at. absurd (let low = at.0 in omega (arith, low)) }
 
 pub first_or_later : (x : List ℕ) (from : ℕ) → IsFree x (route_cell from) → (place : ℕ) → from ≤ place
     → (from < place → IsFree x (route_cell place)) → IsFree x (route_cell place)

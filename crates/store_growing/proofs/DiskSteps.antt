@@ -77,8 +77,8 @@ only_read most old new only = record { runs = only.runs; told = only.told; fault
 told_same : {P : List ℕ → Type 0} (old : Option Told) (x : List ℕ) → old ≡ Some (firm x) → P x → (t : Told) → old ≡ Some t → P t.bytes
 told_same {P} old x told p t also = subst (λ (s : Told). P s.bytes) (sym (same_Some _ _ (sym also ∙ told))) p
 
-module _ (cell : ℕ) (route : Route) (payload copy : List ℕ) (old : DiskState) (disk : IsDisk old) (room : twin_size (cell + 1) ≤ old.size)
-    (payload_is : payload ≡ first_bound route) (copy_is : copy ≡ 0 ∷ payload) where
+module _ (cell at : ℕ) (route : Route) (payload copy : List ℕ) (old : DiskState) (disk : IsDisk old) (room : twin_size (cell + 1) ≤ old.size)
+    (at_is : at ≡ first_at cell) (payload_is : payload ≡ first_bound route) (copy_is : copy ≡ 0 ∷ payload) where
   copy_first : copy ≡ 0 ∷ first_bound route
   copy_first = copy_is ∙ ap (λ (b : List ℕ). 0 ∷ b) payload_is
 
@@ -88,10 +88,11 @@ module _ (cell : ℕ) (route : Route) (payload copy : List ℕ) (old : DiskState
   long : (x : List ℕ) → old.told ≡ Some (firm x) → twin_size (cell + 1) ≤ length x
   long x told = let e = told_sized old x disk told in omega (arith, e, room)
 
-  pub cell_written : (mid new : DiskState) → Lasts (first_at cell + 1) copy old.told mid.told → Lasts (first_at cell) (167 ∷ []) mid.told new.told
+  pub cell_written : (mid new : DiskState) → Lasts (at + 1) copy old.told mid.told → Lasts at (167 ∷ []) mid.told new.told
       → MakesOfBytes (with_cell cell route) old new
   cell_written mid new fills opens x told =
-      opens (firm (splice (first_at cell + 1) copy x)) (fills (firm x) told)
+      (subst (λ (k : ℕ). Lasts k (167 ∷ []) mid.told new.told) at_is opens) (firm (splice (first_at cell + 1) copy x))
+      ((subst (λ (k : ℕ). Lasts (k + 1) copy old.told mid.told) at_is fills) (firm x) told)
       ∙ ap (λ (w : List ℕ). Some (firm w)) (
         splice-gate 33 (first_at cell) 167 copy x x copy_long (let l = long x told in omega (arith, l)) (SameOutside-refl (first_at cell) 1 x)
             ∙ ap (λ (b : List ℕ). splice (first_at cell) (167 ∷ b) x) copy_first,
@@ -104,19 +105,21 @@ module _ (cell : ℕ) (route : Route) (payload copy : List ℕ) (old : DiskState
   abbrev Leaves : List ℕ → DiskState → Type 0
   Leaves x new = EachImage new.told (Unfinished 33 (first_at cell) (first_copy route) x)
 
-  pub filling_cut : (new : DiskState) → Tears (first_at cell + 1) (length copy) old.told new.told → CutsCellOnDisk cell route old new
+  pub filling_cut : (new : DiskState) → Tears (at + 1) (length copy) old.told new.told → CutsCellOnDisk cell route old new
   filling_cut new torn x told closed =
       filling 33 (first_at cell) (first_copy route) old.told old.told new.told (gate_closed x told closed)
       (torn-outside (first_at cell + 1) 33 old.told new.told (λ t is. let e = disk.bytes_sized t is in omega (arith, e, room))
-      (subst (λ (n : ℕ). Tears (first_at cell + 1) n old.told new.told) copy_long torn)) x told
+      (subst (λ (k : ℕ). Tears (k + 1) 33 old.told new.told) at_is (subst (λ (n : ℕ). Tears (at + 1) n old.told new.told) copy_long torn))) x told
 
-  pub opening_cut : (mid new : DiskState) → IsDisk mid → mid.size ≡ old.size → Lasts (first_at cell + 1) copy old.told mid.told
-      → Tears (first_at cell) 1 mid.told new.told → CutsCellOnDisk cell route old new
+  pub opening_cut : (mid new : DiskState) → IsDisk mid → mid.size ≡ old.size → Lasts (at + 1) copy old.told mid.told
+      → Tears at 1 mid.told new.told → CutsCellOnDisk cell route old new
   opening_cut mid new disk_mid size fills torn x told closed =
       subst (λ (b : List ℕ). EachImage new.told (Unfinished 33 (first_at cell) (167 ∷ b) x)) copy_first
       (opening 33 (first_at cell) copy copy_long old.told old.told mid.told new.told
-      (λ t is. let e = disk.bytes_sized t is in omega (arith, e, room)) (gate_closed x told closed) fills
-      (torn-outside (first_at cell) 1 mid.told new.told (λ t is. let e = disk_mid.bytes_sized t is in omega (arith, e, room, size)) torn) x told)
+      (λ t is. let e = disk.bytes_sized t is in omega (arith, e, room)) (gate_closed x told closed)
+      (subst (λ (k : ℕ). Lasts (k + 1) copy old.told mid.told) at_is fills)
+      (torn-outside (first_at cell) 1 mid.told new.told (λ t is. let e = disk_mid.bytes_sized t is in omega (arith, e, room, size))
+      (subst (λ (k : ℕ). Tears k 1 mid.told new.told) at_is torn)) x told)
 
 -- ---- one cell, and the others
 

@@ -24,7 +24,7 @@ use Rattle.store_growing.specs.RouteCells.{CanGrow, HasVersionTwo, HoldsOther, R
 use Rattle.store_growing.specs.LookSteps.{HaveJust, UsedAt}
 use Rattle.store_growing.specs.GrowingStores.{OfBytes, CanBeGrown, CannotBeGrown, no_room, newer, by_bytes}
 use Rattle.store_growing.proofs.OneCell.{free_isnt_held}
-use Rattle.store_growing.proofs.CellsWritten.{same_at, routes_some, have_none, have_more, first_or_later}
+use Rattle.store_growing.proofs.CellsWritten.{routes_some, have_none, have_more, have_just, have_all, first_or_later}
 
 -- ---- the first route without its cell is one, and so is the first cell that can't be written
 
@@ -231,21 +231,14 @@ free_to x from (suc left) = elim (free_or_not x (route_cell from)) [
 -- so many of the first routes have their cells, and the next has none
 have_to : (routes : List Route) (x : List ℕ) (left count : ℕ) → count + left ≡ length routes → HaveCells routes x count
     → (n : ℕ) × HaveJust routes x n
-have_to routes x zero count is have = (
-  count,
-  record { have = have; lacks = λ route at. absurd (let low = at.0 in omega (arith, low, is)) },
-)
+have_to routes x zero count is have =
+    (count, subst (HaveJust routes x) (let e : length routes ≡ count = omega (arith, is) in e)
+    (have_all routes x (subst (HaveCells routes x) (let e : count ≡ length routes = omega (arith, is) in e) have)))
 have_to routes x (suc left) count is have =
     let (route, at) = routes_some routes count (omega (arith, is)) in
     elim (held_or_not x (route_cell count) route (cell_at x (route_cell count)) refl) [
       | inl held ↦ have_to routes x left (count + 1) (omega (arith, is)) (have_more routes x count route have at held)
-      | inr none ↦ (
-        count,
-        record {
-          have = have;
-          lacks = λ other there. subst (λ (r : Route). ¬ HoldsRoute x (route_cell count) r) (same_at routes count route other at there) none;
-        },
-      )
+      | inr none ↦ (count, have_just routes x count route have at none)
     ]
 
 module _ (routes : List Route) (x : List ℕ) where

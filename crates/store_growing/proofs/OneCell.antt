@@ -1,8 +1,9 @@
 -- A change of some bytes: which parts of a store, which cells and what of its header stay
-use Rattle.std.proofs.Common.{◌≡◌, ◌⊎◌, ◌∙◌, ◌≢◌, ℕ, ◌+◌, ◌-◌, ◌<◌, ◌≤◌, List, ◌∷◌, length, take, get_or, refl, sym, ap, subst, inl, inr, arith, rules}
+use Rattle.std.proofs.Common.{◌≡◌, ◌⊎◌, ◌∙◌, ◌≢◌, ℕ, ◌+◌, ◌-◌, ◌<◌, ◌≤◌, List, ◌∷◌, length, take, drop, get_or, eqb, refl, sym, ap, subst, inl, inr, arith, rules}
 use Rattle.std.proofs.Common.{Some, None, Bool, true, false, replicate}
 use Rattle.std.proofs.lemmas.Bool.{cases_lt}
-use Rattle.std.proofs.lemmas.List.{places, same_lists, ext_get_or}
+use Rattle.std.proofs.lemmas.List.{places, same_lists, ext_get_or, length-take, take_all, get_or-take, get_or-drop}
+use borrow.Rule.Slice.PartMut.{put_mid}
 use Rattle.basics.specs.Numbers.{bytes_of}
 use Rattle.basics.proofs.CallerLemmas.{length-bytes_of}
 use Rattle.cut_disk.specs.Images.{splice}
@@ -54,6 +55,24 @@ is_written at new x y inside s e =
 take-splice : (at n : ℕ) (new x : List ℕ) → at + length new ≤ n → n ≤ length x → take n (splice at new x) ≡ splice at new (take n x)
 unfolding splice
 take-splice at n new x inside room = same_lists _ _ (search (rules, places)) (λ k d h. grind (arith, places))
+
+-- a part of a list that is put there anew
+put_is_splice : (at k : ℕ) (x new : List ℕ) → k ≡ length new → at + length new ≤ length x → put_mid at k x new ≡ splice at new x
+unfolding splice
+put_is_splice at k x new same inside = same_lists _ _ (search (rules, places)) (λ i d h. grind (arith, places))
+
+-- the first 32 bytes with a number put into them are those of the whole list with it
+pub head_with_number : (n : ℕ) (x first two : List ℕ) → 32 ≤ length x → first ≡ take 32 x → two ≡ bytes_of 2 n
+    → part 0 32 (put_mid 10 2 first two) ≡ part 0 32 (with_number n x)
+head_with_number n x first two room first_is two_is =
+    let short : length two ≡ 2 = ap length two_is ∙ length-bytes_of 2 n in
+    let long : length first ≡ 32 = ap length first_is ∙ (let l = length-take 32 x in omega (arith, l, room)) in
+    let put : put_mid 10 2 first two ≡ splice 10 two first = put_is_splice 10 2 first two (sym short) (omega (arith, short, long)) in
+    let made : length (splice 10 two first) ≡ 32 = length-splice 10 two first (omega (arith, short, long)) ∙ long in
+    ap (take 32) put
+    ∙ (take_all 32 (splice 10 two first) (omega (arith, made))
+    ∙ (ap (λ (b : List ℕ). splice 10 b first) two_is
+    ∙ (ap (splice 10 (bytes_of 2 n)) first_is ∙ sym (take-splice 10 32 (bytes_of 2 n) x (omega (arith, length-bytes_of 2 n)) room))))
 
 -- the same header, but for its number
 pub head_same : (n : ℕ) (x y : List ℕ) → 32 ≤ length x → 32 ≤ length y → part 0 32 y ≡ part 0 32 x → HasHeadButCount x n → HasHeadButCount y n
@@ -119,6 +138,13 @@ ones_closed = refl
 
 pub erased_closed : (at : ℕ) (x : List ℕ) → IsErased at 34 x → is_live (part at 34 x) ≡ false
 erased_closed at x erased = elim erased [ inl zeros ↦ ap is_live zeros ∙ zeros_closed | inr ones ↦ ap is_live ones ∙ ones_closed ]
+
+-- whether a copy is live, by its first byte
+pub gate_at : (at : ℕ) (x : List ℕ) → is_live (part at 34 x) ≡ eqb (get_or x at 0) 167
+unfolding is_live
+gate_at at x =
+    let e : at + 0 ≡ at = omega arith in
+    ap (λ (b : ℕ). eqb b 167) (get_or-take 34 (drop at x) 0 0 (omega arith) ∙ (get_or-drop at x 0 0 ∙ ap (λ (k : ℕ). get_or x k 0) e))
 
 -- two copies that aren't live hold nothing
 none_live : (first second : List ℕ) → is_live first ≡ false → is_live second ≡ false → cell_of first second ≡ None

@@ -1,8 +1,9 @@
 //! What the bytes of a store say of the cells of a bus's routes.
 ghost use Rattle.std.specs.Prelude.{◌≡◌, ◌<◌, ◌≤◌, ◌+◌, ◌↔◌, length, IsTrue, IfOk, IfErr, MatchOption};
-ghost use Rattle.cell_store.specs.Twin.{twin_size, first_at, second_at};
+ghost use Rattle.cell_store.specs.Layout.{part};
+ghost use Rattle.cell_store.specs.Twin.{twin_size, first_at, is_live};
 ghost use Rattle.store_plan.specs.Growing.{HasHeadButCount};
-ghost use Rattle.store_growing.specs.RouteCells.{route_cell, HoldsRoute, IsErased, IsFree, FreeFrom, CanGrow};
+ghost use Rattle.store_growing.specs.RouteCells.{route_cell, HoldsRoute, cells_counted, IsErased, IsFree, FreeFrom, CanGrow};
 ghost use Rattle.store_growing.specs.RouteCells.{RefusesBytes};
 ghost use Rattle.store_growing.specs.LookSteps.{HaveJust, UsedAt};
 
@@ -95,9 +96,29 @@ fn is_free(image: &[u8], cell: u16) -> bool
     requires room { twin_size (cell + 1) ≤ length image.now }
     ensures { IsTrue result ↔ IsFree image.now cell }
 {
-    let counted = u16::from_be_bytes([image[10], image[11]]);
-    let at = pair_place(cell) as usize;
-    counted <= cell && image[at] != LIVE && is_erased_copy(image, at + 34)
+    if is_counted(image, cell) {
+        return false;
+    }
+    if is_open(image, cell) {
+        return false;
+    }
+    is_erased_copy(image, pair_place(cell) as usize + 34)
+}
+
+/// Whether the number in the header counts this cell.
+fn is_counted(image: &[u8], cell: u16) -> bool
+    requires { 32 ≤ length image.now }
+    ensures { IsTrue result ↔ (cell < cells_counted image.now) }
+{
+    u16::from_be_bytes([image[10], image[11]]) > cell
+}
+
+/// Whether the gate of the first copy of this cell is live.
+fn is_open(image: &[u8], cell: u16) -> bool
+    requires { twin_size (cell + 1) ≤ length image.now }
+    ensures { IsTrue result ↔ IsTrue (is_live (part (first_at cell) 34 image.now)) }
+{
+    image[pair_place(cell) as usize] == LIVE
 }
 
 /// Whether a copy of a cell, 34 bytes from this address on, is as an erase leaves it.
