@@ -10,7 +10,7 @@ use Rattle.cell_store.specs.Twin.{cell_at, is_live, twin_size, first_at, second_
 use Rattle.cell_store.proofs.CallerLemmas.{part-same, part-splice, SameOutside-after, SameOutside-refl, SameOutside-widen}
 use Rattle.freshness_routes.specs.declared.routes.Route.{Route}
 use Rattle.freshness_routes.specs.Config.{IsRoute}
-use Rattle.store_growing.specs.RouteCells.{route_cell, RouteAt, first_bound, HoldsRoute, IsErased, IsFree, HaveCells, HasHead, EndsErased, CanGrow}
+use Rattle.store_growing.specs.RouteCells.{route_cell, RouteAt, first_bound, HoldsRoute, IsErased, IsFree, FreeFrom, HaveCells, HasHead, EndsErased, CanGrow}
 use Rattle.store_growing.specs.LookSteps.{HaveJust}
 use Rattle.store_growing.specs.GrowingStores.{first_copy, with_cell, with_cells, with_routes}
 use Rattle.store_growing.proofs.OneCell.{Apart, head_same, counted_same, cell_same, held_same, erased_same, free_same, erased_closed, whole_holds, copy_sized, with_cell_same}
@@ -66,6 +66,12 @@ have_just routes x count route have at none = record {
 
 pub have_all : (routes : List Route) (x : List ℕ) → HaveCells routes x (length routes) → HaveJust routes x (length routes)
 have_all routes x have = record { have = have; lacks = λ route at. absurd (let low = at.0 in omega (arith, low)) }
+
+pub free_more : (x : List ℕ) (from to : ℕ) → FreeFrom x from to → IsFree x (route_cell to) → FreeFrom x from (to + 1)
+free_more x from to free last place least below = elim (cases_lt place to) [
+  | inl before ↦ free place least before
+  | inr after ↦ (let e : to ≡ place = omega (arith, after, below) in subst (λ (k : ℕ). IsFree x (route_cell k)) e last)
+]
 
 pub first_or_later : (x : List ℕ) (from : ℕ) → IsFree x (route_cell from) → (place : ℕ) → from ≤ place
     → (from < place → IsFree x (route_cell place)) → IsFree x (route_cell place)
@@ -173,7 +179,6 @@ module _ (routes : List Route) (x : List ℕ) (count : ℕ) (route : Route) (few
 
   pub written_holds : cell_at (with_cell here route x) here ≡ Some (first_bound route)
   written_holds =
-      let held = written_can.have.held count route (omega arith) at in
       whole_holds here (first_bound route) (with_cell here route x)
       (part-splice (first_at here) 34 (first_copy route) x (sym (copy_sized route)) (omega (arith, copy_sized route, room, below)))
       (erased_closed (second_at here) (with_cell here route x)

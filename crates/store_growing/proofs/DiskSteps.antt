@@ -93,17 +93,13 @@ module _ (cell at : ℕ) (route : Route) (payload copy : List ℕ) (old : DiskSt
   cell_written mid new fills opens x told =
       (subst (λ (k : ℕ). Lasts k (167 ∷ []) mid.told new.told) at_is opens) (firm (splice (first_at cell + 1) copy x))
       ((subst (λ (k : ℕ). Lasts (k + 1) copy old.told mid.told) at_is fills) (firm x) told)
-      ∙ ap (λ (w : List ℕ). Some (firm w)) (
-        splice-gate 33 (first_at cell) 167 copy x x copy_long (let l = long x told in omega (arith, l)) (SameOutside-refl (first_at cell) 1 x)
-            ∙ ap (λ (b : List ℕ). splice (first_at cell) (167 ∷ b) x) copy_first,
-      )
+      ∙ ap (λ (w : List ℕ). Some (firm w))
+      (splice-gate 33 (first_at cell) 167 copy x x copy_long (let l = long x told in omega (arith, l)) (SameOutside-refl (first_at cell) 1 x)
+      ∙ ap (λ (b : List ℕ). splice (first_at cell) (167 ∷ b) x) copy_first)
 
   gate_closed : (x : List ℕ) → old.told ≡ Some (firm x) → is_live (part (first_at cell) 34 x) ≡ false → ClosesGate 33 (first_at cell) old.told old.told
   gate_closed x told closed =
       closed-already 33 (first_at cell) old.told (told_same {λ (b : List ℕ). is_live (part (first_at cell) 34 b) ≡ false} old.told x told closed)
-
-  abbrev Leaves : List ℕ → DiskState → Type 0
-  Leaves x new = EachImage new.told (Unfinished 33 (first_at cell) (first_copy route) x)
 
   pub filling_cut : (new : DiskState) → Tears (at + 1) (length copy) old.told new.told → CutsCellOnDisk cell route old new
   filling_cut new torn x told closed =
@@ -150,10 +146,8 @@ module _ (cell : ℕ) (routes rest : List Route) (route : Route) (old : DiskStat
       → MakesOfBytes (with_cells cell routes) old new
   step_written mid new first more x told =
       more (with_cell cell route x) (first x told)
-      ∙ ap (λ (w : List ℕ). Some (firm w)) (
-        ap (λ (k : ℕ). with_cells k rest (with_cell cell route x)) next_one
-            ∙ sym (ap (λ (rs : List Route). with_cells cell rs x) routes_are),
-      )
+      ∙ ap (λ (w : List ℕ). Some (firm w))
+      (ap (λ (k : ℕ). with_cells k rest (with_cell cell route x)) next_one ∙ sym (ap (λ (rs : List Route). with_cells cell rs x) routes_are))
 
   first_closed : (x : List ℕ) → AreClosed cell (length routes) x → is_live (part (first_at cell) 34 x) ≡ false
   first_closed x closed = subst (λ (k : ℕ). is_live (part (first_at k) 34 x) ≡ false) (let e : cell + 0 ≡ cell = omega arith in e) (closed 0 some)

@@ -3,9 +3,10 @@ use Rattle.std.proofs.Common.{◌≡◌, ◌⊎◌, ◌∙◌, ℕ, zero, suc, �
 use Rattle.std.specs.Prelude.{Option, bytes_eq}
 use Rattle.std.proofs.lemmas.Bool.{cases_Bool, cases_lt, false≢true}
 use Rattle.std.proofs.lemmas.Slice.Eq.{bytes_eq-Decides}
+use Rattle.std.proofs.lemmas.Option.{same_Some}
 use Rattle.basics.specs.Numbers.{number_of, bytes_of}
 use Rattle.basics.proofs.CallerLemmas.{number_of-bytes_of-lt}
-use Rattle.cut_disk.specs.State.{DiskState}
+use Rattle.cut_disk.specs.State.{DiskState, Told}
 use Rattle.cut_disk.specs.Images.{firm}
 use Rattle.cell_store.specs.declared.kinds.Kind.{Kind}
 use Rattle.cell_store.specs.declared.kinds.Kind.TheVariants.{Twin, Log}
@@ -113,7 +114,7 @@ module _ (routes : List Route) (x : List ℕ) where
 -- ---- one disk
 
 same_bytes : (old : DiskState) (x y : List ℕ) → old.told ≡ Some (firm x) → old.told ≡ Some (firm y) → x ≡ y
-same_bytes old x y told also = cc
+same_bytes old x y told also = let e : firm x ≡ firm y = same_Some _ _ (sym told ∙ also) in ap (λ (t : Told). t.bytes) e
 
 pub refused_once : (routes : List Route) (old : DiskState) (one other : GrowFault) → length routes ≤ 256 → CannotBeGrown routes old one
     → CannotBeGrown routes old other → one ≡ other
@@ -271,7 +272,7 @@ module _ (routes : List Route) (x : List ℕ) where
   seen = elim (decide-head (route_cell (length routes)) (with_number (route_cell (length routes)) x)) [
     | inr none ↦ inr (NotFormatted, none)
     | inl head ↦ (
-        let (count, just) = have_to routes x (length routes) 0 refl (have_none routes x) in
+        let (count, just) = have_to routes x (length routes) 0 (omega arith) (have_none routes x) in
         let most = just.have.few in
         let left : ℕ = length routes - count in
         let e : count + left ≡ length routes = omega (arith, most) in

@@ -112,17 +112,18 @@ cuts_go routes x y count cell rest few are room can cell_is is (within _ route m
 cuts_go routes x y count cell rest few are room can cell_is is (later _ route more _ _ cuts) =
     let there = drop_at_route routes count route more is in
     let low = there.0.0 in
-    let x_next : List ℕ = with_cell (route_cell count) route x in
-    let long : length x_next ≡ length x = (with_cell_same (route_cell count) route x (omega (arith, room, low))).lengths in
-    let at_cell : with_cell cell route x ≡ x_next = ap (λ (k : ℕ). with_cell k route x) cell_is in
-    let then : Goes routes (with_routes routes (count + 1) x_next) y =
-    cuts_go routes x_next y (count + 1) (1 + cell) more few are (omega (arith, room, long))
-    (written_can routes x count route few are room can there.0) (omega (arith, cell_is)) there.1
-    (subst (λ (w : List ℕ). CutsCells (1 + cell) more w y) at_cell cuts) in
+    let long : length (with_cell cell route x) ≡ length x = (with_cell_same cell route x (omega (arith, cell_is, room, low))).lengths in
+    let at_cell : with_cell (route_cell count) route x ≡ with_cell cell route x = ap (λ (k : ℕ). with_cell k route x) (sym cell_is) in
+    let can_more : CanGrow routes (with_cell cell route x) (count + 1) =
+    subst (λ (w : List ℕ). CanGrow routes w (count + 1)) at_cell (written_can routes x count route few are room can there.0) in
+    let then : Goes routes (with_routes routes (count + 1) (with_cell cell route x)) y =
+    cuts_go routes (with_cell cell route x) y (count + 1) (1 + cell) more few are (omega (arith, room, long)) can_more (omega (arith, cell_is)) there.1 cuts in
     record {
       count = then.count;
       can = then.can;
-      same = then.same ∙ ap (with_number (route_cell (length routes))) (first_written routes count route more is x);
+      same = then.same
+          ∙ ap (with_number (route_cell (length routes)))
+          (ap (with_routes routes (count + 1)) (sym at_cell) ∙ first_written routes count route more is x);
     }
 
 drop_all : (routes : List Route) → drop (length routes) routes ≡ []

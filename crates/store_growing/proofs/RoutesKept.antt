@@ -74,9 +74,7 @@ module _ (routes : List Route) (x y : List ℕ) (few : length routes ≤ 256) (a
   counted_apart cell counted = elim (cases_lt cell (route_cell cut.count)) [
     | inl low ↦ inl low
     | inr from ↦ elim (cases_lt cell (route_cell (length routes))) [
-      | inl below ↦ (let free = cut.could.free cut.count (omega arith) (omega (arith, from, below)) in
-          let u = free.uncounted in
-          let place : ℕ = cell - 14 in
+      | inl below ↦ (let place : ℕ = cell - 14 in
           let e : route_cell place ≡ cell = omega (arith, from) in
           let f = cut.could.free place (omega (arith, from)) (omega (arith, from, below)) in
           let v = f.uncounted in
@@ -118,7 +116,7 @@ module _ (routes : List Route) (x y : List ℕ) (few : length routes ≤ 256) (a
   pub can_grow_again : (¬ HasVersionTwo y) × ((count : ℕ) × CanGrow routes y count)
   can_grow_again =
       let goes = left_goes routes x cut.count few are room cut.could y cut.left in
-      (version_stays, goes.count, goes.can)
+      (version_stays, (goes.count, goes.can))
 
   -- and to the same end
   pub ends_the_same : (z : List ℕ) → GrownTo routes x z → GrownTo routes y z
@@ -180,6 +178,7 @@ pub has_new_ones : (routes : List Route) (x z : List ℕ) → length routes ≤ 
     → CanGrow routes z (length routes) × HasHeader (twin_layout One) (route_cell (length routes)) z
     × ((cell : ℕ) → cell < route_cell grown.count → cell_at z cell ≡ cell_at x cell)
     × ((place : ℕ) (route : Route) → grown.count ≤ place → RouteAt routes place route → cell_at z (route_cell place) ≡ Some (first_bound route))
+unfolding done_in_part
 has_new_ones routes x z few are room grown =
     let end = ended routes x z few are room grown in (
       end.can,

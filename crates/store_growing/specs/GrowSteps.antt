@@ -1,22 +1,20 @@
 -- What the steps of a growth leave of a disk
-use Rattle.std.specs.Prelude.{◌≡◌, ℕ, ◌+◌, ◌<◌, Bool, true, false, List, length, Some}
+use Rattle.std.specs.Prelude.{◌≡◌, ℕ, ◌+◌, ◌<◌, Bool, true, false, List, length, drop, Some}
 use Rattle.cut_disk.specs.State.{DiskState}
 use Rattle.cut_disk.specs.Images.{firm, EachImage}
 use Rattle.cut_disk.specs.Calls.{Rose, AsBefore}
 use Rattle.cell_store.specs.declared.kinds.Probe.{Probe}
 use Rattle.cell_store.specs.declared.kinds.Probe.TheVariants.{Blank, Foreign, Store}
-use Rattle.cell_store.specs.declared.kinds.Version.TheVariants.{One}
-use Rattle.cell_store.specs.Layout.{SameOutside, part, twin_layout}
+use Rattle.cell_store.specs.Layout.{SameOutside, part}
 use Rattle.cell_store.specs.Twin.{first_at, is_live}
-use Rattle.cell_store.specs.Store.{HasHeader}
 use Rattle.cell_store.specs.Writing.{Unfinished}
 use Rattle.freshness_routes.specs.declared.routes.Route.{Route}
 use Rattle.store_plan.specs.Growing.{count_at, with_number}
 use Rattle.store_growing.specs.declared.faults.GrowFault.{GrowFault}
 use Rattle.store_growing.specs.declared.faults.GrowFault.TheVariants.{DiskFailed, NotFormatted, TooSmall, BadBound}
 use Rattle.store_growing.specs.declared.faults.GrowFault.TheVariants.{Memory}
-use Rattle.store_growing.specs.RouteCells.{HasVersionTwo}
-use Rattle.store_growing.specs.GrowingStores.{OfBytes, first_copy, with_cell, with_cells, CutsCells}
+use Rattle.store_growing.specs.RouteCells.{route_cell, HasVersionTwo}
+use Rattle.store_growing.specs.GrowingStores.{OfBytes, first_copy, with_routes, CutsCells, LeftOf}
 
 -- these bytes are those that the disk tells, if none of them is loose
 abbrev pub Sees : DiskState → List ℕ → Type 0
@@ -62,7 +60,8 @@ CutsNumberOnDisk old new = OfBytes old (λ x. EachImage new.told (SameOutside co
 -- the cells of the routes from a place on, and the number, are written to the bytes that were looked at
 abbrev pub WritesLacking : List ℕ → List Route → ℕ → DiskState → DiskState → Type 0
 WritesLacking image routes there old new =
-    OfBytes old (λ x. image ≡ x → new.told ≡ Some (firm (with_number (route_cell (length routes)) (with_routes routes there x))))
+    OfBytes old (λ x. image ≡ x
+    → new.told ≡ Some (firm (with_number (route_cell (length routes)) (with_routes routes there x))))
 
 -- or the power goes meanwhile, if those cells weren't live
 abbrev pub CutsLacking : List ℕ → List Route → ℕ → DiskState → DiskState → Type 0

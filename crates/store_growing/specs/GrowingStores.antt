@@ -23,7 +23,7 @@ abbrev pub with_cell : ℕ → Route → List ℕ → List ℕ
 with_cell cell route x = splice (first_at cell) (first_copy route) x
 
 -- x with those of the cells of these routes, the first of this number
-unfoldable pub with_cells : ℕ → List Route → List ℕ → List ℕ
+abbrev pub with_cells : ℕ → List Route → List ℕ → List ℕ
 with_cells cell [] x = x
 with_cells cell (route ∷ rest) x = with_cells (1 + cell) rest (with_cell cell route x)
 

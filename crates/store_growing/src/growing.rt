@@ -1,15 +1,15 @@
 //! Cells at the end of a store for the routes that a bus has more.
-ghost use Rattle.std.specs.Prelude.{◌≡◌, ◌<◌, ◌≤◌, ◌+◌, ◌*◌, ℕ, List, [], length, ◌↔◌, IsTrue, IfOk, IfErr, OnOk, OnErr};
+ghost use Rattle.std.specs.Prelude.{◌≡◌, ◌<◌, ◌≤◌, ◌+◌, ◌*◌, [], length, Some, ◌↔◌, IsTrue, IfOk, IfErr, OnOk, OnErr};
 ghost use Rattle.cut_disk.specs.Calls.{Rose, Runs};
-ghost use Rattle.cell_store.specs.declared.kinds.Version.TheVariants.{One};
-ghost use Rattle.cell_store.specs.Layout.{twin_layout};
-ghost use Rattle.cell_store.specs.Store.{HasHeader};
+ghost use Rattle.cut_disk.specs.Images.{firm};
+ghost use Rattle.cell_store.specs.Layout.{part};
 ghost use Rattle.cell_store.specs.Twin.{twin_size};
 ghost use Rattle.store_plan.specs.Growing.{with_number};
 ghost use Rattle.store_growing.specs.RouteCells.{route_cell, HasVersionTwo};
 ghost use Rattle.store_growing.specs.GrowingStores.{OfBytes, GrowsStore, NotGrown, CanBeGrown, with_cell, with_cells};
-ghost use Rattle.store_growing.specs.GrowSteps.{Sees, NotSeen, SaysStore, AreClosed, MakesOfBytes};
+ghost use Rattle.store_growing.specs.GrowSteps.{Sees, NotSeen, SaysStore, MakesOfBytes};
 ghost use Rattle.store_growing.specs.GrowSteps.{CutsCellOnDisk, CutsCellsOnDisk, CutsNumberOnDisk};
+ghost use Rattle.store_growing.specs.GrowSteps.{WritesLacking, CutsLacking};
 
 use crate::faults::GrowFault;
 use crate::looking::{SLOT_COUNT, routes_there};
