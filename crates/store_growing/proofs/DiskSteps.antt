@@ -74,8 +74,8 @@ only_read most old new only = record { runs = only.runs; told = only.told; fault
 -- ---- one cell
 
 -- what a disk tells is what it tells
-told_same : {P : List ℕ → Type 0} (old : Option Told) (x : List ℕ) → old ≡ Some (firm x) → P x → (t : Told) → old ≡ Some t → P t.bytes
-told_same {P} old x told p t also = subst (λ (s : Told). P s.bytes) (sym (same_Some _ _ (sym also ∙ told))) p
+told_same : (P : List ℕ → Type 0) (old : Option Told) (x : List ℕ) → old ≡ Some (firm x) → P x → (t : Told) → old ≡ Some t → P t.bytes
+told_same P old x told p t also = subst (λ (s : Told). P s.bytes) (sym (same_Some _ _ (sym also ∙ told))) p
 
 module _ (cell at : ℕ) (route : Route) (payload copy : List ℕ) (old : DiskState) (disk : IsDisk old) (room : twin_size (cell + 1) ≤ old.size)
     (at_is : at ≡ first_at cell) (payload_is : payload ≡ first_bound route) (copy_is : copy ≡ 0 ∷ payload) where
@@ -99,7 +99,7 @@ module _ (cell at : ℕ) (route : Route) (payload copy : List ℕ) (old : DiskSt
 
   gate_closed : (x : List ℕ) → old.told ≡ Some (firm x) → is_live (part (first_at cell) 34 x) ≡ false → ClosesGate 33 (first_at cell) old.told old.told
   gate_closed x told closed =
-      closed-already 33 (first_at cell) old.told (told_same {λ (b : List ℕ). is_live (part (first_at cell) 34 b) ≡ false} old.told x told closed)
+      closed-already 33 (first_at cell) old.told (told_same (λ (b : List ℕ). is_live (part (first_at cell) 34 b) ≡ false) old.told x told closed)
 
   pub filling_cut : (new : DiskState) → Tears (at + 1) (length copy) old.told new.told → CutsCellOnDisk cell route old new
   filling_cut new torn x told closed =
@@ -139,8 +139,8 @@ module _ (cell : ℕ) (routes rest : List Route) (route : Route) (old : DiskStat
   next_one : cell + 1 ≡ 1 + cell
   next_one = omega arith
 
-  long : (x : List ℕ) → old.told ≡ Some (firm x) → twin_size (cell + 1) ≤ length x
-  long x told = let e = told_sized old x disk told in omega (arith, e, room, some)
+  wide : (x : List ℕ) → old.told ≡ Some (firm x) → twin_size (cell + 1) ≤ length x
+  wide x told = let e = told_sized old x disk told in omega (arith, e, room, some)
 
   pub step_written : (mid new : DiskState) → MakesOfBytes (with_cell cell route) old mid → MakesOfBytes (with_cells (cell + 1) rest) mid new
       → MakesOfBytes (with_cells cell routes) old new
@@ -154,9 +154,9 @@ module _ (cell : ℕ) (routes rest : List Route) (route : Route) (old : DiskStat
 
   rest_closed : (x : List ℕ) → twin_size (cell + 1) ≤ length x → AreClosed cell (length routes) x
       → AreClosed (cell + 1) (length rest) (with_cell cell route x)
-  rest_closed x wide closed k low =
+  rest_closed x room_x closed k low =
       let count : length routes ≡ length (route ∷ rest) = ap length routes_are in
-      ap is_live (part-same (first_at (cell + 1 + k)) 34 (first_at cell) 34 x (with_cell cell route x) (with_cell_same cell route x wide) (inr (omega arith)))
+      ap is_live (part-same (first_at (cell + 1 + k)) 34 (first_at cell) 34 x (with_cell cell route x) (with_cell_same cell route x room_x) (inr (omega arith)))
       ∙ subst (λ (n : ℕ). is_live (part (first_at n) 34 x) ≡ false) (let e : cell + (1 + k) ≡ cell + 1 + k = omega arith in e)
       (closed (1 + k) (omega (arith, low, count)))
 
@@ -171,7 +171,7 @@ module _ (cell : ℕ) (routes rest : List Route) (route : Route) (old : DiskStat
       subst (λ (rs : List Route). CutsCells cell rs x y) (sym routes_are)
       (later cell route rest x y
       (subst (λ (k : ℕ). CutsCells k rest (with_cell cell route x) y) next_one
-      (more (with_cell cell route x) (first x told) (rest_closed x (long x told) closed) t is_told y image)))
+      (more (with_cell cell route x) (first x told) (rest_closed x (wide x told) closed) t is_told y image)))
 
 pub runs_step : (routes rest : List Route) (old mid new : DiskState) → 1 ≤ length routes → rest ≡ drop 1 routes → Runs [] 4 old mid
     → Runs [] (4 * length rest) mid new → Runs [] (4 * length routes) old new

@@ -11,7 +11,7 @@ pub returns-in_err-write_and_sync-clause-cut : goal.returns-in_err-write_and_syn
 returns-in_err-write_and_sync-clause-cut g c =
     for_err c.from_residual.result
     (filling_cut c.args.cell c.pair_place-at.result c.args.route.now c.bound_bytes-payload.result c.marked.result (g.D.Disk.state c.args.disk.now)
-    (g.met.D.Disk.is_disk c.args.disk.now) c.requires c.pair_place-at.ensures c.bound_bytes-payload.ensures c.marked.ensures
+    (g.met.D.Disk.is_disk c.args.disk.now) c.requires.room c.pair_place-at.ensures c.bound_bytes-payload.ensures c.marked.ensures
     (g.D.Disk.state c.write_and_sync.new.disk) c.in_err-write_and_sync.ensures.torn)
 
 pub returns-clause-runs : goal.returns-clause-runs
@@ -21,7 +21,7 @@ pub returns-clause-written : goal.returns-clause-written
 returns-clause-written g c =
     on_ok_weaker c.write_and_sync-2.result
     (cell_written c.args.cell c.pair_place-at.result c.args.route.now c.bound_bytes-payload.result c.marked.result (g.D.Disk.state c.args.disk.now)
-    (g.met.D.Disk.is_disk c.args.disk.now) c.requires c.pair_place-at.ensures c.bound_bytes-payload.ensures c.marked.ensures
+    (g.met.D.Disk.is_disk c.args.disk.now) c.requires.room c.pair_place-at.ensures c.bound_bytes-payload.ensures c.marked.ensures
     (g.D.Disk.state c.write_and_sync.new.disk) (g.D.Disk.state c.write_and_sync-2.new.disk) c.in_ok-write_and_sync.ensures.lasts)
     c.write_and_sync-2.ensures.lasts
 
@@ -29,7 +29,7 @@ pub returns-clause-cut : goal.returns-clause-cut
 returns-clause-cut g c =
     on_err_weaker c.write_and_sync-2.result
     (opening_cut c.args.cell c.pair_place-at.result c.args.route.now c.bound_bytes-payload.result c.marked.result (g.D.Disk.state c.args.disk.now)
-    (g.met.D.Disk.is_disk c.args.disk.now) c.requires c.pair_place-at.ensures c.bound_bytes-payload.ensures c.marked.ensures
+    (g.met.D.Disk.is_disk c.args.disk.now) c.requires.room c.pair_place-at.ensures c.bound_bytes-payload.ensures c.marked.ensures
     (g.D.Disk.state c.write_and_sync.new.disk) (g.D.Disk.state c.write_and_sync-2.new.disk) (g.met.D.Disk.is_disk c.write_and_sync.new.disk)
     c.write_and_sync.ensures.runs.size c.in_ok-write_and_sync.ensures.lasts)
     c.write_and_sync-2.ensures.torn

@@ -8,4 +8,4 @@ pub returns : goal.returns
 returns c =
     let same : nat_eq (slice_index_or c.args.image.now c.pair_place.result 0) 167 ≡ is_live (part (first_at c.args.cell) 34 c.args.image.now) =
     ap (λ (k : ℕ). nat_eq (slice_index_or c.args.image.now k 0) 167) c.pair_place.ensures ∙ sym (gate_at (first_at c.args.cell) c.args.image.now) in
-    (λ open. sym same ∙ open, λ live. same ∙ live)
+    (λ gate. sym same ∙ gate, λ live. same ∙ live)
