@@ -1,5 +1,5 @@
 -- The cells of routes that are written one after the other: what stays, and which routes have their cells then
-use Rattle.std.proofs.Common.{◌≡◌, ◌⊎◌, ◌∙◌, ◌≢◌, ℕ, zero, suc, ◌+◌, ◌*◌, ◌<◌, ◌≤◌, List, [], ◌∷◌, length, drop, get_or, refl, sym, ap, subst, inl, inr, arith}
+use Rattle.std.proofs.Common.{◌≡◌, ◌∙◌, ◌≢◌, ℕ, zero, suc, ◌+◌, ◌*◌, ◌<◌, ◌≤◌, List, [], ◌∷◌, length, drop, get_or, refl, sym, ap, subst, inl, inr, arith}
 use Rattle.std.proofs.Common.{Some, false}
 use Rattle.std.specs.List.{All}
 use Rattle.std.proofs.lemmas.Bool.{cases_lt}
@@ -10,7 +10,7 @@ use Rattle.cell_store.specs.Twin.{cell_at, is_live, twin_size, first_at, second_
 use Rattle.cell_store.proofs.CallerLemmas.{part-same, part-splice, SameOutside-after, SameOutside-refl, SameOutside-widen}
 use Rattle.freshness_routes.specs.declared.routes.Route.{Route}
 use Rattle.freshness_routes.specs.Config.{IsRoute}
-use Rattle.store_growing.specs.RouteCells.{route_cell, RouteAt, first_bound, HoldsRoute, IsErased, IsFree, FreeFrom, HaveCells, HasHead, EndsErased, CanGrow}
+use Rattle.store_growing.specs.RouteCells.{route_cell, RouteAt, first_bound, HoldsRoute, IsErased, IsFree, FreeFrom, HaveCells, HasTwinHead, EndsErased, CanGrow}
 use Rattle.store_growing.specs.LookSteps.{HaveJust}
 use Rattle.store_growing.specs.GrowingStores.{first_copy, with_cell, with_cells, with_routes}
 use Rattle.store_growing.proofs.OneCell.{Apart, head_same, counted_same, cell_same, held_same, erased_same, free_same, erased_closed, whole_holds, copy_sized, with_cell_same}
@@ -114,7 +114,7 @@ module _ (routes : List Route) (x : List ℕ) (count : ℕ) (route : Route) (few
     wide : length y ≡ length x
     wide = same.lengths
 
-    head_kept : HasHead routes y
+    head_kept : HasTwinHead routes y
     head_kept =
         head_same (route_cell (length routes)) x y (omega (arith, room)) (omega (arith, room, wide))
         (part-same 0 32 (first_at here) 34 x y same (inl (omega arith))) can.head

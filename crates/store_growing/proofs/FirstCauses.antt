@@ -1,5 +1,5 @@
 -- One cause at most stands why a store isn't grown, none if it can be, and one of the two always
-use Rattle.std.proofs.Common.{◌≡◌, ◌⊎◌, ◌∙◌, ℕ, zero, suc, ◌+◌, ◌-◌, ◌<◌, ◌≤◌, ◌^◌, List, [], ◌∷◌, length, get_or, refl, sym, ap, subst, inl, inr, arith, Some, None, replicate}
+use Rattle.std.proofs.Common.{◌≡◌, ◌⊎◌, ◌∙◌, ℕ, zero, suc, ◌+◌, ◌-◌, ◌<◌, ◌≤◌, ◌^◌, List, length, refl, sym, ap, subst, inl, inr, arith, Some, None, replicate}
 use Rattle.std.specs.Prelude.{Option, bytes_eq}
 use Rattle.std.proofs.lemmas.Bool.{cases_Bool, cases_lt, false≢true}
 use Rattle.std.proofs.lemmas.Slice.Eq.{bytes_eq-Decides}
@@ -20,7 +20,7 @@ use Rattle.store_plan.specs.Growing.{with_number}
 use Rattle.store_plan.proofs.CallerLemmas.{decide-head}
 use Rattle.store_growing.specs.declared.faults.GrowFault.{GrowFault}
 use Rattle.store_growing.specs.declared.faults.GrowFault.TheVariants.{DiskFailed, NotFormatted, TooSmall, BadBound, Memory}
-use Rattle.store_growing.specs.RouteCells.{route_cell, RouteAt, HoldsRoute, cells_counted, IsErased, IsFree, FreeFrom, HaveCells, HasHead}
+use Rattle.store_growing.specs.RouteCells.{route_cell, RouteAt, HoldsRoute, cells_counted, IsErased, IsFree, FreeFrom, HaveCells, HasTwinHead}
 use Rattle.store_growing.specs.RouteCells.{CanGrow, HasVersionTwo, HoldsOther, RefusesBytes}
 use Rattle.store_growing.specs.LookSteps.{HaveJust, UsedAt}
 use Rattle.store_growing.specs.GrowingStores.{OfBytes, CanBeGrown, CannotBeGrown, no_room, newer, by_bytes}
@@ -232,9 +232,11 @@ free_to x from (suc left) = elim (free_or_not x (route_cell from)) [
 -- so many of the first routes have their cells, and the next has none
 have_to : (routes : List Route) (x : List ℕ) (left count : ℕ) → count + left ≡ length routes → HaveCells routes x count
     → (n : ℕ) × HaveJust routes x n
-have_to routes x zero count is have =
-    (count, subst (HaveJust routes x) (let e : length routes ≡ count = omega (arith, is) in e)
-    (have_all routes x (subst (HaveCells routes x) (let e : count ≡ length routes = omega (arith, is) in e) have)))
+have_to routes x zero count is have = (
+  count,
+  subst (HaveJust routes x) (let e : length routes ≡ count = omega (arith, is) in e)
+      (have_all routes x (subst (HaveCells routes x) (let e : count ≡ length routes = omega (arith, is) in e) have)),
+)
 have_to routes x (suc left) count is have =
     let (route, at) = routes_some routes count (omega (arith, is)) in
     elim (held_or_not x (route_cell count) route (cell_at x (route_cell count)) refl) [
@@ -246,7 +248,7 @@ module _ (routes : List Route) (x : List ℕ) where
   abbrev Seen : Type 0
   Seen = ((count : ℕ) × CanGrow routes x count) ⊎ ((fault : GrowFault) × RefusesBytes routes x fault)
 
-  seen_free : (count : ℕ) → HasHead routes x → HaveJust routes x count
+  seen_free : (count : ℕ) → HasTwinHead routes x → HaveJust routes x count
       → FreeFrom x count (length routes) ⊎ ((place : ℕ) × UsedAt x count (length routes) place) → Seen
   seen_free count head just (inl free) = elim (erased_or_not (first_at (route_cell (length routes))) 68 x) [
     | inl ends ↦ inl (count, record { head = head; have = just.have; free = free; ends = ends })

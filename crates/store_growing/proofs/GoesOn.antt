@@ -1,8 +1,7 @@
 -- What the power left of a growth goes on to the same end
-use Rattle.std.proofs.Common.{◌≡◌, ◌⊎◌, ◌∙◌, ℕ, ◌+◌, ◌*◌, ◌<◌, ◌≤◌, List, [], ◌∷◌, length, drop, refl, sym, ap, subst, inl, inr, arith}
-use Rattle.std.proofs.Common.{Some, false}
+use Rattle.std.proofs.Common.{◌≡◌, ◌⊎◌, ◌∙◌, ℕ, ◌+◌, ◌*◌, ◌≤◌, List, [], ◌∷◌, length, drop, refl, sym, ap, subst, inl, inr, arith}
+use Rattle.std.proofs.Common.{false}
 use Rattle.std.specs.List.{All}
-use Rattle.std.proofs.lemmas.Bool.{cases_lt}
 use Rattle.std.proofs.lemmas.List.{length-drop}
 use Rattle.basics.specs.Numbers.{bytes_of}
 use Rattle.basics.proofs.CallerLemmas.{length-bytes_of}
@@ -100,7 +99,6 @@ module _ (routes : List Route) (x : List ℕ) (count : ℕ) (route : Route) (mor
       same = ap (with_number (route_cell (length routes))) (same_whole whole);
     }
   ]
-
 
 -- the cells
 pub cuts_go : (routes : List Route) (x y : List ℕ) (count cell : ℕ) (rest : List Route) → length routes ≤ 256 → All IsRoute routes

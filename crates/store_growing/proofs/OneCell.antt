@@ -1,6 +1,6 @@
 -- A change of some bytes: which parts of a store, which cells and what of its header stay
-use Rattle.std.proofs.Common.{◌≡◌, ◌⊎◌, ◌∙◌, ◌≢◌, ℕ, ◌+◌, ◌-◌, ◌<◌, ◌≤◌, List, ◌∷◌, length, take, drop, get_or, eqb, refl, sym, ap, subst, inl, inr, arith, rules}
-use Rattle.std.proofs.Common.{Some, None, Bool, true, false, replicate}
+use Rattle.std.proofs.Common.{◌≡◌, ◌⊎◌, ◌∙◌, ℕ, ◌+◌, ◌≤◌, List, length, take, drop, get_or, eqb, refl, sym, ap, subst, inl, inr, arith, rules}
+use Rattle.std.proofs.Common.{Some, None, true, false, replicate}
 use Rattle.std.proofs.lemmas.Bool.{cases_lt}
 use Rattle.std.proofs.lemmas.List.{places, same_lists, ext_get_or, length-take, take_all, get_or-take, get_or-drop}
 use borrow.Rule.Slice.PartMut.{put_mid}

@@ -1,5 +1,5 @@
 -- What a growth keeps of a store, done or cut, and that it can go on after a cut
-use Rattle.std.proofs.Common.{◌≡◌, ◌⊎◌, ◌∙◌, ℕ, ◌+◌, ◌-◌, ◌*◌, ◌/◌, ◌%◌, ◌<◌, ◌≤◌, ◌^◌, List, length, drop, get_or, refl, sym, ap, subst, inl, inr, arith, Some, None}
+use Rattle.std.proofs.Common.{◌≡◌, ◌⊎◌, ◌∙◌, ℕ, ◌+◌, ◌-◌, ◌*◌, ◌/◌, ◌%◌, ◌<◌, ◌≤◌, ◌^◌, List, length, get_or, sym, ap, subst, inl, inr, arith, Some, None}
 use Rattle.std.specs.List.{All}
 use Rattle.std.proofs.lemmas.Bool.{cases_lt}
 use Rattle.std.proofs.lemmas.List.{get_or-take}
@@ -12,7 +12,7 @@ use Rattle.freshness_routes.specs.declared.routes.Route.{Route}
 use Rattle.freshness_routes.specs.Config.{IsRoute}
 use Rattle.store_plan.specs.Growing.{with_number}
 use Rattle.store_growing.specs.RouteCells.{route_cell, RouteAt, first_bound, HoldsRoute, cells_counted, CanGrow, HasVersionTwo}
-use Rattle.store_growing.specs.GrowingStores.{with_routes, LeftOf, GrownTo, GrownInPart}
+use Rattle.store_growing.specs.GrowingStores.{with_routes, GrownTo, GrownInPart}
 use Rattle.store_growing.proofs.OneCell.{cell_same, free_is_none, version_same, with_number_same}
 use Rattle.store_growing.proofs.CellsWritten.{routes_written}
 use Rattle.store_growing.proofs.GoesOn.{left_goes, left_part, left_within, all_within, number_can}
@@ -110,8 +110,13 @@ module _ (routes : List Route) (x y : List ℕ) (few : length routes ≤ 256) (a
 
   version_stays : ¬ HasVersionTwo y
   version_stays two =
-      cut.version (two.0, two.1, two.2, version_same two.0 two.1 10 (68 * length routes + 974) x y (omega (arith, few))
-      (left_within routes x cut.count few are room cut.could y cut.left) two.3)
+      cut.version (
+        two.0,
+        two.1,
+        two.2,
+        version_same two.0 two.1 10 (68 * length routes + 974) x y (omega (arith, few))
+            (left_within routes x cut.count few are room cut.could y cut.left) two.3,
+      )
 
   pub can_grow_again : (¬ HasVersionTwo y) × ((count : ℕ) × CanGrow routes y count)
   can_grow_again =

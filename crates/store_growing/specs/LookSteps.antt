@@ -1,5 +1,5 @@
 -- What the steps of a look at the bytes answer
-use Rattle.std.specs.Prelude.{◌≡◌, ℕ, ◌<◌, ◌≤◌, List}
+use Rattle.std.specs.Prelude.{ℕ, ◌<◌, ◌≤◌, List}
 use Rattle.freshness_routes.specs.declared.routes.Route.{Route}
 use Rattle.store_growing.specs.RouteCells.{route_cell, RouteAt, HoldsRoute, HaveCells, IsFree, FreeFrom}
 

@@ -58,8 +58,8 @@ pub record HaveCells (routes : List Route) (x : List ℕ) (count : ℕ) : Type 0
       → HoldsRoute x (route_cell place) route
 
 -- x begins as a twin store of version 1, whatever number stands in its header
-abbrev pub HasHead : List Route → List ℕ → Type 0
-HasHead routes x = HasHeadButCount x (route_cell (length routes))
+abbrev pub HasTwinHead : List Route → List ℕ → Type 0
+HasTwinHead routes x = HasHeadButCount x (route_cell (length routes))
 
 -- where a cell after those of all routes would stand x is erased
 abbrev pub EndsErased : List Route → List ℕ → Type 0
@@ -68,7 +68,7 @@ EndsErased routes x = IsErased (first_at (route_cell (length routes))) 68 x
 -- So many of the first routes have their cells, and those of the others can be written. What comes after them is
 -- erased, so the store has no further cell: a number above that of the routes' cells is one that a cut left.
 pub record CanGrow (routes : List Route) (x : List ℕ) (count : ℕ) : Type 0 where
-  pub head : HasHead routes x
+  pub head : HasTwinHead routes x
   pub have : HaveCells routes x count
   pub free : FreeFrom x count (length routes)
   pub ends : EndsErased routes x
@@ -81,7 +81,7 @@ HasVersionTwo x = (kind : Kind) × (n : ℕ) × FewCells n × HasHeader (layout 
 
 -- this cell is the first that can't be written, from that of the first route on that has none
 pub record HoldsOther (routes : List Route) (x : List ℕ) (cell : ℕ) : Type 0 where
-  pub head : HasHead routes x
+  pub head : HasTwinHead routes x
   pub count : ℕ
   pub have : HaveCells routes x count
   pub lacks : (route : Route) → RouteAt routes count route → ¬ HoldsRoute x (route_cell count) route
@@ -94,7 +94,7 @@ pub record HoldsOther (routes : List Route) (x : List ℕ) (cell : ℕ) : Type 0
 
 -- each route has its cell, or it can be written, but what comes after them isn't erased
 pub record IsUsedAfter (routes : List Route) (x : List ℕ) : Type 0 where
-  pub head : HasHead routes x
+  pub head : HasTwinHead routes x
   pub count : ℕ
   pub have : HaveCells routes x count
   pub free : FreeFrom x count (length routes)
@@ -102,7 +102,7 @@ pub record IsUsedAfter (routes : List Route) (x : List ℕ) : Type 0 where
 
 -- for which fault of these bytes; the other faults aren't theirs
 abbrev pub RefusesBytes : List Route → List ℕ → GrowFault → Type 0
-RefusesBytes routes x NotFormatted = ¬ HasHead routes x
+RefusesBytes routes x NotFormatted = ¬ HasTwinHead routes x
 RefusesBytes routes x (BadBound cell) = HoldsOther routes x cell
 RefusesBytes routes x TooSmall = IsUsedAfter routes x
 RefusesBytes routes x Memory = ⊥

@@ -124,7 +124,12 @@ fn read_image<D: Disk>(disk: &mut D, image: &mut [u8]) -> Result<(), GrowFault>
 
 /// Writes the cells of the routes from this place on to the store of these bytes, those of the disk, and then the number
 /// of all cells, if it is another.
-fn write_lacking<D: Disk>(disk: &mut D, image: &[u8], routes: &[Route], there: u16) -> Result<(), DiskFailed>
+fn write_lacking<D: Disk>(
+    disk: &mut D,
+    image: &[u8],
+    routes: &[Route],
+    there: u16,
+) -> Result<(), DiskFailed>
     requires few { length routes.now ≤ 256 }
     requires there { there ≤ length routes.now }
     requires room { twin_size (route_cell (length routes.now)) ≤ length image.now }

@@ -1,4 +1,4 @@
-use Rattle.std.proofs.Common.{ℕ, ◌+◌, subst, arith}
+use Rattle.std.proofs.Common.{ℕ, subst, arith}
 use Rattle.std.proofs.lemmas.Result.{err_from_is_err_and}
 use Rattle.cut_disk.specs.Calls.{Rose, AsBefore}
 use Rattle.store_growing.proofs.DiskSteps.{not_seen, bytes_refused, could_be, store_cut, runs_all, runs_less}

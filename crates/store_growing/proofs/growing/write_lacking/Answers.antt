@@ -1,4 +1,4 @@
-use Rattle.std.proofs.Common.{◌+◌, arith}
+use Rattle.std.proofs.Common.{arith}
 use Rattle.std.proofs.lemmas.Result.{on_ok_weaker, on_err_weaker}
 use Rattle.store_growing.proofs.DiskSteps.{rest_from, all_written_on, cells_cut_on, number_cut_on, runs_lacking, runs_cells, for_err}
 use Rattle.store_growing.proofs.growing.write_lacking.Goals as goal

@@ -1,9 +1,9 @@
-use Rattle.std.proofs.Common.{◌≡◌, ◌↔◌, ◌≤◌, ℕ, List, length, take, IsTrue, length-take, ap, subst, ◌∙◌, sym, arith}
+use Rattle.std.proofs.Common.{◌≡◌, ◌↔◌, ℕ, List, take, IsTrue, subst, ◌∙◌}
 use Rattle.std.specs.Int.{w16}
 use Rattle.basics.specs.Numbers.{bytes_of}
-use Rattle.basics.proofs.CallerLemmas.{to_be_bytes-is, length-bytes_of}
+use Rattle.basics.proofs.CallerLemmas.{to_be_bytes-is}
 use Rattle.cell_store.specs.declared.kinds.Version.TheVariants.{One}
-use Rattle.cell_store.specs.Layout.{header, part, twin_layout}
+use Rattle.cell_store.specs.Layout.{header, twin_layout}
 use Rattle.store_growing.proofs.OneCell.{head_with_number}
 use Rattle.store_growing.proofs.looking.has_head_but_count.Goals as goal
 

@@ -1,4 +1,4 @@
-use Rattle.std.proofs.Common.{true, arith, sym, ◌∙◌, refl}
+use Rattle.std.proofs.Common.{arith, sym, ◌∙◌}
 use Rattle.std.proofs.lemmas.Bool.{false≢true}
 use Rattle.store_growing.proofs.looking.is_free.Goals as goal
 
