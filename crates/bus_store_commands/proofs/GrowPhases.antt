@@ -1,5 +1,5 @@
 -- The phases of a run of `slots grow FILE BUS`, put together
-use Rattle.std.proofs.Common.{◌≡◌, ◌∙◌, ℕ, List, [], ◌∷◌, ◌++◌, false, refl, sym, ap, subst, arith, ◌≤◌}
+use Rattle.std.proofs.Common.{◌≡◌, ◌∙◌, ℕ, List, [], ◌∷◌, ◌++◌, false, refl, sym, ap, subst}
 use Rattle.std.specs.Prelude.{Option, Some, None, Result, Ok, Err, length, codes}
 use Rattle.text_lines.specs.Written.{written}
 use Rattle.cut_disk.specs.State.{DiskState}
@@ -9,21 +9,17 @@ use Rattle.program_edge.specs.Inputs.{IsUnread}
 use Rattle.program_edge.specs.Endings.{Ending, EndsInRow}
 use Rattle.program_edge.proofs.CallerLemmas.{EndsInRow-more}
 use Rattle.freshness_routes.specs.declared.routes.Route.{Route}
-use Rattle.bus_config.specs.declared.node_lines.NodeLine.{NodeLine}
-use Rattle.bus_config.specs.Buses.{NamedBus, IsNamedBus, most_routes}
-use Rattle.bus_script.specs.EventForms.{no_node}
-use Rattle.cell_store.specs.declared.kinds.Version.{Version}
-use Rattle.cell_store.specs.declared.kinds.Version.TheVariants.{One, Two}
-use Rattle.std.proofs.lemmas.List.Elements.{All-get_or}
+use Rattle.bus_config.specs.Buses.{NamedBus, IsNamedBus}
 use Rattle.bus_programs.specs.BusRoutes.{routes_of}
 use Rattle.store_growing.specs.RouteCells.{route_cell}
-use Rattle.store_growing.specs.GrowingStores.{GrowsStore}
+use Rattle.store_growing.specs.GrowingStores.{OfBytes, CanBeGrown, GrowsStore}
 use Rattle.bus_store_commands.specs.NodeBuses.{ReadsNodeBus, TakesNodeBus}
 use Rattle.bus_store_commands.specs.BusWords.{asks_over_bus}
 use Rattle.bus_store_commands.specs.GrowRows.{GrowsOnDisk, grown, grown_words}
 use Rattle.bus_store_commands.specs.GrowsOverBus.{GrowInputs, AsksGrowth, grow_usage, LacksGrowth, asks_none, without_bus, TakesGrowth, ComesNamed, not_opened, over_disk}
 use Rattle.bus_store_commands.specs.GrowsOverBus.{ComesOfGrowth, lacks_bus, with_bus, file_of, GrowsOverBus}
 use Rattle.bus_store_commands.proofs.GrowPromises.{grows_row}
+pub use Rattle.bus_store_commands.proofs.GrowPromises.{few_routes}
 
 -- the bus file of arguments that ask for a growth
 pub asked_bus : (i : GrowInputs) (result : Result NamedBus Row) → AsksGrowth i.words → TakesNodeBus i.bus result → TakesGrowth i result
@@ -37,10 +33,10 @@ asked_none i row none unread is = subst (LacksGrowth i) (sym is) (asks_none none
 
 -- the text was made before the store grew
 pub text_shows : (routes : List Route) (old new : DiskState) (cells : ℕ) (text : List ℕ) → cells ≡ route_cell (length routes)
-    → text ≡ written (grown_words cells) → GrowsStore routes old new → new.faults ≡ old.faults → GrowsOnDisk routes old new (row_of 0 text)
-text_shows routes old new cells text cells_are is grows faults =
+    → text ≡ written (grown_words cells) → OfBytes old (λ x. CanBeGrown routes old) → GrowsStore routes old new → new.faults ≡ old.faults → GrowsOnDisk routes old new (row_of 0 text)
+text_shows routes old new cells text cells_are is could grows faults =
     subst (λ (shown : List ℕ). GrowsOnDisk routes old new (row_of 0 shown)) (ap (λ (n : ℕ). written (grown_words n)) (sym cells_are) ∙ sym is)
-    (grown grows faults)
+    (grown could grows faults)
 
 -- no memory for a disk
 pub not_over : (opens : List ℕ → DiskState → Type 0) (before after : List (List ℕ)) (word : List ℕ) (routes : List Route) (row : Row) → row ≡ memory_row
@@ -56,11 +52,11 @@ over_opened opens before after word routes old new e opened tells once ends =
 
 -- a run over a bus file that gives a bus of one node, and over one that doesn't
 module _ (opens : List ℕ → DiskState → Type 0) (before after : List (List ℕ)) (i : GrowInputs) (left : Option DiskState) (e : Ending) where
-  pub with_routes : (bus : NamedBus) (word : List ℕ) (routes : List Route) → AsksGrowth i.words → ReadsNodeBus i.bus bus → word ≡ file_of i
+  pub with_routes : (bus : NamedBus) (word : List ℕ) (routes : List Route) → IsNamedBus bus → AsksGrowth i.words → ReadsNodeBus i.bus bus → word ≡ file_of i
       → routes ≡ routes_of bus → EndsInRow (ComesNamed opens before after word routes left) e → GrowsOverBus opens before after i left e
-  with_routes bus word routes asks reads word_is are ends =
+  with_routes bus word routes named asks reads word_is are ends =
       grows_row opens before after i left e
-      (EndsInRow-more (λ row comes. with_bus bus row asks reads
+      (EndsInRow-more (λ row comes. with_bus bus row named asks reads
       (subst (λ (w : List ℕ). ComesNamed opens before after w (routes_of bus) left row) word_is
       (subst (λ (rs : List Route). ComesNamed opens before after word rs left row) are comes))) ends)
 
@@ -69,14 +65,3 @@ module _ (opens : List ℕ → DiskState → Type 0) (before after : List (List 
   without_routes row lacks once none ends =
       grows_row opens before after i left e
       (EndsInRow-more (λ shown is. subst (ComesOfGrowth opens before after i left) (sym is) (lacks_bus row lacks once none)) ends)
-
--- a node has at most 256 routes
-most_256 : (version : Version) → most_routes version ≤ 256
-most_256 One = omega arith
-most_256 Two = omega arith
-
-pub few_routes : (bus : NamedBus) → IsNamedBus bus → length (routes_of bus) ≤ 256
-few_routes bus is =
-    let few = All-get_or (λ (node : NodeLine). length node.config.routes ≤ most_routes bus.version) bus.nodes 0 no_node is.least is.few_routes in
-    let most = most_256 bus.version in
-    omega (arith, few, most)

@@ -1,29 +1,37 @@
 -- What a run of `slots grow FILE BUS` that ends in a row of the table promises
-use Rattle.std.proofs.Common.{◌≡◌, ◌⊎◌, ◌∙◌, ℕ, List, [], inl, inr, refl, sym, ap, subst, arith}
-use Rattle.std.specs.Prelude.{◌≢◌, false, None, Option, Err, length, codes}
+use Rattle.std.proofs.Common.{◌≡◌, ◌⊎◌, ◌∙◌, ℕ, ◌<◌, ◌≤◌, List, [], inl, inr, refl, sym, ap, subst, arith}
+use Rattle.std.specs.Prelude.{◌≢◌, false, None, Some, Option, Err, length, codes}
 use Rattle.program_edge.specs.declared.input.InputFault.TheVariants as input
 use Rattle.program_edge.specs.Input.{input_fault_text}
 use Rattle.program_edge.specs.Rows.{Row, memory_row}
 use Rattle.program_edge.specs.Inputs.{Reading, IsUnread, Offers, SourceFailed, GivesTooMuch}
 use Rattle.program_edge.specs.Endings.{Ending, PrintsWhole, EndsInRow}
-use Rattle.program_edge.proofs.CallerLemmas.{EndsInRow-at, EndsInRow-front, EndsInRow-rose, EndsInRow-only, EndsInRow-may}
+use Rattle.program_edge.proofs.CallerLemmas.{EndsInRow-at, EndsInRow-front, EndsInRow-rose, EndsInRow-only, EndsInRow-may, EndsInRow-done}
 use Rattle.cut_disk.specs.State.{DiskState}
+use Rattle.cut_disk.specs.Calls.{Rose, AsBefore}
+use Rattle.file_disk.specs.NamedDisks.{TellsFirmBytes}
+use Rattle.cell_store.specs.declared.kinds.Version.{Version}
+use Rattle.cell_store.specs.declared.kinds.Version.TheVariants.{One, Two}
+use Rattle.std.proofs.lemmas.List.Elements.{All-get_or}
 use Rattle.freshness_routes.specs.declared.routes.Route.{Route}
 use Rattle.bus_config.specs.declared.fault.ConfigFault.{ConfigFault}
 use Rattle.bus_config.specs.BusFile.{bus_of}
-use Rattle.bus_config.specs.Buses.{NamedBus}
+use Rattle.bus_config.specs.declared.node_lines.NodeLine.{NodeLine}
+use Rattle.bus_config.specs.Buses.{NamedBus, IsNamedBus, most_routes}
+use Rattle.bus_script.specs.EventForms.{no_node}
 use Rattle.bus_programs.specs.BusFiles.{OffersBus, no_file, file_refused}
 use Rattle.bus_programs.specs.BusRoutes.{routes_of}
-use Rattle.bus_programs.proofs.CallerLemmas.{same_bus, bus_or_fault, memory_status, told_fault, told_too_much, RowTells, ReadsCalmly, calm_unread, calm_whole, told_first}
+use Rattle.bus_programs.proofs.CallerLemmas.{same_bus, bus_or_fault, offered_no_fault, memory_status, told_fault, told_too_much, RowTells, ReadsCalmly, calm_unread, calm_whole, told_first}
 use Rattle.store_growing.specs.declared.faults.GrowFault.{GrowFault}
 use Rattle.store_growing.specs.declared.faults.GrowFault.TheVariants as fault
 use Rattle.store_growing.specs.RouteCells.{route_cell}
-use Rattle.store_growing.specs.GrowingStores.{GrowsStore, NotGrown}
-use Rattle.bus_store_commands.specs.NodeBuses.{LacksNodeBus, no_bus, other_nodes}
+use Rattle.store_growing.specs.GrowingStores.{GrowsStore, NotGrown, CanBeGrown, CannotBeGrown}
+use Rattle.store_growing.proofs.CallerLemmas.{a_store_that_can_grow_is_not_refused, small_told}
+use Rattle.bus_store_commands.specs.NodeBuses.{OffersNodeBus, LacksNodeBus, no_bus, other_nodes}
 use Rattle.bus_store_commands.specs.BusWords.{asks_over_bus}
 use Rattle.bus_store_commands.specs.GrowRows.{GrowsOnDisk, no_text, grown, not_grown, grown_row, IsGrowRow}
 use Rattle.bus_store_commands.specs.GrowsOverBus.{GrowInputs, AsksGrowth, grow_usage, LacksGrowth, asks_none, without_bus, ComesNamed, not_opened, over_disk}
-use Rattle.bus_store_commands.specs.GrowsOverBus.{ComesOfGrowth, lacks_bus, with_bus, file_of, OverStore, GrowsOverBus}
+use Rattle.bus_store_commands.specs.GrowsOverBus.{OpensGrownDisk, ComesOfGrowth, lacks_bus, with_bus, file_of, OverStore, CountsStoreFault, GrowsOverBus}
 use Rattle.bus_store_commands.proofs.CheckTells.{asks_or_not}
 
 -- ---- what comes over a disk, by its status
@@ -45,7 +53,7 @@ fault_status fault.Memory row is = inr (inl (status_of is))
 
 pub disk_status : (routes : List Route) (old new : DiskState) (row : Row) → GrowsOnDisk routes old new row → IsGrowStatus row.status
 disk_status routes old new row (no_text same) = inr (inl refl)
-disk_status routes old new row (grown grows faults) = inl refl
+disk_status routes old new row (grown could grows faults) = inl refl
 disk_status routes old new row (not_grown f _ why is) = fault_status f row is
 
 isnt : (n : ℕ) (status : ℕ) → IsGrowStatus status → status ≡ n → ¬ IsGrowStatus n → ⊥
@@ -84,7 +92,7 @@ not_8 (inr (inr (inr is))) = omega (arith, is)
 disk_0 : (routes : List Route) (old new : DiskState) (row : Row) → GrowsOnDisk routes old new row → row.status ≡ 0
     → GrowsStore routes old new × (new.faults ≡ old.faults) × (row ≡ grown_row (route_cell (length routes)))
 disk_0 routes old new row (no_text same) is = absurd (omega (arith, is))
-disk_0 routes old new row (grown grows faults) is = (grows, faults, refl)
+disk_0 routes old new row (grown could grows faults) is = (grows, faults, refl)
 disk_0 routes old new row (not_grown fault.DiskFailed _ why says) is = absurd (omega (arith, is, status_of says))
 disk_0 routes old new row (not_grown fault.NotFormatted _ why says) is = absurd (omega (arith, is, status_of says))
 disk_0 routes old new row (not_grown fault.TooSmall _ why says) is = absurd (omega (arith, is, status_of says))
@@ -95,7 +103,7 @@ disk_0 routes old new row (not_grown fault.Memory _ why says) is = absurd (omega
 disk_7 : (routes : List Route) (old new : DiskState) (row : Row) → GrowsOnDisk routes old new row → row.status ≡ 7
     → (new.told ≡ old.told) × (row ≡ memory_row)
 disk_7 routes old new row (no_text same) is = (ap (λ (d : DiskState). d.told) same, refl)
-disk_7 routes old new row (grown grows faults) is = absurd (omega (arith, is))
+disk_7 routes old new row (grown could grows faults) is = absurd (omega (arith, is))
 disk_7 routes old new row (not_grown fault.DiskFailed _ why says) is = absurd (omega (arith, is, status_of says))
 disk_7 routes old new row (not_grown fault.NotFormatted _ why says) is = absurd (omega (arith, is, status_of says))
 disk_7 routes old new row (not_grown fault.TooSmall _ why says) is = absurd (omega (arith, is, status_of says))
@@ -103,26 +111,77 @@ disk_7 routes old new row (not_grown (fault.BadBound cell) _ why (inl says)) is 
 disk_7 routes old new row (not_grown (fault.BadBound cell) _ why (inr says)) is = (why.0.told, says)
 disk_7 routes old new row (not_grown fault.Memory _ why says) is = (why.told, says)
 
-disk_9 : (routes : List Route) (old new : DiskState) (row : Row) → GrowsOnDisk routes old new row → row.status ≡ 9
-    → (new.told ≡ old.told) × ((f : GrowFault) × NotGrown routes old new f × IsGrowRow f row)
-disk_9 routes old new row (no_text same) is = absurd (omega (arith, is))
-disk_9 routes old new row (grown grows faults) is = absurd (omega (arith, is))
-disk_9 routes old new row (not_grown fault.DiskFailed _ why says) is = absurd (omega (arith, is, status_of says))
-disk_9 routes old new row (not_grown fault.NotFormatted _ why says) is = (why.0.told, (fault.NotFormatted, why, says))
-disk_9 routes old new row (not_grown fault.TooSmall _ why says) is = (why.0.told, (fault.TooSmall, why, says))
-disk_9 routes old new row (not_grown (fault.BadBound cell) _ why says) is = (why.0.told, (fault.BadBound cell, why, says))
-disk_9 routes old new row (not_grown fault.Memory _ why says) is = absurd (omega (arith, is, status_of says))
+disk_9 : (routes : List Route) (old new : DiskState) (row : Row) → TellsFirmBytes old → GrowsOnDisk routes old new row → row.status ≡ 9
+    → AsBefore 2 old new × ((f : GrowFault) × CannotBeGrown routes old f × IsGrowRow f row)
+disk_9 routes old new row tells (no_text same) is = absurd (omega (arith, is))
+disk_9 routes old new row tells (grown could grows faults) is = absurd (omega (arith, is))
+disk_9 routes old new row tells (not_grown fault.DiskFailed _ why says) is = absurd (omega (arith, is, status_of says))
+disk_9 routes old new row tells (not_grown fault.NotFormatted _ why says) is = (why.0, (fault.NotFormatted, why.1 tells.bytes tells.told, says))
+disk_9 routes old new row tells (not_grown fault.TooSmall _ why says) is = (why.0, (fault.TooSmall, small_told routes old tells.bytes tells.told why.1, says))
+disk_9 routes old new row tells (not_grown (fault.BadBound cell) _ why says) is = (why.0, (fault.BadBound cell, why.1 tells.bytes tells.told, says))
+disk_9 routes old new row tells (not_grown fault.Memory _ why says) is = absurd (omega (arith, is, status_of says))
 
 disk_10 : (routes : List Route) (old new : DiskState) (row : Row) → GrowsOnDisk routes old new row → row.status ≡ 10
     → NotGrown routes old new fault.DiskFailed × IsGrowRow fault.DiskFailed row
 disk_10 routes old new row (no_text same) is = absurd (omega (arith, is))
-disk_10 routes old new row (grown grows faults) is = absurd (omega (arith, is))
+disk_10 routes old new row (grown could grows faults) is = absurd (omega (arith, is))
 disk_10 routes old new row (not_grown fault.DiskFailed _ why says) is = (why, says)
 disk_10 routes old new row (not_grown fault.NotFormatted _ why says) is = absurd (omega (arith, is, status_of says))
 disk_10 routes old new row (not_grown fault.TooSmall _ why says) is = absurd (omega (arith, is, status_of says))
 disk_10 routes old new row (not_grown (fault.BadBound cell) _ why (inl says)) is = absurd (omega (arith, is, status_of says))
 disk_10 routes old new row (not_grown (fault.BadBound cell) _ why (inr says)) is = absurd (omega (arith, is, status_of says))
 disk_10 routes old new row (not_grown fault.Memory _ why says) is = absurd (omega (arith, is, status_of says))
+
+-- ---- which rows come over a disk that tells its bytes
+
+-- a cause stands, and no call failed
+disk_cause : (routes : List Route) (old new : DiskState) (row : Row) (f : GrowFault) → length routes ≤ 256 → TellsFirmBytes old
+    → GrowsOnDisk routes old new row → CannotBeGrown routes old f → ¬ Rose old.faults new.faults → (row.status ≡ 9) ⊎ (row.status ≡ 7)
+disk_cause routes old new row f few tells (no_text same) cannot calm = inr refl
+disk_cause routes old new row f few tells (grown could grows faults) cannot calm =
+    absurd (a_store_that_can_grow_is_not_refused routes old f few (could tells.bytes tells.told) cannot)
+disk_cause routes old new row f few tells (not_grown fault.DiskFailed _ why says) cannot calm = absurd (calm why.0)
+disk_cause routes old new row f few tells (not_grown fault.NotFormatted _ why says) cannot calm = inl (status_of says)
+disk_cause routes old new row f few tells (not_grown fault.TooSmall _ why says) cannot calm = inl (status_of says)
+disk_cause routes old new row f few tells (not_grown (fault.BadBound cell) _ why (inl says)) cannot calm = inl (status_of says)
+disk_cause routes old new row f few tells (not_grown (fault.BadBound cell) _ why (inr says)) cannot calm = inr (status_of says)
+disk_cause routes old new row f few tells (not_grown fault.Memory _ why says) cannot calm = inr (status_of says)
+
+-- the store can be grown, and no call failed
+disk_can : (routes : List Route) (old new : DiskState) (row : Row) → length routes ≤ 256 → TellsFirmBytes old
+    → GrowsOnDisk routes old new row → CanBeGrown routes old → ¬ Rose old.faults new.faults → (row.status ≡ 0) ⊎ (row.status ≡ 7)
+disk_can routes old new row few tells (no_text same) can calm = inr refl
+disk_can routes old new row few tells (grown could grows faults) can calm = inl refl
+disk_can routes old new row few tells (not_grown fault.DiskFailed _ why says) can calm = absurd (calm why.0)
+disk_can routes old new row few tells (not_grown fault.NotFormatted _ why says) can calm =
+    absurd (a_store_that_can_grow_is_not_refused routes old fault.NotFormatted few can (why.1 tells.bytes tells.told))
+disk_can routes old new row few tells (not_grown fault.TooSmall _ why says) can calm =
+    absurd (a_store_that_can_grow_is_not_refused routes old fault.TooSmall few can (small_told routes old tells.bytes tells.told why.1))
+disk_can routes old new row few tells (not_grown (fault.BadBound cell) _ why says) can calm =
+    absurd (a_store_that_can_grow_is_not_refused routes old (fault.BadBound cell) few can (why.1 tells.bytes tells.told))
+disk_can routes old new row few tells (not_grown fault.Memory _ why says) can calm = inr (status_of says)
+
+-- a call failed
+disk_rose : (routes : List Route) (old new : DiskState) (row : Row) → GrowsOnDisk routes old new row → old.faults < new.faults → row.status ≡ 10
+disk_rose routes old new row (no_text same) rose = absurd (omega (arith, rose, ap (λ (d : DiskState). d.faults) same))
+disk_rose routes old new row (grown could grows faults) rose = absurd (omega (arith, rose, faults))
+disk_rose routes old new row (not_grown fault.DiskFailed _ why says) rose = status_of says
+disk_rose routes old new row (not_grown fault.NotFormatted _ why says) rose = absurd (let same = why.0.faults in omega (arith, rose, same))
+disk_rose routes old new row (not_grown fault.TooSmall _ why says) rose = absurd (let same = why.0.faults in omega (arith, rose, same))
+disk_rose routes old new row (not_grown (fault.BadBound cell) _ why says) rose = absurd (let same = why.0.faults in omega (arith, rose, same))
+disk_rose routes old new row (not_grown fault.Memory _ why says) rose = absurd (let same = why.faults in omega (arith, rose, same))
+
+-- ---- a node has at most 256 routes
+
+most_256 : (version : Version) → most_routes version ≤ 256
+most_256 One = omega arith
+most_256 Two = omega arith
+
+pub few_routes : (bus : NamedBus) → IsNamedBus bus → length (routes_of bus) ≤ 256
+few_routes bus is =
+    let few = All-get_or (λ (node : NodeLine). length node.config.routes ≤ most_routes bus.version) bus.nodes 0 no_node is.least is.few_routes in
+    let most = most_256 bus.version in
+    omega (arith, few, most)
 
 -- ---- what comes of arguments or a bus file that give no bus
 
@@ -134,6 +193,33 @@ lacks_0 i row (without_bus _ asks (no_bus _ (no_file input.TooLong lacks))) is =
 lacks_0 i row (without_bus _ asks (no_bus _ (no_file input.Memory lacks))) is = omega (arith, is)
 lacks_0 i row (without_bus _ asks (no_bus _ (file_refused cause text is_fault says))) is = omega (arith, is)
 lacks_0 i row (without_bus _ asks (other_nodes bus reads others)) is = omega (arith, is)
+
+-- ---- the statuses of a run
+
+-- 0, 2, 3, or 5 to 10
+abbrev pub IsRunStatus : ℕ → Type 0
+IsRunStatus status = (status ≡ 0) ⊎ ((status ≡ 2) ⊎ ((status ≡ 3) ⊎ ((5 ≤ status) × (status ≤ 10))))
+
+grow_status : (status : ℕ) → IsGrowStatus status → IsRunStatus status
+grow_status status (inl is) = inl is
+grow_status status (inr (inl is)) = inr (inr (inr (omega (arith, is), omega (arith, is))))
+grow_status status (inr (inr (inl is))) = inr (inr (inr (omega (arith, is), omega (arith, is))))
+grow_status status (inr (inr (inr is))) = inr (inr (inr (omega (arith, is), omega (arith, is))))
+
+lacks_status : (i : GrowInputs) (row : Row) → LacksGrowth i row → IsRunStatus row.status
+lacks_status i row (asks_none none unread) = inr (inl refl)
+lacks_status i row (without_bus _ asks (no_bus _ (no_file input.ReadFault lacks))) = inr (inr (inr (omega arith, omega arith)))
+lacks_status i row (without_bus _ asks (no_bus _ (no_file input.TooLong lacks))) = inr (inr (inr (omega arith, omega arith)))
+lacks_status i row (without_bus _ asks (no_bus _ (no_file input.Memory lacks))) = inr (inr (inr (omega arith, omega arith)))
+lacks_status i row (without_bus _ asks (no_bus _ (file_refused cause text is_fault says))) = inr (inr (inl refl))
+lacks_status i row (without_bus _ asks (other_nodes bus reads others)) = inr (inr (inl refl))
+
+-- the disk that was left is one
+none_left : {left : Option DiskState} (new : DiskState) → left ≡ Some new → left ≡ None → ⊥
+none_left new there none = cc
+
+one_left : {left : Option DiskState} (new other : DiskState) → left ≡ Some new → left ≡ Some other → new ≡ other
+one_left new other there also = cc
 
 -- a source that is left as it is
 abbrev left_so : Reading → Reading
@@ -161,15 +247,15 @@ module _ (opens : List ℕ → DiskState → Type 0) (before after : List (List 
 
   row_tells : (row : Row) → Comes row → RowTells row i.bus (left_so i.bus)
   row_tells row (lacks_bus _ lacks once none) = lacks_tells i row lacks
-  row_tells row (with_bus bus _ asks ((read, whole, is), one) comes) = inr (inr (calm_whole i.bus read whole, calm_so i.bus))
+  row_tells row (with_bus bus _ named asks ((read, whole, is), one) comes) = inr (inr (calm_whole i.bus read whole, calm_so i.bus))
 
   grown_at : (row : Row) → Comes row → row.status ≡ 0 → PrintsWhole e row.text
       → Over (λ routes old new. GrowsStore routes old new × (new.faults ≡ old.faults) × PrintsWhole e (grown_row (route_cell (length routes))).text)
   grown_at row (lacks_bus _ lacks once none) is prints = absurd (lacks_0 i row lacks (inl is))
-  grown_at row (with_bus bus _ asks reads (not_opened once none)) is prints = absurd (omega (arith, is))
-  grown_at row (with_bus bus _ asks reads (over_disk disk _ comes)) is prints =
+  grown_at row (with_bus bus _ named asks reads (not_opened once none)) is prints = absurd (omega (arith, is))
+  grown_at row (with_bus bus _ named asks reads (over_disk disk _ comes)) is prints =
       let (grows, faults, row_is) = disk_0 _ _ _ row comes is in
-      (bus, asks, reads, disk, (grows, faults, subst (λ (r : Row). PrintsWhole e r.text) row_is prints))
+      (bus, named, asks, reads, disk, (grows, faults, subst (λ (r : Row). PrintsWhole e r.text) row_is prints))
 
   no_memory_at : (row : Row) → Comes row → row.status ≡ 7 → PrintsWhole e row.text
       → PrintsWhole e [] × ((left ≡ None) ⊎ Over (λ routes old new. new.told ≡ old.told))
@@ -179,26 +265,26 @@ module _ (opens : List ℕ → DiskState → Type 0) (before after : List (List 
   no_memory_at row (lacks_bus _ (without_bus _ asks (no_bus _ (no_file input.Memory lacks))) once opened) is prints = (prints, inl opened)
   no_memory_at row (lacks_bus _ (without_bus _ asks (no_bus _ (file_refused cause text is_fault says))) once opened) is prints = absurd (omega (arith, is))
   no_memory_at row (lacks_bus _ (without_bus _ asks (other_nodes bus reads others)) once opened) is prints = absurd (omega (arith, is))
-  no_memory_at row (with_bus bus _ asks reads (not_opened once none)) is prints = (prints, inl none)
-  no_memory_at row (with_bus bus _ asks reads (over_disk disk _ comes)) is prints =
+  no_memory_at row (with_bus bus _ named asks reads (not_opened once none)) is prints = (prints, inl none)
+  no_memory_at row (with_bus bus _ named asks reads (over_disk disk _ comes)) is prints =
       let (told, row_is) = disk_7 _ _ _ row comes is in
-      (subst (λ (r : Row). PrintsWhole e r.text) row_is prints, inr (bus, asks, reads, disk, told))
+      (subst (λ (r : Row). PrintsWhole e r.text) row_is prints, inr (bus, named, asks, reads, disk, told))
 
   no_store_at : (row : Row) → Comes row → row.status ≡ 9 → PrintsWhole e row.text
-      → Over (λ routes old new. (new.told ≡ old.told) × ((f : GrowFault) × (shown : Row) × NotGrown routes old new f × IsGrowRow f shown × (shown.status ≡ 9) × PrintsWhole e shown.text))
+      → Over (λ routes old new. AsBefore 2 old new × ((f : GrowFault) × (shown : Row) × CannotBeGrown routes old f × IsGrowRow f shown × (shown.status ≡ 9) × PrintsWhole e shown.text))
   no_store_at row (lacks_bus _ lacks once none) is prints = absurd (lacks_0 i row lacks (inr (inl is)))
-  no_store_at row (with_bus bus _ asks reads (not_opened once none)) is prints = absurd (omega (arith, is))
-  no_store_at row (with_bus bus _ asks reads (over_disk disk _ comes)) is prints =
-      let (told, (f, why, says)) = disk_9 _ _ _ row comes is in
-      (bus, asks, reads, disk, (told, (f, row, why, says, is, prints)))
+  no_store_at row (with_bus bus _ named asks reads (not_opened once none)) is prints = absurd (omega (arith, is))
+  no_store_at row (with_bus bus _ named asks reads (over_disk disk _ comes)) is prints =
+      let (before_is, (f, why, says)) = disk_9 _ _ _ row disk.tells comes is in
+      (bus, named, asks, reads, disk, (before_is, (f, row, why, says, is, prints)))
 
   disk_failed_at : (row : Row) → Comes row → row.status ≡ 10 → PrintsWhole e row.text
       → Over (λ routes old new. NotGrown routes old new fault.DiskFailed × PrintsWhole e (codes "store: DiskFailed\n"))
   disk_failed_at row (lacks_bus _ lacks once none) is prints = absurd (lacks_0 i row lacks (inr (inr (inl is))))
-  disk_failed_at row (with_bus bus _ asks reads (not_opened once none)) is prints = absurd (omega (arith, is))
-  disk_failed_at row (with_bus bus _ asks reads (over_disk disk _ comes)) is prints =
+  disk_failed_at row (with_bus bus _ named asks reads (not_opened once none)) is prints = absurd (omega (arith, is))
+  disk_failed_at row (with_bus bus _ named asks reads (over_disk disk _ comes)) is prints =
       let (why, says) = disk_10 _ _ _ row comes is in
-      (bus, asks, reads, disk, (why, subst (λ (r : Row). PrintsWhole e r.text) says prints))
+      (bus, named, asks, reads, disk, (why, subst (λ (r : Row). PrintsWhole e r.text) says prints))
 
   over_isnt : (n : ℕ) (bus : NamedBus) (row : Row) → AsksGrowth i.words → ComesNamed opens before after (file_of i) (routes_of bus) left row
       → row.status ≡ n → ¬ IsGrowStatus n → ⊥
@@ -213,7 +299,7 @@ module _ (opens : List ℕ → DiskState → Type 0) (before after : List (List 
   at_2 row (lacks_bus _ (without_bus _ asks (no_bus _ (no_file input.Memory lacks))) once opened) is prints = absurd (omega (arith, is))
   at_2 row (lacks_bus _ (without_bus _ asks (no_bus _ (file_refused cause text is_fault says))) once opened) is prints = absurd (omega (arith, is))
   at_2 row (lacks_bus _ (without_bus _ asks (other_nodes bus reads others)) once opened) is prints = absurd (omega (arith, is))
-  at_2 row (with_bus bus _ asks reads comes) is prints = absurd (over_isnt 2 bus row asks comes is not_2)
+  at_2 row (with_bus bus _ named asks reads comes) is prints = absurd (over_isnt 2 bus row asks comes is not_2)
 
   at_3 : (row : Row) → Comes row → row.status ≡ 3 → PrintsWhole e row.text
       → AsksGrowth i.words × (after ≡ before) × ((row : Row) × LacksNodeBus i.bus row × (row.status ≡ 3) × PrintsWhole e row.text)
@@ -224,7 +310,7 @@ module _ (opens : List ℕ → DiskState → Type 0) (before after : List (List 
   at_3 row (lacks_bus _ (without_bus _ asks (no_bus _ (file_refused cause text is_fault says))) once opened) is prints =
       (asks, once, (row, no_bus row (file_refused cause text is_fault says), is, prints))
   at_3 row (lacks_bus _ (without_bus _ asks (other_nodes bus reads others)) once opened) is prints = (asks, once, (row, other_nodes bus reads others, is, prints))
-  at_3 row (with_bus bus _ asks reads comes) is prints = absurd (over_isnt 3 bus row asks comes is not_3)
+  at_3 row (with_bus bus _ named asks reads comes) is prints = absurd (over_isnt 3 bus row asks comes is not_3)
 
   at_5 : (row : Row) → Comes row → row.status ≡ 5 → PrintsWhole e row.text
       → SourceFailed i.bus × (after ≡ before) × PrintsWhole e (codes "read fault\n")
@@ -234,7 +320,7 @@ module _ (opens : List ℕ → DiskState → Type 0) (before after : List (List 
   at_5 row (lacks_bus _ (without_bus _ asks (no_bus _ (no_file input.Memory lacks))) once opened) is prints = absurd (omega (arith, is))
   at_5 row (lacks_bus _ (without_bus _ asks (no_bus _ (file_refused cause text is_fault says))) once opened) is prints = absurd (omega (arith, is))
   at_5 row (lacks_bus _ (without_bus _ asks (other_nodes bus reads others)) once opened) is prints = absurd (omega (arith, is))
-  at_5 row (with_bus bus _ asks reads comes) is prints = absurd (over_isnt 5 bus row asks comes is not_5)
+  at_5 row (with_bus bus _ named asks reads comes) is prints = absurd (over_isnt 5 bus row asks comes is not_5)
 
   at_8 : (row : Row) → Comes row → row.status ≡ 8 → PrintsWhole e row.text
       → GivesTooMuch i.bus × (after ≡ before) × PrintsWhole e (codes "input too long\n")
@@ -244,18 +330,18 @@ module _ (opens : List ℕ → DiskState → Type 0) (before after : List (List 
   at_8 row (lacks_bus _ (without_bus _ asks (no_bus _ (no_file input.Memory lacks))) once opened) is prints = absurd (omega (arith, is))
   at_8 row (lacks_bus _ (without_bus _ asks (no_bus _ (file_refused cause text is_fault says))) once opened) is prints = absurd (omega (arith, is))
   at_8 row (lacks_bus _ (without_bus _ asks (other_nodes bus reads others)) once opened) is prints = absurd (omega (arith, is))
-  at_8 row (with_bus bus _ asks reads comes) is prints = absurd (over_isnt 8 bus row asks comes is not_8)
+  at_8 row (with_bus bus _ named asks reads comes) is prints = absurd (over_isnt 8 bus row asks comes is not_8)
 
   never_6 : (row : Row) → Comes row → ¬ (row.status ≡ 6)
   never_6 row (lacks_bus _ lacks once opened) is = lacks_0 i row lacks (inr (inr (inr is)))
-  never_6 row (with_bus bus _ asks reads comes) is = over_isnt 6 bus row asks comes is not_6
+  never_6 row (with_bus bus _ named asks reads comes) is = over_isnt 6 bus row asks comes is not_6
 
   -- ---- which rows come
 
   only_2 : asks_over_bus (codes "grow") i.words ≡ false → (row : Row) → Comes row → row.status ≡ 2
   only_2 none row (lacks_bus _ (asks_none also unread) once opened) = refl
   only_2 none row (lacks_bus _ (without_bus _ asks lacks) once opened) = absurd (asks_or_not (asks_over_bus (codes "grow") i.words) none asks)
-  only_2 none row (with_bus bus _ asks reads comes) = absurd (asks_or_not (asks_over_bus (codes "grow") i.words) none asks)
+  only_2 none row (with_bus bus _ named asks reads comes) = absurd (asks_or_not (asks_over_bus (codes "grow") i.words) none asks)
 
   only_config : (config : List ℕ) (cause : ConfigFault) → AsksGrowth i.words → Offers i.bus config → bus_of config ≡ Err cause
       → (row : Row) → Comes row → (row.status ≡ 3) ⊎ (row.status ≡ 7)
@@ -265,7 +351,7 @@ module _ (opens : List ℕ → DiskState → Type 0) (before after : List (List 
       inr (memory_status i.bus config why offers lacks)
   only_config config cause asks offers err row (lacks_bus _ (without_bus _ also (no_bus _ (file_refused why text is_fault says))) once opened) = inl refl
   only_config config cause asks offers err row (lacks_bus _ (without_bus _ also (other_nodes bus reads others)) once opened) = inl refl
-  only_config config cause asks offers err row (with_bus bus _ also reads comes) = absurd (bus_or_fault i.bus bus config cause reads.0 offers err)
+  only_config config cause asks offers err row (with_bus bus _ named also reads comes) = absurd (bus_or_fault i.bus bus config cause reads.0 offers err)
 
   only_nodes : (bus : NamedBus) → AsksGrowth i.words → OffersBus i.bus bus → length bus.nodes ≢ 1
       → (row : Row) → Comes row → (row.status ≡ 3) ⊎ (row.status ≡ 7)
@@ -275,8 +361,58 @@ module _ (opens : List ℕ → DiskState → Type 0) (before after : List (List 
       inr (memory_status i.bus file why offers lacks)
   only_nodes bus asks offers others row (lacks_bus _ (without_bus _ also (no_bus _ (file_refused why text is_fault says))) once opened) = inl refl
   only_nodes bus asks offers others row (lacks_bus _ (without_bus _ also (other_nodes that reads more)) once opened) = inl refl
-  only_nodes bus asks offers others row (with_bus that _ also reads comes) =
+  only_nodes bus asks offers others row (with_bus that _ named also reads comes) =
       absurd (others (sym (ap (λ (b : NamedBus). length b.nodes) (same_bus i.bus that bus reads.0 offers)) ∙ reads.1))
+
+  -- a bus file that is offered gives its bus, or memory is out
+  offered : (bus : NamedBus) (n : ℕ) → AsksGrowth i.words → OffersNodeBus i.bus bus
+      → ((disk : OpensGrownDisk opens before after (file_of i) left) (row : Row) → IsNamedBus bus → GrowsOnDisk (routes_of bus) disk.old disk.new row
+      → (row.status ≡ n) ⊎ (row.status ≡ 7))
+      → (row : Row) → Comes row → (row.status ≡ n) ⊎ (row.status ≡ 7)
+  offered bus n asks offers each row (lacks_bus _ (asks_none none unread) once opened) =
+      absurd (asks_or_not (asks_over_bus (codes "grow") i.words) none asks)
+  offered bus n asks ((file, offers, is), one) each row (lacks_bus _ (without_bus _ also (no_bus _ (no_file why lacks))) once opened) =
+      inr (memory_status i.bus file why offers lacks)
+  offered bus n asks offers each row (lacks_bus _ (without_bus _ also (no_bus _ (file_refused why text is_fault says))) once opened) =
+      absurd (offered_no_fault i.bus bus why offers.0 is_fault)
+  offered bus n asks offers each row (lacks_bus _ (without_bus _ also (other_nodes that reads more)) once opened) =
+      absurd (more (ap (λ (b : NamedBus). length b.nodes) (same_bus i.bus that bus reads offers.0) ∙ offers.1))
+  offered bus n asks offers each row (with_bus that _ named also reads (not_opened once none)) = inr refl
+  offered bus n asks offers each row (with_bus that _ named also reads (over_disk disk _ comes)) =
+      let same : that ≡ bus = same_bus i.bus that bus reads.0 offers.0 in
+      each disk row (subst IsNamedBus same named) (subst (λ (b : NamedBus). GrowsOnDisk (routes_of b) disk.old disk.new row) same comes)
+
+  only_cause : (bus : NamedBus) (f : GrowFault) → AsksGrowth i.words → OffersNodeBus i.bus bus
+      → ((disk : OpensGrownDisk opens before after (file_of i) left) → CannotBeGrown (routes_of bus) disk.old f × (¬ Rose disk.old.faults disk.new.faults))
+      → (row : Row) → Comes row → (row.status ≡ 9) ⊎ (row.status ≡ 7)
+  only_cause bus f asks offers has =
+      offered bus 9 asks offers (λ disk row named comes.
+      disk_cause (routes_of bus) disk.old disk.new row f (few_routes bus named) disk.tells comes (has disk).0 (has disk).1)
+
+  only_can : (bus : NamedBus) → AsksGrowth i.words → OffersNodeBus i.bus bus
+      → ((disk : OpensGrownDisk opens before after (file_of i) left) → CanBeGrown (routes_of bus) disk.old × (¬ Rose disk.old.faults disk.new.faults))
+      → (row : Row) → Comes row → (row.status ≡ 0) ⊎ (row.status ≡ 7)
+  only_can bus asks offers has =
+      offered bus 0 asks offers (λ disk row named comes.
+      disk_can (routes_of bus) disk.old disk.new row (few_routes bus named) disk.tells comes (has disk).0 (has disk).1)
+
+  only_rose : CountsStoreFault opens before after i left → (row : Row) → Comes row → row.status ≡ 10
+  only_rose (new, there, rose) row (lacks_bus _ lacks once opened) = absurd (none_left new there opened)
+  only_rose (new, there, rose) row (with_bus bus _ named asks reads (not_opened once none)) = absurd (none_left new there none)
+  only_rose (new, there, rose) row (with_bus bus _ named asks reads (over_disk disk _ comes)) =
+      disk_rose (routes_of bus) disk.old disk.new row comes
+      (subst (λ (d : DiskState). disk.old.faults < d.faults) (one_left new disk.new there disk.left_is) (rose disk.old disk.opened))
+
+  row_status : (row : Row) → Comes row → IsRunStatus row.status
+  row_status row (lacks_bus _ lacks once opened) = lacks_status i row lacks
+  row_status row (with_bus bus _ named asks reads (not_opened once none)) = inr (inr (inr (omega arith, omega arith)))
+  row_status row (with_bus bus _ named asks reads (over_disk disk _ comes)) = grow_status row.status (disk_status _ _ _ row comes)
+
+  run_status : EndsInRow Comes e → IsRunStatus e.status
+  run_status ends = elim ends.told [
+    | inl (is, well) ↦ subst IsRunStatus (sym is) (row_status ends.row ends.comes)
+    | inr (is, rose, part) ↦ inr (inr (inr (omega (arith, is), omega (arith, is))))
+  ]
 
   pub grows_row : EndsInRow Comes e → GrowsOverBus opens before after i left e
   grows_row ends = record {
@@ -295,5 +431,9 @@ module _ (opens : List ℕ → DiskState → Type 0) (before after : List (List 
     too_long = EndsInRow-at ends 8 refl at_8;
     too_long_only = λ counts. EndsInRow-only ends 8 (λ row comes. told_too_much row i.bus (left_so i.bus) (row_tells row comes) (inl counts));
     no_store = EndsInRow-at ends 9 refl no_store_at;
+    no_store_only = λ bus f asks offers has. EndsInRow-may ends 9 (only_cause bus f asks offers has);
     disk_failed = EndsInRow-at ends 10 refl disk_failed_at;
+    disk_failed_only = λ rose. EndsInRow-only ends 10 (only_rose rose);
+    complete = λ bus asks offers has well. EndsInRow-done ends well 0 (only_can bus asks offers has);
+    statuses = run_status ends;
   }

@@ -11,7 +11,7 @@ use Rattle.freshness_routes.specs.declared.routes.Route.{Route}
 use Rattle.store_growing.specs.declared.faults.GrowFault.{GrowFault}
 use Rattle.store_growing.specs.declared.faults.GrowFault.TheVariants.{DiskFailed, NotFormatted, TooSmall, BadBound, Memory}
 use Rattle.store_growing.specs.RouteCells.{route_cell}
-use Rattle.store_growing.specs.GrowingStores.{GrowsStore, NotGrown}
+use Rattle.store_growing.specs.GrowingStores.{OfBytes, CanBeGrown, GrowsStore, NotGrown}
 use Rattle.slot_commands.specs.StoreWords.{store_line_words}
 
 -- `grown twin 1 CELLS`
@@ -32,7 +32,7 @@ IsGrowRow Memory row = row ≡ memory_row
 -- what growing the store on a disk to these routes comes to
 pub data GrowsOnDisk (routes : List Route) (old new : DiskState) : Row → Type 0 where
   no_text : new ≡ old → GrowsOnDisk routes old new memory_row
-  grown : GrowsStore routes old new → new.faults ≡ old.faults
+  grown : OfBytes old (λ x. CanBeGrown routes old) → GrowsStore routes old new → new.faults ≡ old.faults
       → GrowsOnDisk routes old new (grown_row (route_cell (length routes)))
   not_grown : (fault : GrowFault) (row : Row) → NotGrown routes old new fault → IsGrowRow fault row
       → GrowsOnDisk routes old new row

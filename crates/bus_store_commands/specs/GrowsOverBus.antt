@@ -1,7 +1,8 @@
 -- What `slots grow FILE BUS` promises
-use Rattle.std.specs.Prelude.{◌≡◌, ◌≢◌, ◌⊎◌, ℕ, false, true, List, [], ◌∷◌, ◌++◌, Option, Some, None, Result, Ok, Err, length}
+use Rattle.std.specs.Prelude.{◌≡◌, ◌≢◌, ◌⊎◌, ℕ, ◌<◌, ◌≤◌, false, true, List, [], ◌∷◌, ◌++◌, Option, Some, None, Result, Ok, Err, length}
 use Rattle.std.specs.Prelude.{codes, slice_index_or}
 use Rattle.cut_disk.specs.State.{DiskState}
+use Rattle.cut_disk.specs.Calls.{Rose, AsBefore}
 use Rattle.file_disk.specs.NamedDisks.{TellsFirmBytes}
 use Rattle.text_lines.specs.Texts.{line}
 use Rattle.program_edge.specs.Rows.{Row, row_of, memory_row}
@@ -11,14 +12,14 @@ use Rattle.program_edge.specs.Endings.{CountsWriteFault}
 use Rattle.freshness_routes.specs.declared.routes.Route.{Route}
 use Rattle.bus_config.specs.declared.fault.ConfigFault.{ConfigFault}
 use Rattle.bus_config.specs.BusFile.{bus_of}
-use Rattle.bus_config.specs.Buses.{NamedBus}
+use Rattle.bus_config.specs.Buses.{NamedBus, IsNamedBus}
 use Rattle.bus_programs.specs.BusFiles.{OffersBus}
 use Rattle.bus_programs.specs.BusRoutes.{routes_of}
 use Rattle.store_growing.specs.declared.faults.GrowFault.{GrowFault}
 use Rattle.store_growing.specs.declared.faults.GrowFault.TheVariants.{DiskFailed}
 use Rattle.store_growing.specs.RouteCells.{route_cell}
-use Rattle.store_growing.specs.GrowingStores.{GrowsStore, NotGrown}
-use Rattle.bus_store_commands.specs.NodeBuses.{ReadsNodeBus, LacksNodeBus}
+use Rattle.store_growing.specs.GrowingStores.{GrowsStore, NotGrown, CanBeGrown, CannotBeGrown}
+use Rattle.bus_store_commands.specs.NodeBuses.{ReadsNodeBus, OffersNodeBus, LacksNodeBus}
 use Rattle.bus_store_commands.specs.BusWords.{asks_over_bus}
 use Rattle.bus_store_commands.specs.GrowRows.{GrowsOnDisk, IsGrowRow, grown_row}
 
@@ -69,14 +70,23 @@ file_of i = slice_index_or i.words 1 []
 pub data ComesOfGrowth (opens : List ℕ → DiskState → Type 0) (before after : List (List ℕ)) (i : GrowInputs)
     (left : Option DiskState) : Row → Type 0 where
   lacks_bus : (row : Row) → LacksGrowth i row → after ≡ before → left ≡ None → ComesOfGrowth opens before after i left row
-  with_bus : (bus : NamedBus) (row : Row) → AsksGrowth i.words → ReadsNodeBus i.bus bus
+  with_bus : (bus : NamedBus) (row : Row) → IsNamedBus bus → AsksGrowth i.words → ReadsNodeBus i.bus bus
       → ComesNamed opens before after (file_of i) (routes_of bus) left row → ComesOfGrowth opens before after i left row
 
 module _ (opens : List ℕ → DiskState → Type 0) (before after : List (List ℕ)) (i : GrowInputs) (left : Option DiskState) where
   -- the bus file was read whole, and the disk of FILE was opened once
   abbrev pub OverStore : (List Route → DiskState → DiskState → Type 0) → Type 0
-  OverStore Has = (bus : NamedBus) × AsksGrowth i.words × ReadsNodeBus i.bus bus
+  OverStore Has = (bus : NamedBus) × IsNamedBus bus × AsksGrowth i.words × ReadsNodeBus i.bus bus
       × (disk : OpensGrownDisk opens before after (file_of i) left) × Has (routes_of bus) disk.old disk.new
+
+  -- the disk of FILE, if one was opened, is such a one, as it was then and as it was left
+  abbrev pub OfStore : (DiskState → DiskState → Type 0) → Type 0
+  OfStore Has = (disk : OpensGrownDisk opens before after (file_of i) left) → Has disk.old disk.new
+
+  -- a disk was opened and left, and its count of faults rose since
+  abbrev pub CountsStoreFault : Type 0
+  CountsStoreFault = (new : DiskState) × (left ≡ Some new)
+      × ((old : DiskState) → opens (file_of i) old → old.faults < new.faults)
 
   -- what is promised of a run that ends so, in the order of the table of answers
   pub record GrowsOverBus (e : Ending) : Type 0 where
@@ -107,10 +117,21 @@ module _ (opens : List ℕ → DiskState → Type 0) (before after : List (List 
     -- 8: exactly if one byte more than an input may have came from the bus file's source.
     pub too_long : e.status ≡ 8 → GivesTooMuch i.bus × (after ≡ before) × PrintsWhole e (codes "input too long\n")
     pub too_long_only : CountsTooMuch i.bus → EndsIn 8 e
-    -- 9: the store can't be grown, and the disk is as it was; the first cause is printed.
-    pub no_store : e.status ≡ 9 → OverStore (λ routes old new. (new.told ≡ old.told)
-        × ((fault : GrowFault) × (row : Row) × NotGrown routes old new fault × IsGrowRow fault row × (row.status ≡ 9)
+    -- 9: exactly if there is a cause why the store can't be grown, and no call of the disk failed. The disk is as it
+    -- was, and the first cause is printed.
+    pub no_store : e.status ≡ 9 → OverStore (λ routes old new. AsBefore 2 old new
+        × ((fault : GrowFault) × (row : Row) × CannotBeGrown routes old fault × IsGrowRow fault row × (row.status ≡ 9)
         × PrintsWhole e row.text))
-    -- 10: a call of the disk failed; whatever the power leaves has the cells that the store had, or more.
+    pub no_store_only : (bus : NamedBus) (fault : GrowFault) → AsksGrowth i.words → OffersNodeBus i.bus bus
+        → OfStore (λ old new. CannotBeGrown (routes_of bus) old fault × (¬ Rose old.faults new.faults)) → MayEndIn 9 e
+    -- 10: exactly if the disk's count of faults rose; whatever the power leaves has the cells that the store had, or
+    -- more.
     pub disk_failed : e.status ≡ 10 → OverStore (λ routes old new. NotGrown routes old new DiskFailed
         × PrintsWhole e (codes "store: DiskFailed\n"))
+    pub disk_failed_only : CountsStoreFault → EndsIn 10 e
+    -- A store that can be grown is, if no port failed and there was memory.
+    pub complete : (bus : NamedBus) → AsksGrowth i.words → OffersNodeBus i.bus bus
+        → OfStore (λ old new. CanBeGrown (routes_of bus) old × (¬ Rose old.faults new.faults)) → ¬ SinkFailed e
+        → (e.status ≡ 0) ⊎ (e.status ≡ 7)
+    -- The statuses are 0, 2, 3 and 5 to 10.
+    pub statuses : (e.status ≡ 0) ⊎ (e.status ≡ 2) ⊎ (e.status ≡ 3) ⊎ ((5 ≤ e.status) × (e.status ≤ 10))

@@ -10,6 +10,8 @@ mod cutting;
 #[cfg(test)]
 mod either_stores;
 #[cfg(test)]
+mod growing_stores;
+#[cfg(test)]
 mod least_stores;
 #[cfg(test)]
 mod log_stores;

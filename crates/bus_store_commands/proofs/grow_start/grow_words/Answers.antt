@@ -1,5 +1,5 @@
--- Not checked yet: the form is bus_check_words'
-use Rattle.std.proofs.Common.{refl}
+use Rattle.std.proofs.Common.{refl, subst}
+use Rattle.bus_config.specs.Buses.{IsNamedBus}
 use Rattle.program_edge.specs.NamedSources.{word_source}
 use Rattle.bus_store_commands.proofs.GrowPhases.{with_routes, without_routes}
 use Rattle.bus_store_commands.proofs.grow_start.grow_words.Goals as goal
@@ -11,7 +11,7 @@ returns-in-Ok g c =
       named = rw c.file_over_bus.ensures at c.open_word-file.ensures.named;
       opened_once = rw c.file_over_bus.ensures at c.open_word-file.ensures.left;
       left_is = refl;
-      has = with_routes _ _ _ _ _ _ c.in-Ok.bus _ _ c.in-Ok.ensures.0 c.in-Ok.ensures.1 c.argument_at-word.ensures c.node_routes.ensures c.grow_named-status.ensures;
+      has = with_routes _ _ _ _ _ _ c.in-Ok.bus _ _ (subst IsNamedBus c.bus.view_is c.bus.invariant) c.in-Ok.ensures.0 c.in-Ok.ensures.1 c.argument_at-word.ensures c.node_routes.ensures c.grow_named-status.ensures;
     }
 
 pub returns-in-Err : goal.returns-in-Err

@@ -1,4 +1,3 @@
--- Not checked yet: the form is run_bus_check's
 use Rattle.bus_store_commands.proofs.growing.grow_over.Goals as goal
 
 pub returns-in-Ok : goal.returns-in-Ok
