@@ -178,30 +178,24 @@ def grow(data, routes):
     if len(data) < 32 + 68 * (wanted + 1):
         raise No(9, "store: TooSmall\n")
     head, number = data[:10] + data[12:32], int.from_bytes(data[10:12], "big")
-    place_of = lambda cell: slice(32 + 68 * cell, 100 + 68 * cell)
-    erased = lambda cell: data[place_of(cell)] in (bytes(68), b"\xff" * 68)
+    erased = lambda at, size: data[at:at + size] in (bytes(size), b"\xff" * size)
     if header(data, 2) or head != b"SECOCST1\1\1" + bytes(20):
         raise No(9, "store: NotFormatted\n")
+    held = twin_cells(data, wanted)
+    begins = [bytes([2, direction]) + name for name, direction, _ in routes]
+    has = [cell is not None and cell[:4] == begin and not any(cell[12:]) for cell, begin in zip(held[14:], begins)]
+    lacking = range((has + [False]).index(False), len(routes))
+    for cell in (14 + place for place in lacking):
+        at = 32 + 68 * cell
+        if cell < number or data[at] == LIVE or not erased(at + 34, 34):
+            raise No(9, f"store: BadBound {cell}\n")
+    if not erased(32 + 68 * wanted, 68):
+        raise No(9, "store: TooSmall\n")
     made = bytearray(data)
-    for place, (name, direction, bound) in enumerate(routes):
-        cell = 14 + place
-        begins = bytes([2, direction]) + name
-        fresh = bytes([LIVE, 0]) + begins + bound.to_bytes(8, "big") + bytes(20)
-        fresh += bytes([LIVE, 2]) + fresh[2:]
-        if made == data and (number == cell + 1 or not erased(cell + 1)):
-            held = twin_cells(data, cell + 1)[cell]
-            if held is None or held[:4] != begins or any(held[12:]):
-                raise No(9, f"store: BadBound {cell}\n")
-            continue
-        if made == data:
-            if number != cell and data[place_of(cell)] != fresh:
-                raise No(9, "store: NotFormatted\n")
-            if not all(erased(later) for later in range(cell + 1, wanted + 1)):
-                raise No(9, "store: TooSmall\n")
-        made[place_of(cell)] = fresh
-        made[10:12] = (cell + 1).to_bytes(2, "big")
-    if int.from_bytes(made[10:12], "big") != wanted:
-        raise No(9, "store: NotFormatted\n")
+    for place in lacking:
+        at = 32 + 68 * (14 + place)
+        made[at:at + 34] = bytes([LIVE, 0]) + begins[place] + routes[place][2].to_bytes(8, "big") + bytes(20)
+    made[10:12] = wanted.to_bytes(2, "big")
     return 0, f"grown twin 1 {wanted}\n", bytes(made)
 
 

@@ -1,32 +1,36 @@
 -- What the steps of a growth leave of a disk
-use Rattle.std.proofs.Common.{◌≡◌, ◌∙◌, ℕ, ◌+◌, ◌*◌, ◌-◌, ◌<◌, ◌≤◌, List, [], ◌∷◌, length, drop, take, get_or, refl, sym, ap, subst, inl, inr, arith, Bool, true}
-use Rattle.std.specs.Prelude.{Some, Result, Ok, Err, OnOk, OnErr}
-use Rattle.std.proofs.lemmas.List.{length-drop, length-take, get_or-drop, take_all}
-use Rattle.cut_disk.specs.State.{DiskState}
-use Rattle.cut_disk.specs.Images.{firm, ReadsAs}
+use Rattle.std.proofs.Common.{◌≡◌, ◌∙◌, ℕ, suc, ◌+◌, ◌*◌, ◌-◌, ◌<◌, ◌≤◌, List, [], ◌∷◌, length, drop, take, get_or, refl, sym, ap, subst, inl, inr, arith, Bool, true, false}
+use Rattle.std.specs.Prelude.{Option, Some, Result, Ok, Err, OnOk, OnErr}
+use Rattle.std.proofs.lemmas.List.{length-drop, length-take, take_all}
+use Rattle.std.proofs.lemmas.Option.{same_Some}
+use Rattle.basics.specs.Numbers.{bytes_of}
+use Rattle.basics.proofs.CallerLemmas.{length-bytes_of}
+use Rattle.cut_disk.specs.State.{DiskState, Told}
+use Rattle.cut_disk.specs.Images.{firm, splice, EachImage, Tears, ReadsAs}
 use Rattle.cut_disk.specs.Calls.{IsDisk, Runs, AsBefore}
+use Rattle.cut_disk.specs.Lasting.{Lasts}
 use Rattle.cut_disk.proofs.CallerLemmas.{runs_more, runs_join, as_before_none, as_before_more}
-use Rattle.cell_store.specs.declared.kinds.Version.TheVariants.{Two}
+use Rattle.cell_store.specs.declared.kinds.Version.TheVariants.{One, Two}
 use Rattle.cell_store.specs.declared.kinds.Probe.{Probe}
 use Rattle.cell_store.specs.declared.kinds.Probe.TheVariants as probe
-use Rattle.cell_store.specs.Layout.{layout, part, from_base}
-use Rattle.cell_store.specs.Store.{Probes}
-use Rattle.cell_store.specs.Twin.{twin_size}
+use Rattle.cell_store.specs.Layout.{SameOutside, layout, part, from_base, twin_layout}
+use Rattle.cell_store.specs.Store.{HasHeader, Probes}
+use Rattle.cell_store.specs.Twin.{first_at, is_live, twin_size}
 use Rattle.cell_store.specs.Reading.{ReadOnly}
-use Rattle.cell_store.proofs.CallerLemmas.{length-header, header-not_blank}
+use Rattle.cell_store.specs.Writing.{ClosesGate, Unfinished}
+use Rattle.cell_store.proofs.CallerLemmas.{length-header, header-not_blank, part-same, SameOutside-refl}
+use Rattle.cell_store.proofs.CallerLemmas.{closed-already, filling, opening, splice-gate, torn-outside}
 use Rattle.freshness_routes.specs.declared.routes.Route.{Route}
-use Rattle.store_plan.specs.declared.growing.Growth.TheVariants.{Before, Counting}
-use Rattle.store_plan.specs.declared.planning.Plan.{Plan}
-use Rattle.store_plan.specs.Plans.{applied}
-use Rattle.store_plan.specs.Growing.{IsErasedAfter, PlansGrowth, PlansCount}
-use Rattle.store_plan.specs.Performing.{DoesPlan, LeavesPlanCut}
+use Rattle.store_plan.specs.Growing.{with_number}
 use Rattle.store_growing.specs.declared.faults.GrowFault.{GrowFault}
 use Rattle.store_growing.specs.declared.faults.GrowFault.TheVariants as fault
-use Rattle.store_growing.specs.RouteCells.{route_cell, first_bound, IsNextCell, CanGrow, HasVersionTwo, RefusesBytes}
-use Rattle.store_growing.specs.GrowingStores.{OfBytes, GrowsOne, AddsRoutes, no_more, one_more, CutsRoutes, within, later, GrowsStore, CutsStore, NotGrown}
+use Rattle.store_growing.specs.RouteCells.{route_cell, first_bound, FreeFrom, CanGrow, HasVersionTwo, RefusesBytes}
+use Rattle.store_growing.specs.GrowingStores.{first_copy, with_cell, with_cells, with_routes, CutsCells, within, later, OfBytes, GrowsStore, CutsStore, NotGrown}
 use Rattle.store_growing.specs.GrowingStores.{HasRouteRoom, CanBeGrown, CannotBeGrown, newer, by_bytes}
-use Rattle.store_growing.specs.GrowSteps.{Sees, NotSeen, SaysStore, CanGet, RoomAfter, PlansNext, AddsOnDisk, CutsOnDisk}
-use Rattle.store_growing.proofs.CellsAdded.{Head, one_ends, one_within, erased_kept}
+use Rattle.store_growing.specs.GrowSteps.{Sees, NotSeen, SaysStore, AreClosed, MakesOfBytes, CutsCellOnDisk, CutsCellsOnDisk, CutsNumberOnDisk}
+use Rattle.store_growing.specs.GrowSteps.{WritesLacking, CutsLacking}
+use Rattle.store_growing.proofs.OneCell.{number_there, bound_sized, with_cell_same}
+use Rattle.store_growing.proofs.CellsWritten.{cells_within}
 
 -- ---- what is read
 
@@ -67,7 +71,53 @@ short_has_none x short (kind, n, few, head) =
 pub only_read : (most : ℕ) (old new : DiskState) → ReadOnly most old new → AsBefore most old new
 only_read most old new only = record { runs = only.runs; told = only.told; faults = only.faults }
 
--- ---- one plan, and the others
+-- ---- one cell
+
+-- what a disk tells is what it tells
+told_same : (P : List ℕ → Type 0) (old : Option Told) (x : List ℕ) → old ≡ Some (firm x) → P x → (t : Told) → old ≡ Some t → P t.bytes
+told_same P old x told p t also = subst (λ (s : Told). P s.bytes) (sym (same_Some _ _ (sym also ∙ told))) p
+
+module _ (cell at : ℕ) (route : Route) (payload copy : List ℕ) (old : DiskState) (disk : IsDisk old) (room : twin_size (cell + 1) ≤ old.size)
+    (at_is : at ≡ first_at cell) (payload_is : payload ≡ first_bound route) (copy_is : copy ≡ 0 ∷ payload) where
+  copy_first : copy ≡ 0 ∷ first_bound route
+  copy_first = copy_is ∙ ap (λ (b : List ℕ). 0 ∷ b) payload_is
+
+  copy_long : length copy ≡ 33
+  copy_long = ap length copy_first ∙ ap suc (bound_sized route)
+
+  long : (x : List ℕ) → old.told ≡ Some (firm x) → twin_size (cell + 1) ≤ length x
+  long x told = let e = told_sized old x disk told in omega (arith, e, room)
+
+  pub cell_written : (mid new : DiskState) → Lasts (at + 1) copy old.told mid.told → Lasts at (167 ∷ []) mid.told new.told
+      → MakesOfBytes (with_cell cell route) old new
+  cell_written mid new fills opens x told =
+      (subst (λ (k : ℕ). Lasts k (167 ∷ []) mid.told new.told) at_is opens) (firm (splice (first_at cell + 1) copy x))
+      ((subst (λ (k : ℕ). Lasts (k + 1) copy old.told mid.told) at_is fills) (firm x) told)
+      ∙ ap (λ (w : List ℕ). Some (firm w))
+      (splice-gate 33 (first_at cell) 167 copy x x copy_long (let l = long x told in omega (arith, l)) (SameOutside-refl (first_at cell) 1 x)
+      ∙ ap (λ (b : List ℕ). splice (first_at cell) (167 ∷ b) x) copy_first)
+
+  gate_closed : (x : List ℕ) → old.told ≡ Some (firm x) → is_live (part (first_at cell) 34 x) ≡ false → ClosesGate 33 (first_at cell) old.told old.told
+  gate_closed x told closed =
+      closed-already 33 (first_at cell) old.told (told_same (λ (b : List ℕ). is_live (part (first_at cell) 34 b) ≡ false) old.told x told closed)
+
+  pub filling_cut : (new : DiskState) → Tears (at + 1) (length copy) old.told new.told → CutsCellOnDisk cell route old new
+  filling_cut new torn x told closed =
+      filling 33 (first_at cell) (first_copy route) old.told old.told new.told (gate_closed x told closed)
+      (torn-outside (first_at cell + 1) 33 old.told new.told (λ t is. let e = disk.bytes_sized t is in omega (arith, e, room))
+      (subst (λ (k : ℕ). Tears (k + 1) 33 old.told new.told) at_is (subst (λ (n : ℕ). Tears (at + 1) n old.told new.told) copy_long torn))) x told
+
+  pub opening_cut : (mid new : DiskState) → IsDisk mid → mid.size ≡ old.size → Lasts (at + 1) copy old.told mid.told
+      → Tears at 1 mid.told new.told → CutsCellOnDisk cell route old new
+  opening_cut mid new disk_mid size fills torn x told closed =
+      subst (λ (b : List ℕ). EachImage new.told (Unfinished 33 (first_at cell) (167 ∷ b) x)) copy_first
+      (opening 33 (first_at cell) copy copy_long old.told old.told mid.told new.told
+      (λ t is. let e = disk.bytes_sized t is in omega (arith, e, room)) (gate_closed x told closed)
+      (subst (λ (k : ℕ). Lasts (k + 1) copy old.told mid.told) at_is fills)
+      (torn-outside (first_at cell) 1 mid.told new.told (λ t is. let e = disk_mid.bytes_sized t is in omega (arith, e, room, size))
+      (subst (λ (k : ℕ). Tears k 1 mid.told new.told) at_is torn)) x told)
+
+-- ---- one cell, and the others
 
 cut_first : (routes : List Route) (route : Route) → 1 ≤ length routes → route ≡ get_or routes 0 route → routes ≡ route ∷ drop 1 routes
 cut_first [] route some is = absurd (omega (arith, some))
@@ -76,111 +126,150 @@ cut_first (first ∷ routes) route some is = ap (λ (r : Route). r ∷ routes) (
 pub rest_of : (routes : List Route) → take (length routes - 1) (drop 1 routes) ≡ drop 1 routes
 rest_of routes = take_all (length routes - 1) (drop 1 routes) (omega (arith, length-drop 1 routes))
 
-pub room_after : (cell more : ℕ) (route : Route) (x y : List ℕ) → twin_size (cell + 1) ≤ length x → GrowsOne cell route x y
-    → ((k : ℕ) → k < 1 + more → IsErasedAfter x (cell + k)) → RoomAfter (cell + 1) more y
-room_after cell more route x y room grows erased = record {
-  head = (one_ends cell route x y room grows).0;
-  erased = λ k low.
-      subst (IsErasedAfter y) (let e : cell + (1 + k) ≡ cell + 1 + k = omega arith in e)
-      (erased_kept cell (cell + (1 + k)) x y (one_within cell route x y room grows) (omega arith) (erased (1 + k) (omega (arith, low))));
-}
+pub none_written : (cell : ℕ) (routes : List Route) (disk : DiskState) → length routes < 1 → MakesOfBytes (with_cells cell routes) disk disk
+none_written cell [] disk none x told = told
+none_written cell (route ∷ routes) disk none x told = absurd (omega (arith, none))
 
-module _ (P : List ℕ → Type 0) (cell next : ℕ) (routes rest : List Route) (route : Route) (plan : Plan) (old : DiskState)
-    (next_is : next ≡ cell + 1) (some : 1 ≤ length routes) (is : route ≡ get_or routes 0 route) (rest_is : rest ≡ drop 1 routes)
-    (long : (x : List ℕ) → old.told ≡ Some (firm x) → twin_size (cell + 1) ≤ length x)
-    (plans : (x : List ℕ) → P x → PlansNext x cell route plan)
-    (erased : (x : List ℕ) → P x → (k : ℕ) → k < length routes → IsErasedAfter x (cell + k)) where
+module _ (cell : ℕ) (routes rest : List Route) (route : Route) (old : DiskState) (disk : IsDisk old)
+    (room : twin_size (cell + length routes) ≤ old.size) (some : 1 ≤ length routes) (is : route ≡ get_or routes 0 route)
+    (rest_is : rest ≡ drop 1 routes) where
   routes_are : routes ≡ route ∷ rest
   routes_are = cut_first routes route some is ∙ ap (λ (rs : List Route). route ∷ rs) (sym rest_is)
 
-  next_one : next ≡ 1 + cell
-  next_one = omega (arith, next_is)
+  next_one : cell + 1 ≡ 1 + cell
+  next_one = omega arith
 
-  grows : (x : List ℕ) → P x → GrowsOne cell route x (applied plan x)
-  grows x p = let (growth, how, planned) = plans x p in (growth, plan, how, planned, refl)
+  wide : (x : List ℕ) → old.told ≡ Some (firm x) → twin_size (cell + 1) ≤ length x
+  wide x told = let e = told_sized old x disk told in omega (arith, e, room, some)
 
-  then_room : (x : List ℕ) → old.told ≡ Some (firm x) → P x → RoomAfter next (length rest) (applied plan x)
-  then_room x told p =
+  pub step_written : (mid new : DiskState) → MakesOfBytes (with_cell cell route) old mid → MakesOfBytes (with_cells (cell + 1) rest) mid new
+      → MakesOfBytes (with_cells cell routes) old new
+  step_written mid new first more x told =
+      more (with_cell cell route x) (first x told)
+      ∙ ap (λ (w : List ℕ). Some (firm w))
+      (ap (λ (k : ℕ). with_cells k rest (with_cell cell route x)) next_one ∙ sym (ap (λ (rs : List Route). with_cells cell rs x) routes_are))
+
+  first_closed : (x : List ℕ) → AreClosed cell (length routes) x → is_live (part (first_at cell) 34 x) ≡ false
+  first_closed x closed = subst (λ (k : ℕ). is_live (part (first_at k) 34 x) ≡ false) (let e : cell + 0 ≡ cell = omega arith in e) (closed 0 some)
+
+  rest_closed : (x : List ℕ) → twin_size (cell + 1) ≤ length x → AreClosed cell (length routes) x
+      → AreClosed (cell + 1) (length rest) (with_cell cell route x)
+  rest_closed x room_x closed k low =
       let count : length routes ≡ length (route ∷ rest) = ap length routes_are in
-      subst (λ (k : ℕ). RoomAfter k (length rest) (applied plan x)) (sym next_is)
-      (room_after cell (length rest) route x (applied plan x) (long x told) (grows x p) (λ k low. erased x p k (omega (arith, low, count))))
+      ap is_live (part-same (first_at (cell + 1 + k)) 34 (first_at cell) 34 x (with_cell cell route x) (with_cell_same cell route x room_x) (inr (omega arith)))
+      ∙ subst (λ (n : ℕ). is_live (part (first_at n) 34 x) ≡ false) (let e : cell + (1 + k) ≡ cell + 1 + k = omega arith in e)
+      (closed (1 + k) (omega (arith, low, count)))
 
-  pub step_added : (mid new : DiskState) → DoesPlan plan old.told mid.told → AddsOnDisk (RoomAfter next (length rest)) next rest mid new
-      → AddsOnDisk P cell routes old new
-  step_added mid new does adds x told p =
-      let (z, added, now) = adds (applied plan x) (does x told) (then_room x told p) in (
-        z,
-        subst (λ (rs : List Route). AddsRoutes cell rs x z) (sym routes_are)
-            (one_more cell route rest x (applied plan x) z (grows x p) (subst (λ (k : ℕ). AddsRoutes k rest (applied plan x) z) next_one added)),
-        now,
-      )
+  pub first_cut : (new : DiskState) → CutsCellOnDisk cell route old new → CutsCellsOnDisk cell routes old new
+  first_cut new cut x told closed t is_told y image =
+      subst (λ (rs : List Route). CutsCells cell rs x y) (sym routes_are)
+      (within cell route rest x y (cut x told (first_closed x closed) t is_told y image))
 
-  pub step_cut : (mid new : DiskState) → DoesPlan plan old.told mid.told → CutsOnDisk (RoomAfter next (length rest)) next rest mid new
-      → CutsOnDisk P cell routes old new
-  step_cut mid new does cuts x told p t is_told y image =
-      subst (λ (rs : List Route). CutsRoutes cell rs x y) (sym routes_are)
-      (later cell route rest x (applied plan x) y (grows x p)
-      (subst (λ (k : ℕ). CutsRoutes k rest (applied plan x) y) next_one (cuts (applied plan x) (does x told) (then_room x told p) t is_told y image)))
+  pub then_cut : (mid new : DiskState) → MakesOfBytes (with_cell cell route) old mid → CutsCellsOnDisk (cell + 1) rest mid new
+      → CutsCellsOnDisk cell routes old new
+  then_cut mid new first more x told closed t is_told y image =
+      subst (λ (rs : List Route). CutsCells cell rs x y) (sym routes_are)
+      (later cell route rest x y
+      (subst (λ (k : ℕ). CutsCells k rest (with_cell cell route x) y) next_one
+      (more (with_cell cell route x) (first x told) (rest_closed x (wide x told) closed) t is_told y image)))
 
-  pub first_cut : (new : DiskState) → LeavesPlanCut plan old.told new.told → CutsOnDisk P cell routes old new
-  first_cut new cut x told p t is_told y image =
-      let (growth, how, planned) = plans x p in
-      subst (λ (rs : List Route). CutsRoutes cell rs x y) (sym routes_are)
-      (within cell route rest x y (record { growth = growth; plan = plan; is = how; planned = planned; cut = cut x told t is_told y image }))
-
-pub none_added : (P : List ℕ → Type 0) (cell : ℕ) (routes : List Route) (disk : DiskState) → length routes < 1 → AddsOnDisk P cell routes disk disk
-none_added P cell [] disk none x told p = (x, no_more cell x, told)
-none_added P cell (route ∷ routes) disk none x told p = absurd (omega (arith, none))
-
-pub runs_step : (routes rest : List Route) (old mid new : DiskState) → 1 ≤ length routes → rest ≡ drop 1 routes → Runs [] 6 old mid
-    → Runs [] (6 * length rest) mid new → Runs [] (6 * length routes) old new
+pub runs_step : (routes rest : List Route) (old mid new : DiskState) → 1 ≤ length routes → rest ≡ drop 1 routes → Runs [] 4 old mid
+    → Runs [] (4 * length rest) mid new → Runs [] (4 * length routes) old new
 runs_step routes rest old mid new some is first more =
-    runs_more (6 * length routes) (let e : length rest ≡ length routes - 1 = ap length is ∙ length-drop 1 routes in omega (arith, e, some)) (runs_join first more)
+    runs_more (4 * length routes) (let e : length rest ≡ length routes - 1 = ap length is ∙ length-drop 1 routes in omega (arith, e, some)) (runs_join first more)
 
--- ---- the whole call
+-- ---- the number
 
-pub can_get : (routes : List Route) (x : List ℕ) (count : ℕ) → CanGrow routes x count → CanGet (route_cell count) (drop count routes) x
-can_get routes x count can = record {
-  next = λ route at.
-      can.next route (
-        (let low = at.0 in omega (arith, low, length-drop count routes)),
-        at.1 ∙ get_or-drop count routes 0 route ∙ ap (λ (k : ℕ). get_or routes k route) (let e : count + 0 ≡ count = omega arith in e),
-      );
-  erased = λ k low.
-      subst (IsErasedAfter x) (let e : route_cell (count + k) ≡ route_cell count + k = omega arith in e)
-      (can.erased (count + k) (omega arith) (omega (arith, low, length-drop count routes)));
-}
+pub number_stands : (cells : ℕ) (image : List ℕ) (disk : DiskState) → IsDisk disk → 32 ≤ disk.size → HasHeader (twin_layout One) cells image
+    → OfBytes disk (λ x. part 0 32 x ≡ part 0 32 image → disk.told ≡ Some (firm (with_number cells x)))
+number_stands cells image disk is room head x told same =
+    let long = told_sized disk x is told in
+    told ∙ ap (λ (w : List ℕ). Some (firm w)) (sym (number_there cells x (omega (arith, long, room)) (same ∙ head)))
+
+pub number_written : (cells : ℕ) (image bytes : List ℕ) (old new : DiskState) → bytes ≡ bytes_of 2 cells → Lasts 10 bytes old.told new.told
+    → OfBytes old (λ x. part 0 32 x ≡ part 0 32 image → new.told ≡ Some (firm (with_number cells x)))
+number_written cells image bytes old new is lasts x told same =
+    lasts (firm x) told ∙ ap (λ (b : List ℕ). Some (firm (splice 10 b x))) is
+
+pub number_cut : (cells : ℕ) (bytes : List ℕ) (old new : DiskState) → IsDisk old → 32 ≤ old.size → bytes ≡ bytes_of 2 cells
+    → Tears 10 (length bytes) old.told new.told → CutsNumberOnDisk old new
+number_cut cells bytes old new disk room is torn x told =
+    let two : length bytes ≡ 2 = ap length is ∙ length-bytes_of 2 cells in
+    torn-outside 10 2 old.told new.told (λ t is_told. let e = disk.bytes_sized t is_told in omega (arith, e, room))
+    (subst (λ (n : ℕ). Tears 10 n old.told new.told) two torn) x told
+
+-- ---- cells and number
 
 pub rest_from : (routes : List Route) (n count : ℕ) → n ≡ count → take (length routes - n) (drop n routes) ≡ drop count routes
 rest_from routes n count is =
     take_all (length routes - n) (drop n routes) (omega (arith, length-drop n routes)) ∙ ap (λ (k : ℕ). drop k routes) is
 
-module _ (routes given : List Route) (cell count : ℕ) (image : List ℕ) (old mid new : DiskState) (same : mid.told ≡ old.told)
-    (cell_is : cell ≡ route_cell count) (given_is : given ≡ drop count routes) (sees : Sees old image)
-    (version : OfBytes old (λ x. ¬ HasVersionTwo x)) (can : CanGrow routes image count) where
+module _ (routes given : List Route) (there : ℕ) (image : List ℕ) (old : DiskState) (disk : IsDisk old)
+    (room : twin_size (route_cell (length routes)) ≤ old.size) (few : there ≤ length routes) (given_is : given ≡ drop there routes) where
+  given_ends : route_cell there + length given ≡ route_cell (length routes)
+  given_ends = omega (arith, few, ap length given_is, length-drop there routes)
+
+  abbrev made : List ℕ → List ℕ
+  made x = with_cells (route_cell there) given x
+
+  made_is : (x : List ℕ) → made x ≡ with_routes routes there x
+  made_is x = ap (λ (rs : List Route). with_cells (route_cell there) rs x) given_is
+
+  head_stays : (x : List ℕ) → old.told ≡ Some (firm x) → part 0 32 (made x) ≡ part 0 32 x
+  head_stays x told =
+      let long = told_sized old x disk told in
+      part-same 0 32 (first_at (route_cell there)) (68 * length given) x (made x)
+      (cells_within (route_cell there) given x (omega (arith, long, room, given_ends))) (inl (omega arith))
+
+  pub all_written_on : (mid new : DiskState) → MakesOfBytes (with_cells (route_cell there) given) old mid
+      → OfBytes mid (λ x. part 0 32 x ≡ part 0 32 image → new.told ≡ Some (firm (with_number (route_cell (length routes)) x)))
+      → WritesLacking image routes there old new
+  all_written_on mid new cells number x told same =
+      number (made x) (cells x told) (head_stays x told ∙ ap (part 0 32) (sym same))
+      ∙ ap (λ (w : List ℕ). Some (firm (with_number (route_cell (length routes)) w))) (made_is x)
+
+  pub cells_cut_on : (new : DiskState) → CutsCellsOnDisk (route_cell there) given old new → CutsLacking image routes there old new
+  cells_cut_on new cut x told same closed t is_told y left =
+      inl (subst (λ (rs : List Route). CutsCells (route_cell there) rs x y) given_is
+      (cut x told (subst (λ (rs : List Route). AreClosed (route_cell there) (length rs) x) (sym given_is) closed) t is_told y left))
+
+  pub number_cut_on : (mid new : DiskState) → MakesOfBytes (with_cells (route_cell there) given) old mid → CutsNumberOnDisk mid new
+      → CutsLacking image routes there old new
+  number_cut_on mid new cells cut x told same closed t is_told y left =
+      inr (subst (λ (w : List ℕ). SameOutside 10 2 w y) (made_is x) (cut (made x) (cells x told) t is_told y left))
+
+  pub runs_lacking : (mid new : DiskState) → Runs [] (4 * length given) old mid → Runs [] 2 mid new → Runs [] (2 + 4 * length routes) old new
+  runs_lacking mid new cells number =
+      runs_more (2 + 4 * length routes) (omega (arith, given_ends)) (runs_join cells number)
+
+  pub runs_cells : (mid : DiskState) → Runs [] (4 * length given) old mid → Runs [] (2 + 4 * length routes) old mid
+  runs_cells mid cells = runs_more (2 + 4 * length routes) (omega (arith, given_ends)) cells
+
+-- ---- the whole call
+
+module _ (routes : List Route) (count : ℕ) (image : List ℕ) (old mid new : DiskState) (same : mid.told ≡ old.told)
+    (sees : Sees old image) (version : OfBytes old (λ x. ¬ HasVersionTwo x)) (can : CanGrow routes image count) where
   could : (x : List ℕ) → old.told ≡ Some (firm x) → CanGrow routes x count
   could x told = subst (λ (b : List ℕ). CanGrow routes b count) (sees x told) can
 
-  pub store_grown : AddsOnDisk (λ x. image ≡ x) cell given mid new → GrowsStore routes old new
-  store_grown adds x told =
-      let (z, added, now) = adds x (same ∙ told) (sees x told) in (
-        z,
-        record {
-          version = version x told;
-          count = count;
-          could = could x told;
-          adds = subst (λ (rs : List Route). AddsRoutes (route_cell count) rs x z) given_is (subst (λ (k : ℕ). AddsRoutes k given x z) cell_is added);
-        },
-        now,
-      )
+  are_closed : (x : List ℕ) → FreeFrom x count (length routes) → AreClosed (route_cell count) (length (drop count routes)) x
+  are_closed x free k low =
+      subst (λ (n : ℕ). is_live (part (first_at n) 34 x) ≡ false) (let e : route_cell (count + k) ≡ route_cell count + k = omega arith in e)
+      (free (count + k) (omega arith) (omega (arith, low, length-drop count routes))).closed
 
-  pub store_cut : CutsOnDisk (λ x. image ≡ x) cell given mid new → CutsStore routes old new
+  pub store_grown : WritesLacking image routes count mid new → GrowsStore routes old new
+  store_grown writes x told = (
+    with_number (route_cell (length routes)) (with_routes routes count x),
+    record { version = version x told; count = count; could = could x told; is = refl },
+    writes x (same ∙ told) (sees x told),
+  )
+
+  pub store_cut : CutsLacking image routes count mid new → CutsStore routes old new
   store_cut cuts = inr (λ x told t is_told y left. record {
     version = version x told;
     count = count;
     could = could x told;
-    cuts = subst (λ (rs : List Route). CutsRoutes (route_cell count) rs x y) given_is
-        (subst (λ (k : ℕ). CutsRoutes k given x y) cell_is (cuts x (same ∙ told) (sees x told) t is_told y left));
+    left = cuts x (same ∙ told) (sees x told) (are_closed x (could x told).free) t is_told y left;
   })
 
 -- ---- why it isn't grown
@@ -219,97 +308,11 @@ could_be routes old image count room sees version can x told = record {
 pub as_it_was : (disk : DiskState) → AsBefore 2 disk disk
 as_it_was disk = as_before_more 2 (omega arith) (as_before_none disk)
 
--- ---- the two kinds of first plan
+-- ---- how many calls
 
-wide_enough : (cell : ℕ) (routes : List Route) (old : DiskState) → IsDisk old → twin_size (cell + length routes + 1) ≤ old.size
-    → (x : List ℕ) → old.told ≡ Some (firm x) → twin_size (cell + 1) ≤ length x
-wide_enough cell routes old is room x told = let long = told_sized old x is told in omega (arith, room, long)
+pub runs_all : (routes : List Route) (old mid new : DiskState) → Runs [] 2 old mid → Runs [] (2 + 4 * length routes) mid new
+    → Runs [] (4 + 4 * length routes) old new
+runs_all routes old mid new first more = runs_more (4 + 4 * length routes) (omega arith) (runs_join first more)
 
--- to a store of so many cells
-module _ (cell : ℕ) (routes rest : List Route) (route : Route) (payload : List ℕ) (plan : Plan) (old : DiskState) (disk : IsDisk old)
-    (room : twin_size (cell + length routes + 1) ≤ old.size) (some : 1 ≤ length routes) (is : route ≡ get_or routes 0 route)
-    (rest_is : rest ≡ drop 1 routes) (payload_is : payload ≡ first_bound route) (planned : PlansGrowth plan cell payload) where
-  plans_growth : (x : List ℕ) → RoomAfter cell (length routes) x → PlansNext x cell route plan
-  plans_growth x has = (
-    Before,
-    (has.head, subst (IsErasedAfter x) (let e : cell + 0 ≡ cell = omega arith in e) (has.erased 0 some)),
-    subst (PlansGrowth plan cell) payload_is planned,
-  )
-
-  pub growth_added : (mid new : DiskState) → DoesPlan plan old.told mid.told → AddsOnDisk (RoomAfter (cell + 1) (length rest)) (cell + 1) rest mid new
-      → AddsOnDisk (RoomAfter cell (length routes)) cell routes old new
-  growth_added mid new =
-      step_added (RoomAfter cell (length routes)) cell (cell + 1) routes rest route plan old refl some is rest_is
-      (wide_enough cell routes old disk room) plans_growth (λ x has. has.erased) mid new
-
-  pub growth_then_cut : (mid new : DiskState) → DoesPlan plan old.told mid.told → CutsOnDisk (RoomAfter (cell + 1) (length rest)) (cell + 1) rest mid new
-      → CutsOnDisk (RoomAfter cell (length routes)) cell routes old new
-  growth_then_cut mid new =
-      step_cut (RoomAfter cell (length routes)) cell (cell + 1) routes rest route plan old refl some is rest_is
-      (wide_enough cell routes old disk room) plans_growth (λ x has. has.erased) mid new
-
-  pub growth_is_cut : (new : DiskState) → LeavesPlanCut plan old.told new.told → CutsOnDisk (RoomAfter cell (length routes)) cell routes old new
-  growth_is_cut new =
-      first_cut (RoomAfter cell (length routes)) cell (cell + 1) routes rest route plan old refl some is rest_is
-      (wide_enough cell routes old disk room) plans_growth (λ x has. has.erased) new
-
--- to the store of the bytes that were looked at
-module _ (cell : ℕ) (image : List ℕ) (routes rest : List Route) (route : Route) (plan : Plan) (old : DiskState) (disk : IsDisk old)
-    (room : twin_size (cell + length routes + 1) ≤ old.size) (some : 1 ≤ length routes) (is : route ≡ get_or routes 0 route)
-    (rest_is : rest ≡ drop 1 routes) (planned : PlansNext image cell route plan) (can : CanGet cell routes image) where
-  abbrev Seen : List ℕ → Type 0
-  Seen x = image ≡ x
-
-  plans_seen : (x : List ℕ) → Seen x → PlansNext x cell route plan
-  plans_seen x same = subst (λ (b : List ℕ). PlansNext b cell route plan) same planned
-
-  erased_seen : (x : List ℕ) → Seen x → (k : ℕ) → k < length routes → IsErasedAfter x (cell + k)
-  erased_seen x same k low = subst (λ (b : List ℕ). IsErasedAfter b (cell + k)) same (can.erased k low)
-
-  pub next_added : (mid new : DiskState) → DoesPlan plan old.told mid.told → AddsOnDisk (RoomAfter (cell + 1) (length rest)) (cell + 1) rest mid new
-      → AddsOnDisk (λ x. image ≡ x) cell routes old new
-  next_added mid new =
-      step_added Seen cell (cell + 1) routes rest route plan old refl some is rest_is
-      (wide_enough cell routes old disk room) plans_seen erased_seen mid new
-
-  pub next_then_cut : (mid new : DiskState) → DoesPlan plan old.told mid.told → CutsOnDisk (RoomAfter (cell + 1) (length rest)) (cell + 1) rest mid new
-      → CutsOnDisk (λ x. image ≡ x) cell routes old new
-  next_then_cut mid new =
-      step_cut Seen cell (cell + 1) routes rest route plan old refl some is rest_is
-      (wide_enough cell routes old disk room) plans_seen erased_seen mid new
-
-  pub next_is_cut : (new : DiskState) → LeavesPlanCut plan old.told new.told → CutsOnDisk (λ x. image ≡ x) cell routes old new
-  next_is_cut new =
-      first_cut Seen cell (cell + 1) routes rest route plan old refl some is rest_is
-      (wide_enough cell routes old disk room) plans_seen erased_seen new
-
--- ---- the next plan
-
-pub growth_next : (image payload : List ℕ) (cell : ℕ) (route : Route) (plan : Plan) → payload ≡ first_bound route → IsNextCell image cell route
-    → Head cell image → PlansGrowth plan cell payload → PlansNext image cell route plan
-growth_next image payload cell route plan is next head plans = elim next [
-  | inl before ↦ (Before, before, subst (PlansGrowth plan cell) is plans)
-  | inr counting ↦ absurd (counting.0 head)
-]
-
-pub count_next : (image : List ℕ) (cell : ℕ) (route : Route) (plan : Plan) → IsNextCell image cell route → ¬ Head cell image
-    → PlansCount plan (cell + 1) → PlansNext image cell route plan
-count_next image cell route plan next other plans = elim next [
-  | inl before ↦ absurd (other before.0)
-  | inr counting ↦ (Counting, counting, plans)
-]
-
-pub runs_all : (routes given : List Route) (count : ℕ) (old mid new : DiskState) → given ≡ drop count routes → Runs [] 2 old mid
-    → Runs [] (6 * length given) mid new → Runs [] (2 + 6 * length routes) old new
-runs_all routes given count old mid new is first more =
-    runs_more (2 + 6 * length routes) (let e : length given ≡ length routes - count = ap length is ∙ length-drop count routes in omega (arith, e))
-    (runs_join first more)
-
-pub runs_less : (routes : List Route) (most : ℕ) (old new : DiskState) → most ≤ 2 → Runs [] most old new → Runs [] (2 + 6 * length routes) old new
-runs_less routes most old new few runs = runs_more (2 + 6 * length routes) (omega (arith, few)) runs
-
-pub get_here : (routes given : List Route) (x : List ℕ) (cell count : ℕ) → cell ≡ route_cell count → given ≡ drop count routes
-    → CanGrow routes x count → CanGet cell given x
-get_here routes given x cell count cell_is given_is can =
-    subst (λ (k : ℕ). CanGet k given x) (sym cell_is)
-    (subst (λ (rs : List Route). CanGet (route_cell count) rs x) (sym given_is) (can_get routes x count can))
+pub runs_less : (routes : List Route) (most : ℕ) (old new : DiskState) → most ≤ 2 → Runs [] most old new → Runs [] (4 + 4 * length routes) old new
+runs_less routes most old new few runs = runs_more (4 + 4 * length routes) (omega (arith, few)) runs

@@ -1,22 +1,20 @@
 -- What the steps of a growth leave of a disk
-use Rattle.std.specs.Prelude.{◌≡◌, ℕ, ◌+◌, ◌<◌, Bool, true, false, List, length, Some}
+use Rattle.std.specs.Prelude.{◌≡◌, ℕ, ◌+◌, ◌<◌, Bool, true, false, List, length, drop, Some}
 use Rattle.cut_disk.specs.State.{DiskState}
 use Rattle.cut_disk.specs.Images.{firm, EachImage}
 use Rattle.cut_disk.specs.Calls.{Rose, AsBefore}
 use Rattle.cell_store.specs.declared.kinds.Probe.{Probe}
 use Rattle.cell_store.specs.declared.kinds.Probe.TheVariants.{Blank, Foreign, Store}
-use Rattle.cell_store.specs.declared.kinds.Version.TheVariants.{One}
-use Rattle.cell_store.specs.Layout.{twin_layout}
-use Rattle.cell_store.specs.Store.{HasHeader}
+use Rattle.cell_store.specs.Layout.{SameOutside, part}
+use Rattle.cell_store.specs.Twin.{first_at, is_live}
+use Rattle.cell_store.specs.Writing.{Unfinished}
 use Rattle.freshness_routes.specs.declared.routes.Route.{Route}
-use Rattle.store_plan.specs.declared.growing.Growth.{Growth}
-use Rattle.store_plan.specs.declared.planning.Plan.{Plan}
-use Rattle.store_plan.specs.Growing.{IsGrowth, IsErasedAfter, PlansFor}
+use Rattle.store_plan.specs.Growing.{count_at, with_number}
 use Rattle.store_growing.specs.declared.faults.GrowFault.{GrowFault}
 use Rattle.store_growing.specs.declared.faults.GrowFault.TheVariants.{DiskFailed, NotFormatted, TooSmall, BadBound}
 use Rattle.store_growing.specs.declared.faults.GrowFault.TheVariants.{Memory}
-use Rattle.store_growing.specs.RouteCells.{RouteAt, first_bound, IsNextCell, HasVersionTwo}
-use Rattle.store_growing.specs.GrowingStores.{OfBytes, AddsRoutes, CutsRoutes}
+use Rattle.store_growing.specs.RouteCells.{route_cell, HasVersionTwo}
+use Rattle.store_growing.specs.GrowingStores.{OfBytes, first_copy, with_routes, CutsCells, LeftOf}
 
 -- these bytes are those that the disk tells, if none of them is loose
 abbrev pub Sees : DiskState → List ℕ → Type 0
@@ -36,26 +34,37 @@ NotSeen old new TooSmall = ⊥
 NotSeen old new (BadBound bad) = ⊥
 NotSeen old new Memory = ⊥
 
--- the store of x can get the cells of these routes, the first of this number; only the count of that one may be lacking
-pub record CanGet (cell : ℕ) (routes : List Route) (x : List ℕ) : Type 0 where
-  pub next : (route : Route) → RouteAt routes 0 route → IsNextCell x cell route
-  pub erased : (k : ℕ) → k < length routes → IsErasedAfter x (cell + k)
+-- the gates of the first copies of so many cells, from this one on, aren't live
+abbrev pub AreClosed : ℕ → ℕ → List ℕ → Type 0
+AreClosed cell many x = (k : ℕ) → k < many → is_live (part (first_at (cell + k)) 34 x) ≡ false
 
--- x has the header of a store of so many cells, and is erased where so many more, and one, would stand after the next
-pub record RoomAfter (cell more : ℕ) (x : List ℕ) : Type 0 where
-  pub head : HasHeader (twin_layout One) cell x
-  pub erased : (k : ℕ) → k < more → IsErasedAfter x (cell + k)
+-- none of the bytes was loose, and these came of them, none loose
+abbrev pub MakesOfBytes : (List ℕ → List ℕ) → DiskState → DiskState → Type 0
+MakesOfBytes makes old new = OfBytes old (λ x. new.told ≡ Some (firm (makes x)))
 
--- the plan is the one for how far x went
-abbrev pub PlansNext : List ℕ → ℕ → Route → Plan → Type 0
-PlansNext x cell route plan = (growth : Growth) × IsGrowth x cell (first_bound route) growth
-    × PlansFor growth plan cell (first_bound route)
+-- whatever the power leaves of a cell that is written, if its gate wasn't live
+abbrev pub CutsCellOnDisk : ℕ → Route → DiskState → DiskState → Type 0
+CutsCellOnDisk cell route old new =
+    OfBytes old (λ x. is_live (part (first_at cell) 34 x) ≡ false
+    → EachImage new.told (Unfinished 33 (first_at cell) (first_copy route) x))
 
--- a disk whose bytes have P got these routes' cells
-abbrev pub AddsOnDisk : (List ℕ → Type 0) → ℕ → List Route → DiskState → DiskState → Type 0
-AddsOnDisk P cell routes old new =
-    OfBytes old (λ x. P x → (z : List ℕ) × AddsRoutes cell routes x z × (new.told ≡ Some (firm z)))
+-- the same of all cells
+abbrev pub CutsCellsOnDisk : ℕ → List Route → DiskState → DiskState → Type 0
+CutsCellsOnDisk cell routes old new =
+    OfBytes old (λ x. AreClosed cell (length routes) x → EachImage new.told (CutsCells cell routes x))
 
--- or some of them, whatever the power leaves
-abbrev pub CutsOnDisk : (List ℕ → Type 0) → ℕ → List Route → DiskState → DiskState → Type 0
-CutsOnDisk P cell routes old new = OfBytes old (λ x. P x → EachImage new.told (CutsRoutes cell routes x))
+-- and of the number
+abbrev pub CutsNumberOnDisk : DiskState → DiskState → Type 0
+CutsNumberOnDisk old new = OfBytes old (λ x. EachImage new.told (SameOutside count_at 2 x))
+
+-- the cells of the routes from a place on, and the number, are written to the bytes that were looked at
+abbrev pub WritesLacking : List ℕ → List Route → ℕ → DiskState → DiskState → Type 0
+WritesLacking image routes there old new =
+    OfBytes old (λ x. image ≡ x
+    → new.told ≡ Some (firm (with_number (route_cell (length routes)) (with_routes routes there x))))
+
+-- or the power goes meanwhile, if those cells weren't live
+abbrev pub CutsLacking : List ℕ → List Route → ℕ → DiskState → DiskState → Type 0
+CutsLacking image routes there old new =
+    OfBytes old (λ x. image ≡ x → AreClosed (route_cell there) (length (drop there routes)) x
+    → EachImage new.told (LeftOf routes there x))

@@ -1,57 +1,67 @@
--- What `grow_store` makes of a disk: a cell at the end of the store for each route that the bus has more, one after the
--- other, each whole or absent
+-- What `grow_store` makes of a disk: a cell at the end of the store for each route that the bus has more. All of them
+-- are written before the number of cells in the header. A cell that the header counts is never written.
 use Rattle.std.specs.Prelude.{◌≡◌, ◌⊎◌, ℕ, ◌+◌, ◌<◌, ◌≤◌, List, [], ◌∷◌, length, drop, Some}
 use Rattle.cut_disk.specs.State.{DiskState}
-use Rattle.cut_disk.specs.Images.{firm, EachImage}
+use Rattle.cut_disk.specs.Images.{splice, firm, EachImage}
 use Rattle.cut_disk.specs.Calls.{Rose, AsBefore}
-use Rattle.cell_store.specs.Twin.{twin_size}
+use Rattle.cell_store.specs.Layout.{SameOutside}
+use Rattle.cell_store.specs.Twin.{twin_size, first_at, live_copy}
+use Rattle.cell_store.specs.Writing.{Unfinished}
 use Rattle.freshness_routes.specs.declared.routes.Route.{Route}
-use Rattle.store_plan.specs.declared.growing.Growth.{Growth}
-use Rattle.store_plan.specs.declared.planning.Plan.{Plan}
-use Rattle.store_plan.specs.Growing.{IsGrowth, PlansFor, CutGrowth}
-use Rattle.store_plan.specs.Plans.{applied}
+use Rattle.store_plan.specs.Growing.{count_at, with_number}
 use Rattle.store_growing.specs.declared.faults.GrowFault.{GrowFault}
 use Rattle.store_growing.specs.declared.faults.GrowFault.TheVariants.{DiskFailed, NotFormatted, TooSmall, BadBound}
 use Rattle.store_growing.specs.declared.faults.GrowFault.TheVariants.{Memory}
 use Rattle.store_growing.specs.RouteCells.{route_cell, first_bound, CanGrow, HasVersionTwo, RefusesBytes}
 
--- y comes of x, which got this route's cell at its end: the plan for how far x went was done
-abbrev pub GrowsOne : ℕ → Route → List ℕ → List ℕ → Type 0
-GrowsOne cell route x y = (growth : Growth) × (plan : Plan) × IsGrowth x cell (first_bound route) growth
-    × PlansFor growth plan cell (first_bound route) × (y ≡ applied plan x)
+-- the first copy of a route's cell, whole
+abbrev pub first_copy : Route → List ℕ
+first_copy route = live_copy 0 (first_bound route)
 
--- z comes of x, which got a cell for each of these routes, the first of this number
-pub data AddsRoutes : ℕ → List Route → List ℕ → List ℕ → Type 0 where
-  no_more : (cell : ℕ) (x : List ℕ) → AddsRoutes cell [] x x
-  one_more : (cell : ℕ) (route : Route) (rest : List Route) (x y z : List ℕ) → GrowsOne cell route x y
-      → AddsRoutes (1 + cell) rest y z → AddsRoutes cell (route ∷ rest) x z
+-- x with the first copy of this cell written
+abbrev pub with_cell : ℕ → Route → List ℕ → List ℕ
+with_cell cell route x = splice (first_at cell) (first_copy route) x
 
--- what the power leaves that goes meanwhile: the first of these routes have their cells, and the plan for the next one
--- was cut, or not begun
-pub data CutsRoutes : ℕ → List Route → List ℕ → List ℕ → Type 0 where
-  between : (cell : ℕ) (routes : List Route) (x : List ℕ) → CutsRoutes cell routes x x
-  within : (cell : ℕ) (route : Route) (rest : List Route) (x y : List ℕ) → CutGrowth cell (first_bound route) x y
-      → CutsRoutes cell (route ∷ rest) x y
-  later : (cell : ℕ) (route : Route) (rest : List Route) (x y z : List ℕ) → GrowsOne cell route x y
-      → CutsRoutes (1 + cell) rest y z → CutsRoutes cell (route ∷ rest) x z
+-- x with those of the cells of these routes, the first of this number
+abbrev pub with_cells : ℕ → List Route → List ℕ → List ℕ
+with_cells cell [] x = x
+with_cells cell (route ∷ rest) x = with_cells (1 + cell) rest (with_cell cell route x)
+
+-- x with the cells of the routes from a place on
+abbrev pub with_routes : List Route → ℕ → List ℕ → List ℕ
+with_routes routes count x = with_cells (route_cell count) (drop count routes) x
+
+-- what the power leaves that goes while these cells are written: the first of them are whole, and the next one has
+-- anything behind a gate that isn't live, or is whole, too
+pub data CutsCells : ℕ → List Route → List ℕ → List ℕ → Type 0 where
+  within : (cell : ℕ) (route : Route) (rest : List Route) (x y : List ℕ)
+      → Unfinished 33 (first_at cell) (first_copy route) x y → CutsCells cell (route ∷ rest) x y
+  later : (cell : ℕ) (route : Route) (rest : List Route) (x y : List ℕ)
+      → CutsCells (1 + cell) rest (with_cell cell route x) y → CutsCells cell (route ∷ rest) x y
+
+-- the power goes while the cells of the routes from a place on are written, or all of them are, and it goes while the
+-- number is
+abbrev pub LeftOf : List Route → ℕ → List ℕ → List ℕ → Type 0
+LeftOf routes count x y =
+    CutsCells (route_cell count) (drop count routes) x y ⊎ SameOutside count_at 2 (with_routes routes count x) y
 
 -- this holds of what the disk tells, if none of its bytes is loose
 abbrev pub OfBytes : DiskState → (List ℕ → Type 0) → Type 0
 OfBytes disk P = (x : List ℕ) → disk.told ≡ Some (firm x) → P x
 
--- bytes x became z: the routes that had their cells keep them, and each other has one, with its first bound
+-- bytes x became z: the cells of the routes that had none are written, and the header counts the cells of all
 pub record GrownTo (routes : List Route) (x z : List ℕ) : Type 0 where
   pub version : ¬ HasVersionTwo x
   pub count : ℕ
   pub could : CanGrow routes x count
-  pub adds : AddsRoutes (route_cell count) (drop count routes) x z
+  pub is : z ≡ with_number (route_cell (length routes)) (with_routes routes count x)
 
--- or some have one, and the power went
+-- or the power went meanwhile
 pub record GrownInPart (routes : List Route) (x y : List ℕ) : Type 0 where
   pub version : ¬ HasVersionTwo x
   pub count : ℕ
   pub could : CanGrow routes x count
-  pub cuts : CutsRoutes (route_cell count) (drop count routes) x y
+  pub left : LeftOf routes count x y
 
 -- the bytes of a disk, if none was loose, got the cells that were lacking
 abbrev pub GrowsStore : List Route → DiskState → DiskState → Type 0

@@ -1,31 +1,16 @@
 -- What the steps of a look at the bytes answer
-use Rattle.std.specs.Prelude.{◌≡◌, ℕ, ◌<◌, ◌≤◌, List, Bool, true, false}
+use Rattle.std.specs.Prelude.{ℕ, ◌<◌, ◌≤◌, List}
 use Rattle.freshness_routes.specs.declared.routes.Route.{Route}
-use Rattle.store_plan.specs.Growing.{NoGrowth, IsErasedAfter}
-use Rattle.store_growing.specs.declared.faults.GrowFault.{GrowFault}
-use Rattle.store_growing.specs.declared.faults.GrowFault.TheVariants.{DiskFailed, NotFormatted, TooSmall, BadBound}
-use Rattle.store_growing.specs.declared.faults.GrowFault.TheVariants.{Memory}
-use Rattle.store_growing.specs.RouteCells.{route_cell, first_bound, HoldsRoute, HasCell, IsNextCell}
+use Rattle.store_growing.specs.RouteCells.{route_cell, RouteAt, HoldsRoute, HaveCells, IsFree, FreeFrom}
 
--- the cell of this route is there, with a bound of it; or it is the next one
-abbrev pub IsCellOf : List ℕ → ℕ → Route → Bool → Type 0
-IsCellOf x cell route true = HasCell x cell route × HoldsRoute x cell route
-IsCellOf x cell route false = IsNextCell x cell route
+-- so many of the first routes have their cells, and the next has none
+pub record HaveJust (routes : List Route) (x : List ℕ) (count : ℕ) : Type 0 where
+  pub have : HaveCells routes x count
+  pub lacks : (route : Route) → RouteAt routes count route → ¬ HoldsRoute x (route_cell count) route
 
--- it is neither
-abbrev pub RefusesCell : List ℕ → ℕ → Route → GrowFault → Type 0
-RefusesCell x cell route NotFormatted = NoGrowth x cell (first_bound route)
-RefusesCell x cell route (BadBound bad) = (bad ≡ cell) × HasCell x cell route × (¬ HoldsRoute x cell route)
-RefusesCell x cell route TooSmall = ⊥
-RefusesCell x cell route Memory = ⊥
-RefusesCell x cell route DiskFailed = ⊥
-
--- after the cells of these places all is erased
-abbrev pub ErasedFrom : List ℕ → ℕ → ℕ → Type 0
-ErasedFrom x from to = (place : ℕ) → from ≤ place → place < to → IsErasedAfter x (route_cell place)
-
--- after the cell of this one it isn't
-pub record UsedAfter (x : List ℕ) (from to place : ℕ) : Type 0 where
+-- the cell of this place is the first from a place on that can't be written
+pub record UsedAt (x : List ℕ) (from to place : ℕ) : Type 0 where
   pub least : from ≤ place
   pub below : place < to
-  pub used : ¬ IsErasedAfter x (route_cell place)
+  pub free : FreeFrom x from place
+  pub used : ¬ IsFree x (route_cell place)

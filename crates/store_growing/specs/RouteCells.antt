@@ -1,15 +1,15 @@
 -- What the bytes of a twin store of version 1 say of the cells of a bus's routes: which routes have theirs, and whether
--- the others can get them
-use Rattle.std.specs.Prelude.{◌≡◌, ◌⊎◌, ℕ, ◌+◌, ◌<◌, ◌≤◌, List, length, slice_index_or, Some}
+-- those of the others can be written
+use Rattle.std.specs.Prelude.{◌≡◌, ◌⊎◌, ℕ, ◌+◌, ◌*◌, ◌<◌, ◌≤◌, false, List, length, get_or, replicate, slice_index_or}
+use Rattle.std.specs.Prelude.{Some}
 use Rattle.cell_store.specs.declared.kinds.Kind.{Kind}
-use Rattle.cell_store.specs.declared.kinds.Version.TheVariants.{One, Two}
-use Rattle.cell_store.specs.Layout.{layout, twin_layout}
-use Rattle.cell_store.specs.Twin.{cell_at}
+use Rattle.cell_store.specs.declared.kinds.Version.TheVariants.{Two}
+use Rattle.cell_store.specs.Layout.{layout, part}
+use Rattle.cell_store.specs.Twin.{cell_at, first_at, second_at, is_live}
 use Rattle.cell_store.specs.Store.{FewCells, HasHeader}
 use Rattle.freshness_routes.specs.declared.routes.Route.{Route}
 use Rattle.freshness_store.specs.Bound.{bound_cell, HoldsBound}
-use Rattle.store_plan.specs.declared.growing.Growth.TheVariants.{Before, Counting, After, Beyond}
-use Rattle.store_plan.specs.Growing.{IsGrowth, NoGrowth, IsErasedAfter}
+use Rattle.store_plan.specs.Growing.{HasHeadButCount}
 use Rattle.store_growing.specs.declared.faults.GrowFault.{GrowFault}
 use Rattle.store_growing.specs.declared.faults.GrowFault.TheVariants.{DiskFailed, NotFormatted, TooSmall, BadBound}
 use Rattle.store_growing.specs.declared.faults.GrowFault.TheVariants.{Memory}
@@ -31,72 +31,79 @@ abbrev pub HoldsRoute : List ℕ → ℕ → Route → Type 0
 HoldsRoute x cell route = (bytes : List ℕ) × (bound : ℕ) × (cell_at x cell ≡ Some bytes)
     × HoldsBound bytes route.id route.direction bound
 
--- the store has this cell: its header counts it, or bytes stand after it
-abbrev pub HasCell : List ℕ → ℕ → Route → Type 0
-HasCell x cell route = IsGrowth x cell (first_bound route) After ⊎ IsGrowth x cell (first_bound route) Beyond
+-- The number of cells that stands in the header: the cells below it are counted. The power that goes while it is
+-- written leaves any number.
+abbrev pub cells_counted : List ℕ → ℕ
+cells_counted x = 256 * get_or x 10 0 + get_or x 11 0
 
--- it doesn't, and this cell is the next that it can get; or only the number of cells in its header is lacking
-abbrev pub IsNextCell : List ℕ → ℕ → Route → Type 0
-IsNextCell x cell route = IsGrowth x cell (first_bound route) Before ⊎ IsGrowth x cell (first_bound route) Counting
+-- n bytes of x from a place on are as an erase leaves them: all 00, or all ff
+abbrev pub IsErased : ℕ → ℕ → List ℕ → Type 0
+IsErased at n x = (part at n x ≡ replicate n 0) ⊎ (part at n x ≡ replicate n 0xff)
 
--- the first of the routes have their cells
+-- This cell can be written: it isn't counted, the gate of its first copy isn't live, and its second copy is erased. So it
+-- holds nothing. A growth that was cut leaves such cells.
+pub record IsFree (x : List ℕ) (cell : ℕ) : Type 0 where
+  pub uncounted : cells_counted x ≤ cell
+  pub closed : is_live (part (first_at cell) 34 x) ≡ false
+  pub erased : IsErased (second_at cell) 34 x
+
+-- the cells of the places from one on, below another, can be written
+abbrev pub FreeFrom : List ℕ → ℕ → ℕ → Type 0
+FreeFrom x from to = (place : ℕ) → from ≤ place → place < to → IsFree x (route_cell place)
+
+-- so many of the first routes have their cells
 pub record HaveCells (routes : List Route) (x : List ℕ) (count : ℕ) : Type 0 where
   pub few : count ≤ length routes
-  pub has : (place : ℕ) (route : Route) → place < count → RouteAt routes place route
-      → HasCell x (route_cell place) route × HoldsRoute x (route_cell place) route
+  pub held : (place : ℕ) (route : Route) → place < count → RouteAt routes place route
+      → HoldsRoute x (route_cell place) route
 
--- and the store has no further cell, or the others can get theirs: what stands after their place is erased
+-- x begins as a twin store of version 1, whatever number stands in its header
+abbrev pub HasTwinHead : List Route → List ℕ → Type 0
+HasTwinHead routes x = HasHeadButCount x (route_cell (length routes))
+
+-- where a cell after those of all routes would stand x is erased
+abbrev pub EndsErased : List Route → List ℕ → Type 0
+EndsErased routes x = IsErased (first_at (route_cell (length routes))) 68 x
+
+-- So many of the first routes have their cells, and those of the others can be written. What comes after them is
+-- erased, so the store has no further cell: a number above that of the routes' cells is one that a cut left.
 pub record CanGrow (routes : List Route) (x : List ℕ) (count : ℕ) : Type 0 where
+  pub head : HasTwinHead routes x
   pub have : HaveCells routes x count
-  pub full : count ≡ length routes → HasHeader (twin_layout One) (route_cell count) x
-  pub next : (route : Route) → RouteAt routes count route → IsNextCell x (route_cell count) route
-  pub erased : (place : ℕ) → count ≤ place → place < length routes → IsErasedAfter x (route_cell place)
+  pub free : FreeFrom x count (length routes)
+  pub ends : EndsErased routes x
 
 -- a store of version 2 has its header in x
 abbrev pub HasVersionTwo : List ℕ → Type 0
 HasVersionTwo x = (kind : Kind) × (n : ℕ) × FewCells n × HasHeader (layout kind Two) n x
 
--- ---- why no cell is added
+-- ---- why no cell is written: the causes in the order in which they are looked for
 
--- after the cells of the first routes x is no store that can get the next one
-pub record LacksNext (routes : List Route) (x : List ℕ) : Type 0 where
-  pub count : ℕ
-  pub route : Route
-  pub have : HaveCells routes x count
-  pub at : RouteAt routes count route
-  pub none : NoGrowth x (route_cell count) (first_bound route)
-
--- every route has its cell, and the header has another number of cells
-pub record HasOtherCount (routes : List Route) (x : List ℕ) : Type 0 where
-  pub have : HaveCells routes x (length routes)
-  pub other : ¬ HasHeader (twin_layout One) (route_cell (length routes)) x
-
--- this cell is there, and holds no bound of its route
+-- this cell is the first that can't be written, from that of the first route on that has none
 pub record HoldsOther (routes : List Route) (x : List ℕ) (cell : ℕ) : Type 0 where
+  pub head : HasTwinHead routes x
   pub count : ℕ
-  pub route : Route
   pub have : HaveCells routes x count
-  pub at : RouteAt routes count route
-  pub is : cell ≡ route_cell count
-  pub has : HasCell x cell route
-  pub other : ¬ HoldsRoute x cell route
-
--- the next cell can be added, and after the place of it or of a later one the bytes aren't erased
-pub record IsUsedAfter (routes : List Route) (x : List ℕ) : Type 0 where
-  pub count : ℕ
-  pub route : Route
-  pub have : HaveCells routes x count
-  pub at : RouteAt routes count route
-  pub next : IsNextCell x (route_cell count) route
+  pub lacks : (route : Route) → RouteAt routes count route → ¬ HoldsRoute x (route_cell count) route
   pub place : ℕ
   pub from : count ≤ place
   pub below : place < length routes
-  pub used : ¬ IsErasedAfter x (route_cell place)
+  pub is : cell ≡ route_cell place
+  pub free : FreeFrom x count place
+  pub used : ¬ IsFree x (route_cell place)
+
+-- each route has its cell, or it can be written, but what comes after them isn't erased
+pub record IsUsedAfter (routes : List Route) (x : List ℕ) : Type 0 where
+  pub head : HasTwinHead routes x
+  pub count : ℕ
+  pub have : HaveCells routes x count
+  pub free : FreeFrom x count (length routes)
+  pub used : ¬ EndsErased routes x
 
 -- for which fault of these bytes; the other faults aren't theirs
 abbrev pub RefusesBytes : List Route → List ℕ → GrowFault → Type 0
-RefusesBytes routes x TooSmall = IsUsedAfter routes x
-RefusesBytes routes x NotFormatted = LacksNext routes x ⊎ HasOtherCount routes x
+RefusesBytes routes x NotFormatted = ¬ HasTwinHead routes x
 RefusesBytes routes x (BadBound cell) = HoldsOther routes x cell
+RefusesBytes routes x TooSmall = IsUsedAfter routes x
 RefusesBytes routes x Memory = ⊥
 RefusesBytes routes x DiskFailed = ⊥

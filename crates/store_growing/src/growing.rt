@@ -1,27 +1,30 @@
 //! Cells at the end of a store for the routes that a bus has more.
-ghost use Rattle.std.specs.Prelude.{◌≡◌, ◌<◌, ◌≤◌, ◌+◌, ◌*◌, [], length, ◌↔◌, IsTrue, IfOk, IfErr, OnOk, OnErr};
+ghost use Rattle.std.specs.Prelude.{◌≡◌, ◌<◌, ◌≤◌, ◌+◌, ◌*◌, [], length, Some, ◌↔◌, IsTrue, IfOk, IfErr, OnOk, OnErr};
 ghost use Rattle.cut_disk.specs.Calls.{Rose, Runs};
+ghost use Rattle.cut_disk.specs.Images.{firm};
+ghost use Rattle.cell_store.specs.Layout.{part};
 ghost use Rattle.cell_store.specs.Twin.{twin_size};
-ghost use Rattle.store_plan.specs.Plans.{PlanFits};
-ghost use Rattle.store_growing.specs.RouteCells.{route_cell, IsNextCell, HasVersionTwo};
-ghost use Rattle.store_growing.specs.GrowingStores.{OfBytes, CanBeGrown, GrowsStore, NotGrown};
-ghost use Rattle.store_growing.specs.GrowSteps.{Sees, NotSeen, SaysStore, CanGet, RoomAfter};
-ghost use Rattle.store_growing.specs.GrowSteps.{PlansNext, AddsOnDisk, CutsOnDisk};
+ghost use Rattle.store_plan.specs.Growing.{with_number};
+ghost use Rattle.store_growing.specs.RouteCells.{route_cell, HasVersionTwo};
+ghost use Rattle.store_growing.specs.GrowingStores.{OfBytes, GrowsStore, NotGrown, CanBeGrown, with_cell, with_cells};
+ghost use Rattle.store_growing.specs.GrowSteps.{Sees, NotSeen, SaysStore, MakesOfBytes};
+ghost use Rattle.store_growing.specs.GrowSteps.{CutsCellOnDisk, CutsCellsOnDisk, CutsNumberOnDisk};
+ghost use Rattle.store_growing.specs.GrowSteps.{WritesLacking, CutsLacking};
 
 use crate::faults::GrowFault;
 use crate::looking::{SLOT_COUNT, routes_there};
 use any_cells::probe_two;
-use cell_store::{Probe, StoreFault};
-use cut_disk::{Disk, DiskFailed};
+use cell_store::{LIVE, Probe, StoreFault, marked, pair_place};
+use cut_disk::{Disk, DiskFailed, write_and_sync};
 use freshness_routes::Route;
 use freshness_store::bound_bytes;
 use std::alloc::{AllocError, Global};
-use store_plan::{Plan, has_head, perform, plan_count, plan_growth};
+use store_plan::has_head;
 
 /// Grows the twin store of version 1 on a disk to a cell for each of these routes, at most 256. Those that it has are
-/// the first of them. It gives the number of cells, also if none was lacking. Each cell more is whole or absent,
-/// whenever the power goes, and no other cell changes; then the same call goes on. If it is refused for another fault
-/// than `DiskFailed`, the disk is as it was.
+/// the first of them. It gives the number of cells, also if none was lacking. Cells are written first, each whole or
+/// absent whenever the power goes, and then their number. A cell that is counted is never written. After a cut the same
+/// call goes on. If it is refused for another fault than `DiskFailed`, the disk is as it was.
 pub fn grow_store<D: Disk>(alloc: Global, disk: &mut D, routes: &[Route]) -> Result<u16, GrowFault>
     requires { length routes.now ≤ 256 }
     ensures count { IfOk result (λ n. n ≡ route_cell (length routes.now)) }
@@ -29,7 +32,7 @@ pub fn grow_store<D: Disk>(alloc: Global, disk: &mut D, routes: &[Route]) -> Res
     ensures grown { OnOk result (GrowsStore routes.now (D.state disk.old) (D.state disk.new)) }
     ensures faults { OnOk result ((D.state disk.new).faults ≡ (D.state disk.old).faults) }
     ensures refused { IfErr result (NotGrown routes.now (D.state disk.old) (D.state disk.new)) }
-    ensures runs { Runs [] (2 + 6 * length routes.now) (D.state disk.old) (D.state disk.new) }
+    ensures runs { Runs [] (4 + 4 * length routes.now) (D.state disk.old) (D.state disk.new) }
 {
     if disk.size() < 32 + 68 * (u64::from(SLOT_COUNT) + routes.len() as u64 + 1) {
         return Err(GrowFault::TooSmall);
@@ -50,16 +53,11 @@ fn grow_image<D: Disk>(disk: &mut D, image: &mut [u8], routes: &[Route]) -> Resu
     ensures grown { OnOk result (GrowsStore routes.now (D.state disk.old) (D.state disk.new)) }
     ensures faults { OnOk result ((D.state disk.new).faults ≡ (D.state disk.old).faults) }
     ensures refused { IfErr result (NotGrown routes.now (D.state disk.old) (D.state disk.new)) }
-    ensures runs { Runs [] (2 + 6 * length routes.now) (D.state disk.old) (D.state disk.new) }
+    ensures runs { Runs [] (4 + 4 * length routes.now) (D.state disk.old) (D.state disk.new) }
 {
     see(disk, image)?;
     let there = routes_there(image, routes)?;
-    match add_lacking(
-        disk,
-        image,
-        SLOT_COUNT + there,
-        &routes[usize::from(there)..],
-    ) {
+    match write_lacking(disk, image, routes, there) {
         Ok(()) => Ok(SLOT_COUNT + routes.len() as u16),
         Err(DiskFailed) => Err(GrowFault::DiskFailed),
     }
@@ -124,69 +122,77 @@ fn read_image<D: Disk>(disk: &mut D, image: &mut [u8]) -> Result<(), GrowFault>
     }
 }
 
-/// Adds the cells of these routes to the store of these bytes, those of the disk: first the next one that it can get,
-/// or only its count.
-fn add_lacking<D: Disk>(
+/// Writes the cells of the routes from this place on to the store of these bytes, those of the disk, and then the number
+/// of all cells, if it is another.
+fn write_lacking<D: Disk>(
     disk: &mut D,
     image: &[u8],
-    cell: u16,
     routes: &[Route],
+    there: u16,
 ) -> Result<(), DiskFailed>
-    requires few { cell + length routes.now ≤ 1023 }
-    requires room { twin_size (cell + length routes.now + 1) ≤ length image.now }
+    requires few { length routes.now ≤ 256 }
+    requires there { there ≤ length routes.now }
+    requires room { twin_size (route_cell (length routes.now)) ≤ length image.now }
     requires sized { length image.now ≡ (D.state disk.old).size }
-    requires can { CanGet cell routes.now image.now }
-    ensures runs { Runs [] (6 * length routes.now) (D.state disk.old) (D.state disk.new) }
+    ensures runs { Runs [] (2 + 4 * length routes.now) (D.state disk.old) (D.state disk.new) }
     ensures faults { OnOk result ((D.state disk.new).faults ≡ (D.state disk.old).faults) }
     ensures failed { OnErr result (Rose (D.state disk.old).faults (D.state disk.new).faults) }
-    ensures added { OnOk result
-        (AddsOnDisk (λ x. image.now ≡ x) cell routes.now (D.state disk.old) (D.state disk.new)) }
-    ensures cut { OnErr result
-        (CutsOnDisk (λ x. image.now ≡ x) cell routes.now (D.state disk.old) (D.state disk.new)) }
+    ensures written { OnOk result (WritesLacking image.now routes.now there (D.state disk.old) (D.state disk.new)) }
+    ensures cut { OnErr result (CutsLacking image.now routes.now there (D.state disk.old) (D.state disk.new)) }
 {
-    match routes {
-        [] => Ok(()),
-        [route, rest @ ..] => {
-            perform(disk, &plan_next(image, cell, route))?;
-            add_routes(disk, cell + 1, rest)
-        }
-    }
+    write_cells(disk, SLOT_COUNT + there, &routes[usize::from(there)..])?;
+    write_number(disk, image, SLOT_COUNT + routes.len() as u16)
 }
 
-/// Plans the next cell of the store of these bytes, or its count alone.
-fn plan_next(image: &[u8], cell: u16, route: &Route) -> Plan
-    requires few { cell < 1023 }
-    requires room { twin_size (cell + 2) ≤ length image.now }
-    requires next { IsNextCell image.now cell route.now }
-    ensures plans { PlansNext image.now cell route.now result }
-    ensures fits { PlanFits (length image.now) result }
-{
-    let payload = bound_bytes(route.id, route.direction, route.start);
-    if has_head(image, cell) {
-        plan_growth(cell, &payload)
-    } else {
-        plan_count(cell + 1)
-    }
-}
-
-/// Adds the cells of these routes to a store of so many cells on a disk, with room for them.
-fn add_routes<D: Disk>(disk: &mut D, cell: u16, routes: &[Route]) -> Result<(), DiskFailed>
+/// Writes the first copies of the cells of these routes, the first of this number, one after the other.
+fn write_cells<D: Disk>(disk: &mut D, cell: u16, routes: &[Route]) -> Result<(), DiskFailed>
     requires few { cell + length routes.now ≤ 1023 }
-    requires sized { twin_size (cell + length routes.now + 1) ≤ (D.state disk.old).size }
-    ensures runs { Runs [] (6 * length routes.now) (D.state disk.old) (D.state disk.new) }
+    requires room { twin_size (cell + length routes.now) ≤ (D.state disk.old).size }
+    ensures runs { Runs [] (4 * length routes.now) (D.state disk.old) (D.state disk.new) }
     ensures faults { OnOk result ((D.state disk.new).faults ≡ (D.state disk.old).faults) }
     ensures failed { OnErr result (Rose (D.state disk.old).faults (D.state disk.new).faults) }
-    ensures added { OnOk result
-        (AddsOnDisk (RoomAfter cell (length routes.now)) cell routes.now (D.state disk.old) (D.state disk.new)) }
-    ensures cut { OnErr result
-        (CutsOnDisk (RoomAfter cell (length routes.now)) cell routes.now (D.state disk.old) (D.state disk.new)) }
+    ensures written { OnOk result
+        (MakesOfBytes (with_cells cell routes.now) (D.state disk.old) (D.state disk.new)) }
+    ensures cut { OnErr result (CutsCellsOnDisk cell routes.now (D.state disk.old) (D.state disk.new)) }
 {
     match routes {
         [] => Ok(()),
         [route, rest @ ..] => {
-            let payload = bound_bytes(route.id, route.direction, route.start);
-            perform(disk, &plan_growth(cell, &payload))?;
-            add_routes(disk, cell + 1, rest)
+            write_cell(disk, cell, route)?;
+            write_cells(disk, cell + 1, rest)
         }
     }
+}
+
+/// Writes the first copy of the cell of this route: what stands behind its gate, and then the gate.
+fn write_cell<D: Disk>(disk: &mut D, cell: u16, route: &Route) -> Result<(), DiskFailed>
+    requires room { twin_size (cell + 1) ≤ (D.state disk.old).size }
+    ensures runs { Runs [] 4 (D.state disk.old) (D.state disk.new) }
+    ensures faults { OnOk result ((D.state disk.new).faults ≡ (D.state disk.old).faults) }
+    ensures failed { OnErr result (Rose (D.state disk.old).faults (D.state disk.new).faults) }
+    ensures written { OnOk result
+        (MakesOfBytes (with_cell cell route.now) (D.state disk.old) (D.state disk.new)) }
+    ensures cut { OnErr result (CutsCellOnDisk cell route.now (D.state disk.old) (D.state disk.new)) }
+{
+    let at = pair_place(cell);
+    let payload = bound_bytes(route.id, route.direction, route.start);
+    write_and_sync(disk, at + 1, &marked(0, &payload))?;
+    write_and_sync(disk, at, &[LIVE])
+}
+
+/// Writes the number of cells into the header, unless it stands there. The header is that of these bytes.
+fn write_number<D: Disk>(disk: &mut D, image: &[u8], cells: u16) -> Result<(), DiskFailed>
+    requires room { 32 ≤ length image.now }
+    requires sized { 32 ≤ (D.state disk.old).size }
+    ensures runs { Runs [] 2 (D.state disk.old) (D.state disk.new) }
+    ensures faults { OnOk result ((D.state disk.new).faults ≡ (D.state disk.old).faults) }
+    ensures failed { OnErr result (Rose (D.state disk.old).faults (D.state disk.new).faults) }
+    ensures written { OnOk result (OfBytes (D.state disk.old) (λ x. part 0 32 x ≡ part 0 32 image.now
+        → (D.state disk.new).told ≡ Some (firm (with_number cells x)))) }
+    ensures cut { OnErr result (CutsNumberOnDisk (D.state disk.old) (D.state disk.new)) }
+{
+    if has_head(image, cells) {
+        return Ok(());
+    }
+    write_and_sync(disk, 10, &cells.to_be_bytes())
 }

@@ -1,33 +1,58 @@
 //! Laws of a store that grows: the contract of each function is the law, and its body is empty.
-ghost use Rattle.std.specs.Prelude.{◌≡◌, ◌⊎◌, ◌+◌, ◌<◌, ◌≤◌, ℕ, List, All, length, Some};
+ghost use Rattle.std.specs.Prelude.{◌≡◌, ◌⊎◌, ◌+◌, ◌<◌, ◌≤◌, ◌^◌, ℕ, List, All, length, Some};
 ghost use Rattle.cut_disk.specs.State.{DiskState};
 ghost use Rattle.cut_disk.specs.Images.{firm};
-ghost use Rattle.cell_store.specs.Twin.{cell_at, twin_size};
+ghost use Rattle.cell_store.specs.declared.kinds.Version.TheVariants.{One};
+ghost use Rattle.cell_store.specs.Layout.{part, twin_layout};
+ghost use Rattle.cell_store.specs.Store.{HasHeader};
+ghost use Rattle.cell_store.specs.Twin.{cell_at, first_at, twin_size};
 ghost use Rattle.freshness_routes.specs.declared.routes.Route.{Route};
 ghost use Rattle.freshness_routes.specs.Config.{IsRoute};
 ghost use Rattle.store_growing.specs.declared.faults.GrowFault.{GrowFault};
-ghost use Rattle.store_growing.specs.RouteCells.{route_cell, RouteAt, first_bound, HoldsRoute, CanGrow, HasVersionTwo};
-ghost use Rattle.store_growing.specs.GrowingStores.{CutsRoutes, GrownTo, GrownInPart, CanBeGrown, CannotBeGrown};
+ghost use Rattle.store_growing.specs.RouteCells.{route_cell, RouteAt, first_bound, HoldsRoute, cells_counted, CanGrow};
+ghost use Rattle.store_growing.specs.RouteCells.{HasVersionTwo};
+ghost use Rattle.store_growing.specs.GrowingStores.{GrownTo, GrownInPart, CanBeGrown, CannotBeGrown};
 
-/// Whenever the power goes while a store gets cells at its end, each cell that it had is as it was: no counter of a
-/// slot falls, and no bound.
+/// Whenever the power goes while a store gets cells at its end, what a cell held it holds: no counter of a slot falls,
+/// and no bound.
 pub fn a_cut_while_a_store_grows_keeps_its_cells()
-    ensures { (cell : ℕ) (routes : List Route) (x y : List ℕ) (place : ℕ) → twin_size (cell + length routes) ≤ length x
-        → CutsRoutes cell routes x y → place < cell → cell_at y place ≡ cell_at x place }
+    ensures { (routes : List Route) (x y : List ℕ) → length routes ≤ 256 → All IsRoute routes
+        → twin_size (route_cell (length routes) + 1) ≤ length x → GrownInPart routes x y
+        → (cell : ℕ) (bytes : List ℕ) → cell_at x cell ≡ Some bytes → cell_at y cell ≡ Some bytes }
+{}
+
+/// A cell that the header counts is never written, whatever number stands there: its 68 bytes are as they were. Done or
+/// cut, a growth also keeps what any other cell holds. What a cut leaves grows to the very bytes that the store would
+/// have grown to.
+pub fn a_cell_that_was_counted_stays()
+    ensures counted { (routes : List Route) (x y : List ℕ) → length routes ≤ 256 → All IsRoute routes
+        → twin_size (route_cell (length routes) + 1) ≤ length x → GrownTo routes x y ⊎ GrownInPart routes x y
+        → (cell : ℕ) → cell < cells_counted x → part (first_at cell) 68 y ≡ part (first_at cell) 68 x }
+    ensures store { (routes : List Route) (x y : List ℕ) → length routes ≤ 256 → All IsRoute routes
+        → twin_size (route_cell (length routes) + 1) ≤ length x → GrownTo routes x y ⊎ GrownInPart routes x y
+        → (count cell : ℕ) → count < 2 ^ 16 → HasHeader (twin_layout One) count x → cell < count
+        → cell_at y cell ≡ cell_at x cell }
+    ensures held { (routes : List Route) (x y : List ℕ) → length routes ≤ 256 → All IsRoute routes
+        → twin_size (route_cell (length routes) + 1) ≤ length x → GrownTo routes x y ⊎ GrownInPart routes x y
+        → (cell : ℕ) (bytes : List ℕ) → cell_at x cell ≡ Some bytes → cell_at y cell ≡ Some bytes }
+    ensures ends { (routes : List Route) (x y z : List ℕ) → length routes ≤ 256 → All IsRoute routes
+        → twin_size (route_cell (length routes) + 1) ≤ length x → GrownInPart routes x y → GrownTo routes x z
+        → GrownTo routes y z }
 {}
 
 /// The bound of a route that had a cell stays, whenever the power goes.
 pub fn bounds_that_stood_stay()
-    ensures { (routes : List Route) (x y : List ℕ) (cell : ℕ) (route : Route)
-        → twin_size (route_cell (length routes) + 1) ≤ length x → (cut : GrownInPart routes x y)
-        → cell < route_cell cut.count → HoldsRoute x cell route → HoldsRoute y cell route }
+    ensures { (routes : List Route) (x y : List ℕ) → length routes ≤ 256 → All IsRoute routes
+        → twin_size (route_cell (length routes) + 1) ≤ length x → GrownInPart routes x y
+        → (cell : ℕ) (route : Route) → HoldsRoute x cell route → HoldsRoute y cell route }
 {}
 
-/// After a growth each cell that the store had is as it was. Each further route has a cell with its first bound.
+/// After a growth the header counts the cells of all routes. Each cell that the store had is as it was. Each further
+/// route has a cell with its first bound.
 pub fn a_grown_store_has_its_cells_and_the_new_ones()
     ensures { (routes : List Route) (x z : List ℕ) → length routes ≤ 256 → All IsRoute routes
         → twin_size (route_cell (length routes) + 1) ≤ length x → (grown : GrownTo routes x z)
-        → CanGrow routes z (length routes)
+        → CanGrow routes z (length routes) × HasHeader (twin_layout One) (route_cell (length routes)) z
         × ((cell : ℕ) → cell < route_cell grown.count → cell_at z cell ≡ cell_at x cell)
         × ((place : ℕ) (route : Route) → grown.count ≤ place → RouteAt routes place route
         → cell_at z (route_cell place) ≡ Some (first_bound route)) }

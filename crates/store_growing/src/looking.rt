@@ -1,13 +1,17 @@
 //! What the bytes of a store say of the cells of a bus's routes.
 ghost use Rattle.std.specs.Prelude.{◌≡◌, ◌<◌, ◌≤◌, ◌+◌, ◌↔◌, length, IsTrue, IfOk, IfErr, MatchOption};
-ghost use Rattle.cell_store.specs.Twin.{twin_size};
-ghost use Rattle.store_growing.specs.RouteCells.{route_cell, HoldsRoute, CanGrow, RefusesBytes};
-ghost use Rattle.store_growing.specs.LookSteps.{IsCellOf, RefusesCell, ErasedFrom, UsedAfter};
+ghost use Rattle.cell_store.specs.Layout.{part};
+ghost use Rattle.cell_store.specs.Twin.{twin_size, first_at, is_live};
+ghost use Rattle.store_plan.specs.Growing.{HasHeadButCount};
+ghost use Rattle.store_growing.specs.RouteCells.{route_cell, HoldsRoute, cells_counted, IsErased, IsFree, FreeFrom, CanGrow};
+ghost use Rattle.store_growing.specs.RouteCells.{RefusesBytes};
+ghost use Rattle.store_growing.specs.LookSteps.{HaveJust, UsedAt};
 
 use crate::faults::GrowFault;
+use cell_store::{LIVE, pair_place};
 use freshness_routes::Route;
-use freshness_store::{bound_bytes, bound_in};
-use store_plan::{Growth, cell_in, growth_of, has_head, is_erased_after};
+use freshness_store::bound_in;
+use store_plan::{cell_in, has_head};
 
 /// How many cells the key slots have: those of the routes come after them.
 pub(crate) const SLOT_COUNT: u16 = 14;
@@ -20,40 +24,44 @@ pub(crate) fn routes_there(image: &[u8], routes: &[Route]) -> Result<u16, GrowFa
     ensures refused { IfErr result (RefusesBytes routes.now image.now) }
 {
     let most = routes.len() as u16;
-    for place in 0..most {
-        if !is_there(image, SLOT_COUNT + place, &routes[usize::from(place)])? {
-            return match used_after(image, place, most) {
-                None => Ok(place),
-                Some(_) => Err(GrowFault::TooSmall),
-            };
-        }
+    if !has_head_but_count(image, SLOT_COUNT + most) {
+        return Err(GrowFault::NotFormatted);
     }
-    if has_head(image, SLOT_COUNT + most) {
-        Ok(most)
+    let there = held_first(image, routes);
+    if let Some(place) = used_from(image, there, most) {
+        return Err(GrowFault::BadBound(SLOT_COUNT + place));
+    }
+    if is_erased_pair(image, SLOT_COUNT + most) {
+        Ok(there)
     } else {
-        Err(GrowFault::NotFormatted)
+        Err(GrowFault::TooSmall)
     }
 }
 
-/// Whether the cell of this route is there, with a bound of it; or it is the next one. Else the fault.
-fn is_there(image: &[u8], cell: u16, route: &Route) -> Result<bool, GrowFault>
-    requires few { cell < 1024 }
-    requires room { twin_size (cell + 2) ≤ length image.now }
-    ensures is { IfOk result (IsCellOf image.now cell route.now) }
-    ensures refused { IfErr result (RefusesCell image.now cell route.now) }
+/// Whether the bytes begin with the header of a twin store of version 1, once this number stands in it.
+fn has_head_but_count(image: &[u8], cells: u16) -> bool
+    requires { 32 ≤ length image.now }
+    ensures { IsTrue result ↔ HasHeadButCount image.now cells }
 {
-    let payload = bound_bytes(route.id, route.direction, route.start);
-    match growth_of(image, cell, &payload) {
-        Some(Growth::Before) | Some(Growth::Counting) => Ok(false),
-        Some(Growth::After) | Some(Growth::Beyond) => {
-            if holds_route(image, cell, route) {
-                Ok(true)
-            } else {
-                Err(GrowFault::BadBound(cell))
-            }
+    let mut head = [0; 32];
+    head.copy_from_slice(&image[..32]);
+    head[10..12].copy_from_slice(&cells.to_be_bytes());
+    has_head(&head, cells)
+}
+
+/// How many of the routes, from the first on, have their cells.
+fn held_first(image: &[u8], routes: &[Route]) -> u16
+    requires few { length routes.now ≤ 256 }
+    requires room { twin_size (route_cell (length routes.now)) ≤ length image.now }
+    ensures { HaveJust routes.now image.now result }
+{
+    let most = routes.len() as u16;
+    for place in 0..most {
+        if !holds_route(image, SLOT_COUNT + place, &routes[usize::from(place)]) {
+            return place;
         }
-        None => Err(GrowFault::NotFormatted),
     }
+    most
 }
 
 /// Whether this cell holds a bound of the route.
@@ -68,16 +76,71 @@ fn holds_route(image: &[u8], cell: u16, route: &Route) -> bool
     }
 }
 
-/// The first of these places after whose cell the bytes aren't erased.
-fn used_after(image: &[u8], from: u16, to: u16) -> Option<u16>
+/// The first of these places whose cell can't be written.
+fn used_from(image: &[u8], from: u16, to: u16) -> Option<u16>
     requires few { to ≤ 256 }
-    requires room { twin_size (route_cell to + 1) ≤ length image.now }
-    ensures { MatchOption result (ErasedFrom image.now from to) (UsedAfter image.now from to) }
+    requires room { twin_size (route_cell to) ≤ length image.now }
+    ensures { MatchOption result (FreeFrom image.now from to) (UsedAt image.now from to) }
 {
     for place in from..to {
-        if !is_erased_after(image, SLOT_COUNT + place) {
+        if !is_free(image, SLOT_COUNT + place) {
             return Some(place);
         }
     }
     None
+}
+
+/// Whether this cell can be written.
+fn is_free(image: &[u8], cell: u16) -> bool
+    requires few { cell < 1024 }
+    requires room { twin_size (cell + 1) ≤ length image.now }
+    ensures { IsTrue result ↔ IsFree image.now cell }
+{
+    if is_counted(image, cell) {
+        return false;
+    }
+    if is_open(image, cell) {
+        return false;
+    }
+    is_erased_copy(image, pair_place(cell) as usize + 34)
+}
+
+/// Whether the number in the header counts this cell.
+fn is_counted(image: &[u8], cell: u16) -> bool
+    requires { 32 ≤ length image.now }
+    ensures { IsTrue result ↔ (cell < cells_counted image.now) }
+{
+    u16::from_be_bytes([image[10], image[11]]) > cell
+}
+
+/// Whether the gate of the first copy of this cell is live.
+fn is_open(image: &[u8], cell: u16) -> bool
+    requires { twin_size (cell + 1) ≤ length image.now }
+    ensures { IsTrue result ↔ IsTrue (is_live (part (first_at cell) 34 image.now)) }
+{
+    image[pair_place(cell) as usize] == LIVE
+}
+
+/// Whether a copy of a cell, 34 bytes from this address on, is as an erase leaves it.
+fn is_erased_copy(image: &[u8], at: usize) -> bool
+    requires { at + 34 ≤ length image.now }
+    ensures { IsTrue result ↔ IsErased at 34 image.now }
+{
+    if image[at..at + 34] == [0; 34][..] {
+        return true;
+    }
+    image[at..at + 34] == [0xff; 34][..]
+}
+
+/// Whether a whole cell is as an erase leaves it.
+fn is_erased_pair(image: &[u8], cell: u16) -> bool
+    requires few { cell < 1024 }
+    requires room { twin_size (cell + 1) ≤ length image.now }
+    ensures { IsTrue result ↔ IsErased (first_at cell) 68 image.now }
+{
+    let at = pair_place(cell) as usize;
+    if image[at..at + 68] == [0; 68][..] {
+        return true;
+    }
+    image[at..at + 68] == [0xff; 68][..]
 }

@@ -1,12 +1,34 @@
-use Rattle.std.proofs.Common.{ℕ, ◌+◌, refl, subst, arith}
-use Rattle.cut_disk.specs.Calls.{Rose, AsBefore}
+use Rattle.std.proofs.Common.{ℕ, subst, arith}
 use Rattle.std.proofs.lemmas.Result.{err_from_is_err_and}
-use Rattle.store_growing.proofs.DiskSteps.{not_seen, bytes_refused, could_be, store_cut, rest_from, runs_all, runs_less, get_here}
+use Rattle.cut_disk.specs.Calls.{Rose, AsBefore}
+use Rattle.store_growing.proofs.DiskSteps.{not_seen, bytes_refused, could_be, store_cut, runs_all, runs_less}
 use Rattle.store_growing.proofs.growing.grow_image.Goals as goal
 
 pub returns-in_err-see-clause-runs : goal.returns-in_err-see-clause-runs
 returns-in_err-see-clause-runs g c =
     runs_less c.args.routes.now 2 (g.D.Disk.state c.args.disk.now) (g.D.Disk.state c.see.new.disk) (omega arith) c.see.ensures.runs
+
+pub returns-in_err-there-clause-runs : goal.returns-in_err-there-clause-runs
+returns-in_err-there-clause-runs g c =
+    runs_less c.args.routes.now 2 (g.D.Disk.state c.args.disk.now) (g.D.Disk.state c.see.new.disk) (omega arith) c.see.ensures.runs
+
+pub returns-in-Ok-clause-runs : goal.returns-in-Ok-clause-runs
+returns-in-Ok-clause-runs g c =
+    runs_all c.args.routes.now (g.D.Disk.state c.args.disk.now) (g.D.Disk.state c.see.new.disk) (g.D.Disk.state c.write_lacking.new.disk)
+    c.see.ensures.runs c.write_lacking.ensures.runs
+
+pub returns-in-Err-clause-runs : goal.returns-in-Err-clause-runs
+returns-in-Err-clause-runs g c =
+    runs_all c.args.routes.now (g.D.Disk.state c.args.disk.now) (g.D.Disk.state c.see.new.disk) (g.D.Disk.state c.write_lacking.new.disk)
+    c.see.ensures.runs c.write_lacking.ensures.runs
+
+pub returns-in-Err-clause-refused : goal.returns-in-Err-clause-refused
+returns-in-Err-clause-refused g c = (
+  subst (λ (n : ℕ). Rose n (g.D.Disk.state c.write_lacking.new.disk).faults) c.in_ok-see.ensures.faults c.in-Err.ensures.failed,
+  store_cut c.args.routes.now c.in_ok-there.there c.see.new.image (g.D.Disk.state c.args.disk.now)
+      (g.D.Disk.state c.see.new.disk) (g.D.Disk.state c.write_lacking.new.disk) c.see.ensures.same c.in_ok-see.ensures.sees c.in_ok-see.ensures.version
+      c.in_ok-there.ensures.found c.in-Err.ensures.cut,
+)
 
 pub returns-in_err-see-clause-refused : goal.returns-in_err-see-clause-refused
 returns-in_err-see-clause-refused g c =
@@ -26,31 +48,3 @@ pub returns-in-Ok-clause-could : goal.returns-in-Ok-clause-could
 returns-in-Ok-clause-could g c =
     could_be c.args.routes.now (g.D.Disk.state c.args.disk.now) c.see.new.image c.in_ok-there.there (omega (arith, c.requires.room, c.requires.sized))
     c.in_ok-see.ensures.sees c.in_ok-see.ensures.version c.in_ok-there.ensures.found
-
-pub returns-in_err-there-clause-runs : goal.returns-in_err-there-clause-runs
-returns-in_err-there-clause-runs g c =
-    runs_less c.args.routes.now 2 (g.D.Disk.state c.args.disk.now) (g.D.Disk.state c.see.new.disk) (omega arith) c.see.ensures.runs
-
-pub add_lacking-requires-clause-can : goal.add_lacking-requires-clause-can
-add_lacking-requires-clause-can g c =
-    get_here c.args.routes.now _ c.see.new.image (14 + c.in_ok-there.there) c.in_ok-there.there refl
-    (rest_from c.args.routes.now c.from.result c.in_ok-there.there c.from.ensures) c.in_ok-there.ensures.found
-
-pub returns-in-Ok-clause-runs : goal.returns-in-Ok-clause-runs
-returns-in-Ok-clause-runs g c =
-    runs_all c.args.routes.now _ c.in_ok-there.there (g.D.Disk.state c.args.disk.now) (g.D.Disk.state c.see.new.disk) (g.D.Disk.state c.add_lacking.new.disk)
-    (rest_from c.args.routes.now c.from.result c.in_ok-there.there c.from.ensures) c.see.ensures.runs c.add_lacking.ensures.runs
-
-pub returns-in-Err-clause-runs : goal.returns-in-Err-clause-runs
-returns-in-Err-clause-runs g c =
-    runs_all c.args.routes.now _ c.in_ok-there.there (g.D.Disk.state c.args.disk.now) (g.D.Disk.state c.see.new.disk) (g.D.Disk.state c.add_lacking.new.disk)
-    (rest_from c.args.routes.now c.from.result c.in_ok-there.there c.from.ensures) c.see.ensures.runs c.add_lacking.ensures.runs
-
-pub returns-in-Err-clause-refused : goal.returns-in-Err-clause-refused
-returns-in-Err-clause-refused g c = (
-  subst (λ (n : ℕ). Rose n (g.D.Disk.state c.add_lacking.new.disk).faults) c.in_ok-see.ensures.faults c.in-Err.ensures.failed,
-  store_cut c.args.routes.now _ (14 + c.in_ok-there.there) c.in_ok-there.there c.see.new.image (g.D.Disk.state c.args.disk.now)
-      (g.D.Disk.state c.see.new.disk) (g.D.Disk.state c.add_lacking.new.disk) c.see.ensures.same refl
-      (rest_from c.args.routes.now c.from.result c.in_ok-there.there c.from.ensures) c.in_ok-see.ensures.sees c.in_ok-see.ensures.version
-      c.in_ok-there.ensures.found c.in-Err.ensures.cut,
-)
