@@ -171,6 +171,42 @@ def slots(name, data, values, routes=None):
     return 0, f"loaded {m4.hex()} {m5.hex()}\n"
 
 
+def fresh(kind, version, cells):
+    """The bytes of a fresh store of these cells."""
+    head = b"SECOCST1" + bytes([kind, version]) + len(cells).to_bytes(2, "big") + bytes(20)
+    if kind == 1:
+        return head + b"".join(bytes([LIVE, 0]) + cell + bytes([LIVE, 2]) + cell for cell in cells)
+    return head + bytes([LIVE, 0]) + b"".join(cells) + bytes(64 * 35) + bytes([0, 2]) + bytes(32 * len(cells) + 64 * 35)
+
+
+def make(data, kind, version, routes):
+    """What `slots make` makes of a disk of these bytes for a node: the status, the text, and the bytes. Kind and version are numbers; of
+    each route of the bus its Data ID, direction and first bound."""
+    count, base = 14 + len(routes), 32768 * (version - 1)
+    if len(data) < base + (32 + 68 * count if kind == 1 else 4516 + 64 * count):
+        raise No(9, "store: TooSmall\n")
+    low, high = header(data, 1), header(data, 2)
+    other = high if version == 1 else low
+    blank = not any(data[:32]) and not any(data[base:base + 32])
+    stands = (high if version == 2 else low) == (kind, count) and not (version == 1 and high == (kind, count))
+    text = f"made {('twin', 'log')[kind - 1]} {version} {count}\n"
+    if stands:
+        cells, damaged = cells_of(kind, count, data[base:])
+        if damaged is not None:
+            raise No(9, f"store: Damaged {damaged}\n")
+        for place, cell in enumerate(cells):
+            if place < 14 and slot_of(cell) is None:
+                raise No(9, f"store: BadSlot {place}\n")
+            if place >= 14 and finding(place, cell, [route[:2] for route in routes]):
+                raise No(9, f"store: BadBound {place}\n")
+        return 0, text, data
+    if not blank or other == (kind, count):
+        raise No(9, "store: NotFormatted\n")
+    cells = [bytes(32)] * 14 + [bytes([2, way]) + name + bound.to_bytes(8, "big") + bytes(20) for name, way, bound in routes]
+    made = fresh(kind, version, cells)
+    return 0, text, data[:base] + made + data[base + len(made):]
+
+
 def grow(data, routes):
     """What `slots grow` makes of a disk of these bytes: the status, the text, and the bytes. Of each route of the bus its Data ID, direction and
     first bound."""

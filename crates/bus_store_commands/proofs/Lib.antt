@@ -3,3 +3,7 @@ pub mod CheckPromises
 pub mod CheckPhases
 pub mod GrowPromises
 pub mod GrowPhases
+pub mod Making
+pub mod MakeTells
+pub mod MakePromises
+pub mod MakePhases

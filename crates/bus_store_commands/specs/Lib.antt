@@ -4,3 +4,7 @@ pub mod CheckRows
 pub mod ChecksOverBus
 pub mod GrowRows
 pub mod GrowsOverBus
+pub mod NodeStores
+pub mod MakeRows
+pub mod MakeSteps
+pub mod MakesUnitStore

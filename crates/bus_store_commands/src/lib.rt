@@ -4,11 +4,17 @@
 //! [`run_bus_check`] answers `check FILE BUS` over the bytes of two files, which are only read: the record
 //! `ChecksOverBus` says what each status means and what is printed. It names what `check FILE` names, each cell that
 //! isn't the bound of its route, each cell that no route has, and each route that has no cell.
+//!
+//! [`make_words`] answers `make FILE BUS`, with `MakesUnitStore`: on a blank disk the store that the node's first start
+//! would make. What stands there is only read. [`grow_words`] answers `grow FILE BUS`, with `GrowsOverBus`: a cell more
+//! for each route that has none.
 #![tactic(auto)]
 
 mod checking;
 mod grow_start;
 mod growing;
+mod make;
+mod making;
 mod node_buses;
 mod start;
 mod words;
@@ -16,6 +22,8 @@ mod words;
 pub use checking::run_bus_check;
 pub use grow_start::grow_words;
 pub use growing::grow_over;
+pub use make::{MakeJob, make_words};
+pub use making::{MakeFault, Unmade, make_store};
 pub use node_buses::node_bus_from;
 pub use start::bus_check_words;
 pub use words::{asks_over_bus, file_over_bus};

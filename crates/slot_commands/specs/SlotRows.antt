@@ -20,7 +20,7 @@ pub record SlotInputs : Type 0 where
   pub file : Reading
 
 abbrev pub slots_usage : List ℕ
-slots_usage = line (codes "usage: station slots list, check, reply")
+slots_usage = line (codes "usage: station slots list, check, reply, make, grow")
 
 -- the line for the first value that isn't of its form
 abbrev pub slot_value_text : ℕ → List ℕ

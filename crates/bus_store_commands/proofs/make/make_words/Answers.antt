@@ -1,0 +1,28 @@
+-- Not checked yet: the form is grow_words'
+use Rattle.std.proofs.Common.{refl}
+use Rattle.program_edge.specs.NamedSources.{word_source}
+use Rattle.bus_store_commands.proofs.MakePhases.{job_lacking, job_done}
+use Rattle.bus_store_commands.proofs.make.make_words.Goals as goal
+
+pub make_named-requires : goal.make_named-requires
+make_named-requires g c = record { one = c.in-Ok.ensures.1.1; text = c.in-Ok.ensures.2 }
+
+pub returns-in-Ok : goal.returns-in-Ok
+returns-in-Ok g c =
+    let state = word_source g.O.Opened.Source.state g.I.Source.state in record {
+      source = record { before = state c.open_word-bus.result; after = state c.prepare.new.bus };
+      named = rw c.file_over_bus.ensures at c.open_word-bus.ensures.named;
+      opened_once = rw c.file_over_bus.ensures at c.open_word-bus.ensures.left;
+      left_is = refl;
+      has = job_done _ _ _ _ _ _ _ _ _ c.argument_at-file.ensures c.in-Ok.ensures.0 c.in-Ok.ensures.1 c.make_named-status.ensures;
+    }
+
+pub returns-in-Err : goal.returns-in-Err
+returns-in-Err g c =
+    let state = word_source g.O.Opened.Source.state g.I.Source.state in record {
+      source = record { before = state c.open_word-bus.result; after = state c.prepare.new.bus };
+      named = rw c.file_over_bus.ensures at c.open_word-bus.ensures.named;
+      opened_once = rw c.file_over_bus.ensures at c.open_word-bus.ensures.left;
+      left_is = refl;
+      has = job_lacking _ _ _ _ _ c.in-Err.refusal _ refl c.in-Err.ensures (record { row = c.in-Err.refusal; comes = refl; told = c.tell_refusal.ensures });
+    }
