@@ -8,7 +8,8 @@ use Rattle.program_edge.proofs.CallerLemmas.{Offers-whole, EndsInRow-at, EndsInR
 use Rattle.program_edge.specs.Endings.{Ending, PrintsWhole, EndsInRow, MayEndIn}
 use Rattle.cell_store.specs.Layout.{layout}
 use Rattle.key_commands.specs.declared.finding.CountingStore.{CountingStore}
-use Rattle.key_commands.specs.Counting.{StoreThatCounts}
+use Rattle.any_cells.specs.declared.looking.Found.TheVariants.{Standing}
+use Rattle.any_cells.specs.Looking.{IsFound}
 use Rattle.key_commands.specs.Opening.{layout_of}
 use Rattle.bus_config.specs.declared.fault.ConfigFault.{ConfigFault}
 use Rattle.bus_config.specs.BusFile.{bus_of}
@@ -17,14 +18,14 @@ use Rattle.bus_programs.specs.BusFiles.{OffersBus, no_file, file_refused}
 use Rattle.bus_programs.specs.BusRoutes.{routes_of}
 use Rattle.bus_programs.proofs.CallerLemmas.{same_bus, bus_or_fault, offered_no_fault, memory_status, told_fault, told_too_much}
 use Rattle.slot_commands.specs.Stores.{HasStoreToCheck, NoStoreIn}
-use Rattle.slot_commands.proofs.CallerLemmas.{no_store_row, good_layout}
+use Rattle.slot_commands.proofs.CallerLemmas.{no_store_row}
 use Rattle.bus_store_commands.specs.NodeBuses.{ReadsNodeBus, OffersNodeBus, LacksNodeBus, no_bus, other_nodes}
 use Rattle.bus_store_commands.specs.BusWords.{asks_over_bus}
 use Rattle.bus_store_commands.specs.CheckRows.{BusCheckInputs, AsksBusCheck, OverStoreAndBus, wanted_store, ChecksNodeStore, DoesBusCheck, found_nothing, found, not_checked}
 use Rattle.bus_store_commands.specs.CheckRows.{ComesOfBusCheck, no_form, no_node, done, bus_check_usage}
 use Rattle.bus_store_commands.specs.CheckRows as rows
 use Rattle.bus_store_commands.specs.ChecksOverBus.{ChecksOverBus}
-use Rattle.bus_store_commands.proofs.CheckTells.{row_tells, asks_or_not, IsCheckStatus, check_status, check_once, kind_status}
+use Rattle.bus_store_commands.proofs.CheckTells.{row_tells, asks_or_not, IsCheckStatus, check_status, check_once, kind_status, good_stands}
 
 -- ---- what a check comes to, by its status
 
@@ -107,12 +108,11 @@ module _ (i : BusCheckInputs) (e : Ending) where
       let (findings, some, checks) = check_1 bus x row does is in
       (bus, x, reads, whole, (findings, row.text, some, checks, prints))
 
-  kind_good_at : (row : Row) → ComesOfBusCheck i row → row.status ≡ 0 → PrintsWhole e row.text
-      → OverStoreAndBus i (λ bus x. (found : CountingStore) × StoreThatCounts x (Some found) × (layout_of found ≡ layout bus.kind bus.version))
-  kind_good_at row comes is prints =
+  standing_at : (row : Row) → ComesOfBusCheck i row → row.status ≡ 0 → PrintsWhole e row.text
+      → OverStoreAndBus i (λ bus x. IsFound bus.kind bus.version (wanted_store bus).cells x Standing)
+  standing_at row comes is prints =
       let (bus, x, reads, whole, does) = done_at 0 (inl refl) row comes is in
-      let checks = check_0 bus x row does is in
-      (bus, x, reads, whole, (checks.found, checks.has.counts, good_layout (wanted_store bus) (Some (routes_of bus)) x row.text [] checks refl))
+      (bus, x, reads, whole, good_stands bus x row.text (check_0 bus x row does is))
 
   no_store_at : (row : Row) → ComesOfBusCheck i row → row.status ≡ 9 → PrintsWhole e row.text
       → OverStoreAndBus i (λ bus x. (row : Row) × NoStoreIn x row × PrintsWhole e row.text)
@@ -267,7 +267,7 @@ module _ (i : BusCheckInputs) (e : Ending) where
     good = EndsInRow-at ends 0 refl good_at;
     found = EndsInRow-at ends 1 refl found_at;
     found_only = λ bus x text findings asks offers told checks some. may_done ends 1 bus x _ asks offers told (found findings text some checks) refl;
-    kind_good = EndsInRow-at ends 0 refl kind_good_at;
+    standing = EndsInRow-at ends 0 refl standing_at;
     kind_found_only = λ bus x store asks offers told has differs. EndsInRow-may ends 1 (only_kind bus x store asks offers told has differs);
     usage = EndsInRow-at ends 2 refl at_2;
     usage_only = λ none. EndsInRow-only ends 2 (only_2 none);

@@ -10,12 +10,13 @@ use Rattle.bus_config.specs.Buses.{NamedBus}
 use Rattle.bus_programs.specs.BusFiles.{OffersBus}
 use Rattle.cell_store.specs.Layout.{layout}
 use Rattle.key_commands.specs.declared.finding.CountingStore.{CountingStore}
-use Rattle.key_commands.specs.Counting.{StoreThatCounts}
+use Rattle.any_cells.specs.declared.looking.Found.TheVariants.{Standing}
+use Rattle.any_cells.specs.Looking.{IsFound}
 use Rattle.key_commands.specs.Opening.{layout_of}
 use Rattle.slot_commands.specs.Stores.{HasStoreToCheck, NoStoreIn}
 use Rattle.bus_store_commands.specs.NodeBuses.{OffersNodeBus, LacksNodeBus}
 use Rattle.bus_store_commands.specs.BusWords.{asks_over_bus}
-use Rattle.bus_store_commands.specs.CheckRows.{BusCheckInputs, AsksBusCheck, OverStoreAndBus, ChecksNodeStore, DoesBusCheck}
+use Rattle.bus_store_commands.specs.CheckRows.{BusCheckInputs, AsksBusCheck, OverStoreAndBus, wanted_store, ChecksNodeStore, DoesBusCheck}
 use Rattle.bus_store_commands.specs.CheckRows.{ComesOfBusCheck, bus_check_usage}
 
 -- what is promised of these inputs that ends so, in the order of the table of answers
@@ -32,9 +33,9 @@ pub record ChecksOverBus (i : BusCheckInputs) (e : Ending) : Type 0 where
   pub found_only : (bus : NamedBus) (x text : List ℕ) (findings : List (List (List ℕ))) → AsksBusCheck i.words
       → OffersNodeBus i.bus bus → Offers i.file x → ChecksNodeStore bus x findings text → findings ≢ []
       → MayEndIn 1 e
-  -- At 0 the store that counts has the kind and the version of the bus; one of another kind or version always ends in 1.
-  pub kind_good : e.status ≡ 0 → OverStoreAndBus i (λ bus x.
-      (found : CountingStore) × StoreThatCounts x (Some found) × (layout_of found ≡ layout bus.kind bus.version))
+  -- At 0 the node's start would find its store standing. One of another kind or version than the bus's is always found.
+  pub standing : e.status ≡ 0 → OverStoreAndBus i (λ bus x.
+      IsFound bus.kind bus.version (wanted_store bus).cells x Standing)
   pub kind_found_only : (bus : NamedBus) (x : List ℕ) (found : CountingStore) → AsksBusCheck i.words
       → OffersNodeBus i.bus bus → Offers i.file x → HasStoreToCheck x found
       → ¬ (layout_of found ≡ layout bus.kind bus.version) → MayEndIn 1 e

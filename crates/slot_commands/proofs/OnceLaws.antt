@@ -170,7 +170,7 @@ places_once routes x found f g (of_log cells _ log stands number finds) (of_dama
     absurd (stands-whole (layout_of found) x cells found.cells place stands number first)
 places_once routes x found f g (of_damaged_log place log first) second none = cc none
 
-no_parts : (a b : List (List (List ℕ))) → a ++ b ≡ [] → (a ≡ []) × (b ≡ [])
+pub no_parts : (a b : List (List (List ℕ))) → a ++ b ≡ [] → (a ≡ []) × (b ≡ [])
 no_parts [] b is = (refl, is)
 no_parts (word ∷ a) b is = cc is
 
@@ -204,22 +204,6 @@ pub checked_once : (wanted : Option CountingStore) (routes : Option (List Route)
 checked_once wanted routes x text other f g first second none =
     nothing_once wanted routes x first.found f g first.finds
     (subst (λ (s : CountingStore). FindsInStore wanted routes x s g) (same_found x second.found first.found second.has.counts first.has.counts) second.finds) none
-
--- a store in which nothing is found has the kind and the version that are wanted
-wanted_layout : (found : CountingStore) (a : Option CountingStore) (wanted : CountingStore) (f : List (List (List ℕ))) → FindsLayout found a f
-    → a ≡ Some wanted → f ≡ [] → layout_of found ≡ layout_of wanted
-wanted_layout found a wanted f none_wanted is none = cc is
-wanted_layout found a wanted f (as_wanted also same) is none =
-    let such : also ≡ wanted = cc is in
-    same ∙ ap layout_of such
-wanted_layout found a wanted f (another also other) is none = cc none
-
-pub good_layout : (wanted : CountingStore) (routes : Option (List Route)) (x text : List ℕ) (findings : List (List (List ℕ)))
-    (checks : ChecksStore (Some wanted) routes x findings text) → findings ≡ [] → layout_of checks.found ≡ layout_of wanted
-good_layout wanted routes x text findings checks none =
-    let finds = checks.finds in
-    let (no_layout, rest) = no_parts finds.of_layout (finds.of_places ++ lacking_lines routes checks.found.cells) (sym finds.all ∙ none) in
-    wanted_layout checks.found (Some wanted) wanted finds.of_layout finds.finds_layout refl no_layout
 
 -- ---- replies
 
