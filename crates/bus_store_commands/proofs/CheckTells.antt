@@ -9,6 +9,8 @@ use Rattle.bus_programs.specs.BusRoutes.{routes_of}
 use Rattle.bus_programs.specs.BusFiles.{no_file, file_refused}
 use Rattle.bus_programs.proofs.CallerLemmas.{RowTells, calm_unread, calm_whole, told_first, told_second}
 use Rattle.cell_store.specs.declared.kinds.Layout.{Layout}
+use Rattle.cell_store.specs.declared.kinds.Kind.{Kind}
+use Rattle.cell_store.specs.declared.kinds.Version.{Version}
 use Rattle.cell_store.specs.declared.kinds.Version.TheVariants.{One, Two}
 use Rattle.cell_store.specs.Layout.{layout}
 use Rattle.cell_store.proofs.CallerLemmas.{header-not_blank}
@@ -88,17 +90,15 @@ counting_stands x o store (only_second kind n none high) is =
     subst (λ (s : CountingStore). IsFound s.kind s.version s.cells x Standing) same (inl (high.1, refl))
 counting_stands x o store (no_store low high) is = cc is
 
--- stores of one kind, version and number of cells are one
-one_store : (a b : CountingStore) → layout_of a ≡ layout_of b → a.cells ≡ b.cells → a ≡ b
-one_store a b one_layout number =
-    let kinds : a.kind ≡ b.kind = ap (λ (l : Layout). l.kind) one_layout in
-    let versions : a.version ≡ b.version = ap (λ (l : Layout). l.version) one_layout in
-    rw (kinds, versions, number) refl
-
 -- of a check that finds nothing it is the one that the bus wants
 pub good_stands : (bus : NamedBus) (x text : List ℕ) → ChecksNodeStore bus x [] text → IsFound bus.kind bus.version (wanted_store bus).cells x Standing
 good_stands bus x text checks =
+    let store = checks.found in
     let one_layout = good_layout (wanted_store bus) (Some (routes_of bus)) x text [] checks refl in
-    let number = good_number (Some (wanted_store bus)) (routes_of bus) x text [] checks refl in
-    let same : checks.found ≡ wanted_store bus = one_store checks.found (wanted_store bus) one_layout number in
-    counting_stands x (Some checks.found) (wanted_store bus) checks.has.counts (ap (λ (s : CountingStore). Some s) same)
+    let kinds : store.kind ≡ bus.kind = ap (λ (l : Layout). l.kind) one_layout in
+    let versions : store.version ≡ bus.version = ap (λ (l : Layout). l.version) one_layout in
+    let number : store.cells ≡ (wanted_store bus).cells = good_number (Some (wanted_store bus)) (routes_of bus) x text [] checks refl in
+    subst (λ (n : ℕ). IsFound bus.kind bus.version n x Standing) number
+    (subst (λ (version : Version). IsFound bus.kind version store.cells x Standing) versions
+    (subst (λ (kind : Kind). IsFound kind store.version store.cells x Standing) kinds
+    (counting_stands x (Some store) store checks.has.counts refl)))
