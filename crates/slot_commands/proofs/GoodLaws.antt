@@ -80,7 +80,7 @@ no_fewer : (routes : List Route) (cells : ℕ) → lacking_lines (Some routes) c
 no_fewer routes cells none wide =
     let over = drop (cells - slot_count) routes in
     let number : length (map no_cell_words over) ≡ 0 = ap length none in
-    omega (arith, number, length-map no_cell_words over, length-drop (cells - slot_count) routes, wide)
+    omega (arith, number, length-map over no_cell_words, length-drop (cells - slot_count) routes, wide)
 
 pub good_number : (wanted : Option CountingStore) (routes : List Route) (x text : List ℕ) (findings : List (List (List ℕ)))
     (checks : ChecksStore wanted (Some routes) x findings text) → findings ≡ [] → checks.found.cells ≡ slot_count + length routes
