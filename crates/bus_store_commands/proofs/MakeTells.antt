@@ -21,7 +21,7 @@ use Rattle.bus_programs.proofs.CallerLemmas.{RowTells, calm_unread, calm_whole}
 use Rattle.bus_world.specs.TakingUp.{cells_in}
 use Rattle.bus_store_commands.specs.declared.making.MakeFault.{MakeFault}
 use Rattle.bus_store_commands.specs.declared.making.MakeFault.TheVariants as fault
-use Rattle.bus_store_commands.specs.NodeStores.{MadeOrFound, made, stood, StoreUnmade, FailedToMake, LeftAsItWas, BytesRefused}
+use Rattle.bus_store_commands.specs.NodeStores.{MadeOrFound, made, stood, StoreUnmade, FailedToMake, LeftAsItWas, BytesRefused, IsUnused}
 use Rattle.bus_store_commands.specs.MakeRows.{MakeInputs, make_row, IsMakeRow, ComesOfMake, no_form, no_node, no_room, unmade}
 use Rattle.bus_store_commands.specs.MakeRows as rows
 use Rattle.bus_store_commands.specs.MakesUnitStore.{BlankOrWhole}
@@ -131,16 +131,17 @@ module _ (kind : Kind) (version : Version) (config : Config) (x : List ℕ) wher
   blank_standing : IsFound kind version (cells_in config) x Blank → IsFound kind version (cells_in config) x Standing → ⊥
   blank_standing first second = two_found Blank Standing first second (λ same. cc same)
 
-  -- blank bytes aren't refused
-  pub blank_refused : (cause : MakeFault) → IsFound kind version (cells_in config) x Blank → BytesRefused kind version config x cause → ⊥
+  -- zeros aren't refused
+  pub blank_refused : (cause : MakeFault) → IsUnused kind version config x → BytesRefused kind version config x cause → ⊥
   blank_refused (fault.Store store.DiskFailed) blank refused = refused
-  blank_refused (fault.Store store.NotFormatted) blank (inl foreign) = two_found Blank Foreign blank foreign (λ same. cc same)
-  blank_refused (fault.Store store.NotFormatted) blank (inr older) = two_found Blank Older blank older (λ same. cc same)
-  blank_refused (fault.Store (store.Damaged place)) blank refused = blank_standing blank refused.0
+  blank_refused (fault.Store store.NotFormatted) blank (inl foreign) = two_found Blank Foreign blank.0 foreign (λ same. cc same)
+  blank_refused (fault.Store store.NotFormatted) blank (inr (inl older)) = two_found Blank Older blank.0 older (λ same. cc same)
+  blank_refused (fault.Store store.NotFormatted) blank (inr (inr used)) = used.1 blank.1
+  blank_refused (fault.Store (store.Damaged place)) blank refused = blank_standing blank.0 refused.0
   blank_refused (fault.Store store.TooSmall) blank refused = refused
   blank_refused (fault.Store store.Memory) blank refused = refused
-  blank_refused (fault.BadSlot slot) blank refused = blank_standing blank refused.0
-  blank_refused (fault.BadBound place) blank refused = blank_standing blank refused.0
+  blank_refused (fault.BadSlot slot) blank refused = blank_standing blank.0 refused.0
+  blank_refused (fault.BadBound place) blank refused = blank_standing blank.0 refused.0
 
 -- nor are those of a node's store that stands
 pub fit_refused : (kind : Kind) (version : Version) (config : Config) (x : List ℕ) (cause : MakeFault) → IsConfig config
@@ -149,8 +150,10 @@ fit_refused kind version config x cause good (inl blank) refused = blank_refused
 fit_refused kind version config x (fault.Store store.DiskFailed) good (inr (kept, standing, is, stands)) refused = refused
 fit_refused kind version config x (fault.Store store.NotFormatted) good (inr (kept, standing, is, stands)) (inl foreign) =
     two_found kind version config x Standing Foreign standing foreign (λ clash. cc clash)
-fit_refused kind version config x (fault.Store store.NotFormatted) good (inr (kept, standing, is, stands)) (inr older) =
+fit_refused kind version config x (fault.Store store.NotFormatted) good (inr (kept, standing, is, stands)) (inr (inl older)) =
     two_found kind version config x Standing Older standing older (λ clash. cc clash)
+fit_refused kind version config x (fault.Store store.NotFormatted) good (inr (kept, standing, is, stands)) (inr (inr used)) =
+    two_found kind version config x Standing Blank standing used.0 (λ clash. cc clash)
 fit_refused kind version config x (fault.Store (store.Damaged place)) good (inr (kept, standing, is, stands)) refused =
     stands-whole (layout kind version) x (CellsOf config kept) (cells_in config) place stands (length-CellsOf config kept is) refused.1
 fit_refused kind version config x (fault.Store store.TooSmall) good (inr (kept, standing, is, stands)) refused = refused

@@ -16,8 +16,8 @@ ghost use Rattle.bus_store_commands.specs.NodeStores.{StoreMade, StoreUnmade};
 ghost use Rattle.bus_store_commands.specs.CutMakes.{NewStore, CutMake};
 
 /// Whenever the power goes while a node's store is made on a disk of zeros, a new node's store stands, or none does.
-/// The same call finds the one, and makes the other of a disk that is still blank. It refuses a torn header; no key and
-/// no counter stands beside it.
+/// The same call finds the one. If none stands and a byte isn't zero, it refuses the disk: no key and no counter was in
+/// it, so the file may be removed.
 pub fn a_cut_make_leaves_a_new_node_or_none()
     ensures made { (kind : Kind) (version : Version) (config : Config) (size : ℕ) (before after : DiskState)
         → before.told ≡ Some (firm (replicate size 0)) → store_size (layout kind version) (cells_in config) ≤ size

@@ -5,9 +5,9 @@
 //! `ChecksOverBus` says what each status means and what is printed. It names what `check FILE` names, each cell that
 //! isn't the bound of its route, each cell that no route has, and each route that has no cell.
 //!
-//! [`make_words`] answers `make FILE BUS`, with `MakesUnitStore`: on a blank disk the store that the node's first start
-//! would make. What stands there is only read. [`grow_words`] answers `grow FILE BUS`, with `GrowsOverBus`: a cell more
-//! for each route that has none.
+//! [`make_words`] answers `make FILE BUS`, with `MakesUnitStore`: on a disk of zeros the store that the node's first
+//! start would make. What stands there is only read. [`grow_words`] answers `grow FILE BUS`, with `GrowsOverBus`: a
+//! cell more for each route that has none.
 #![tactic(auto)]
 
 mod checking;

@@ -25,7 +25,7 @@ use std::alloc::{AllocError, Global};
 
 const USAGE: &str = "usage: station slots make FILE BUS\n";
 
-/// Makes the store of the node of BUS on the disk that FILE opens, if that is blank. It gives the status that the
+/// Makes the store of the node of BUS on the disk that FILE opens, if its bytes are zeros. It gives the status that the
 /// program ends with, the source of the bus file and the disk, as they were left. `-` names the input as BUS, which is
 /// taken then. BUS is read whole before the disk is opened, so that one that is refused makes no file.
 ///
