@@ -3,7 +3,8 @@ pub mod CheckPromises
 pub mod CheckPhases
 pub mod GrowPromises
 pub mod GrowPhases
-pub mod Making
+pub mod MakingStores
+pub mod MakeCuts
 pub mod MakeTells
 pub mod MakePromises
 pub mod MakePhases

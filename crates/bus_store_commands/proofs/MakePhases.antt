@@ -54,7 +54,7 @@ job_lacking opens words bus disks left row e none lacks ends =
 over : (opens : List ℕ → DiskState → Type 0) (i : MakeInputs) (bus : NamedBus) (disk end : DiskState) → AsksMake i.words → ReadsNodeBus i.bus bus
     → rows.OpensStoreDisk opens i disk end → (row : Row) → ComesOverDisk bus disk end row → ComesOfMake opens i row
 over opens i bus disk end asks reads opened row (of_made stands) = rows.made bus disk end asks reads opened stands
-over opens i bus disk end asks reads opened row (of_unmade cause _ un is) = unmade bus disk end cause row asks reads opened un is
+over opens i bus disk end asks reads opened row (of_unmade cause _ good un is) = unmade bus disk end cause row asks reads good opened un is
 
 pub job_done : (opens : List ℕ → DiskState → Type 0) (words : List (List ℕ)) (source : Reading) (before after : List (List ℕ)) (file : List ℕ)
     (bus : NamedBus) (left : Option DiskState) (e : Ending) → file ≡ rows.make_file words → AsksMake words → ReadsNodeBus source bus
@@ -113,10 +113,10 @@ module _ (bus : NamedBus) (kind : Kind) (version : Version) (config : Config) (k
       (subst (λ (v : Version). StoreMade bus.kind v config disk after) version_is
       (subst (λ (k : Kind). StoreMade k version config disk after) kind_is stands))))
 
-  pub row_unmade : (cause : MakeFault) (row : Row) → StoreUnmade kind version config disk after cause → IsMakeRow cause row
+  pub row_unmade : (cause : MakeFault) (row : Row) → IsConfig config → StoreUnmade kind version config disk after cause → IsMakeRow cause row
       → ComesOverDisk bus disk after row
-  row_unmade cause row un is =
-      of_unmade cause row (subst (λ (c : Config). StoreUnmade bus.kind bus.version c disk after cause) config_is
+  row_unmade cause row good un is =
+      of_unmade cause row (subst IsConfig config_is good) (subst (λ (c : Config). StoreUnmade bus.kind bus.version c disk after cause) config_is
       (subst (λ (v : Version). StoreUnmade bus.kind v config disk after cause) version_is
       (subst (λ (k : Kind). StoreUnmade k version config disk after cause) kind_is un))) is
 

@@ -2,13 +2,14 @@
 use Rattle.std.specs.Prelude.{◌≡◌, ◌≢◌, ◌⊎◌, ℕ, ◌<◌, false, None, Some, Err, List, [], length, codes}
 use Rattle.std.proofs.Common.{refl, sym, ap, ◌∙◌, subst, arith, inl, inr}
 use Rattle.cut_disk.specs.State.{DiskState, Told}
-use Rattle.cut_disk.specs.Calls.{IsQuiet}
+use Rattle.cut_disk.specs.Calls.{IsQuiet, Rose}
 use Rattle.cell_store.specs.declared.faults.StoreFault.TheVariants as store
 use Rattle.program_edge.specs.declared.input.InputFault.TheVariants as input
 use Rattle.program_edge.specs.Rows.{Row}
 use Rattle.program_edge.specs.Inputs.{IsUnread, Offers, SourceFailed, GivesTooMuch}
 use Rattle.program_edge.proofs.CallerLemmas.{EndsInRow-at, EndsInRow-front, EndsInRow-rose, EndsInRow-only, EndsInRow-may, EndsInRow-done}
 use Rattle.program_edge.specs.Endings.{Ending, PrintsWhole, EndsInRow}
+use Rattle.freshness_routes.specs.Config.{IsConfig}
 use Rattle.bus_config.specs.declared.fault.ConfigFault.{ConfigFault}
 use Rattle.bus_config.specs.BusFile.{bus_of}
 use Rattle.bus_config.specs.Buses.{NamedBus}
@@ -21,9 +22,9 @@ use Rattle.bus_store_commands.specs.NodeStores.{StoreMade, StoreUnmade, FailedTo
 use Rattle.bus_store_commands.specs.BusWords.{asks_over_bus}
 use Rattle.bus_store_commands.specs.MakeRows.{MakeInputs, AsksMake, OpensNoDisk, OverDisk, ComesOfMake, no_form, no_node, no_room, unmade, make_row, IsMakeRow, make_usage, made_text, node_config}
 use Rattle.bus_store_commands.specs.MakeRows as rows
-use Rattle.bus_store_commands.specs.MakesUnitStore.{MakesUnitStore, OpenedQuiet, NoStoreFits, BlankFits}
+use Rattle.bus_store_commands.specs.MakesUnitStore.{MakesUnitStore, OpenedWell, NoStoreFits, StoreFits}
 use Rattle.bus_store_commands.proofs.CheckTells.{asks_or_not}
-use Rattle.bus_store_commands.proofs.MakeTells.{IsUnmadeStatus, unmade_status, unmade_at_9, unmade_at_10, rose_is_10, unmade_text_7, left_at_7, blank_refused, made_refused, unread_other, make_tells}
+use Rattle.bus_store_commands.proofs.MakeTells.{IsUnmadeStatus, unmade_status, unmade_at_9, unmade_at_10, rose_is_10, unmade_text_7, left_at_7, fit_refused, made_refused, unread_other, make_tells}
 
 not_unmade : (n : ℕ) (cause : MakeFault) (row : Row) → IsMakeRow cause row → ¬ IsUnmadeStatus n → row.status ≡ n → ⊥
 not_unmade n cause row is other same = other (subst IsUnmadeStatus same (unmade_status cause row is))
@@ -71,7 +72,7 @@ module _ (opens : List ℕ → DiskState → Type 0) (i : MakeInputs) (e : Endin
   at_0 row (no_node _ asks (other_nodes bus reads others) opened) is prints = absurd (omega (arith, is))
   at_0 row (no_room bus asks reads opened) is prints = absurd (omega (arith, is))
   at_0 row (rows.made bus disk after asks reads opened stands) is prints = (asks, (bus, disk, after, reads, opened, (stands, prints)))
-  at_0 row (unmade bus disk after cause _ asks reads opened un is_row) is prints = absurd (not_unmade 0 cause row is_row unlike_0 is)
+  at_0 row (unmade bus disk after cause _ asks reads good opened un is_row) is prints = absurd (not_unmade 0 cause row is_row unlike_0 is)
 
   at_2 : (row : Row) → ComesOfMake opens i row → row.status ≡ 2 → PrintsWhole e row.text
       → (asks_over_bus (codes "make") i.words ≡ false) × IsUnread i.bus × OpensNoDisk i × PrintsWhole e make_usage
@@ -83,7 +84,7 @@ module _ (opens : List ℕ → DiskState → Type 0) (i : MakeInputs) (e : Endin
   at_2 row (no_node _ asks (other_nodes bus reads others) opened) is prints = absurd (omega (arith, is))
   at_2 row (no_room bus asks reads opened) is prints = absurd (omega (arith, is))
   at_2 row (rows.made bus disk after asks reads opened stands) is prints = absurd (omega (arith, is))
-  at_2 row (unmade bus disk after cause _ asks reads opened un is_row) is prints = absurd (not_unmade 2 cause row is_row unlike_2 is)
+  at_2 row (unmade bus disk after cause _ asks reads good opened un is_row) is prints = absurd (not_unmade 2 cause row is_row unlike_2 is)
 
   at_3 : (row : Row) → ComesOfMake opens i row → row.status ≡ 3 → PrintsWhole e row.text
       → AsksMake i.words × OpensNoDisk i × ((row : Row) × LacksNodeBus i.bus row × (row.status ≡ 3) × PrintsWhole e row.text)
@@ -95,7 +96,7 @@ module _ (opens : List ℕ → DiskState → Type 0) (i : MakeInputs) (e : Endin
   at_3 row (no_node _ asks (other_nodes bus reads others) opened) is prints = (asks, opened, (row, other_nodes bus reads others, is, prints))
   at_3 row (no_room bus asks reads opened) is prints = absurd (omega (arith, is))
   at_3 row (rows.made bus disk after asks reads opened stands) is prints = absurd (omega (arith, is))
-  at_3 row (unmade bus disk after cause _ asks reads opened un is_row) is prints = absurd (not_unmade 3 cause row is_row unlike_3 is)
+  at_3 row (unmade bus disk after cause _ asks reads good opened un is_row) is prints = absurd (not_unmade 3 cause row is_row unlike_3 is)
 
   at_5 : (row : Row) → ComesOfMake opens i row → row.status ≡ 5 → PrintsWhole e row.text
       → SourceFailed i.bus × OpensNoDisk i × PrintsWhole e (codes "read fault\n")
@@ -107,7 +108,7 @@ module _ (opens : List ℕ → DiskState → Type 0) (i : MakeInputs) (e : Endin
   at_5 row (no_node _ asks (other_nodes bus reads others) opened) is prints = absurd (omega (arith, is))
   at_5 row (no_room bus asks reads opened) is prints = absurd (omega (arith, is))
   at_5 row (rows.made bus disk after asks reads opened stands) is prints = absurd (omega (arith, is))
-  at_5 row (unmade bus disk after cause _ asks reads opened un is_row) is prints = absurd (not_unmade 5 cause row is_row unlike_5 is)
+  at_5 row (unmade bus disk after cause _ asks reads good opened un is_row) is prints = absurd (not_unmade 5 cause row is_row unlike_5 is)
 
   at_8 : (row : Row) → ComesOfMake opens i row → row.status ≡ 8 → PrintsWhole e row.text
       → GivesTooMuch i.bus × OpensNoDisk i × PrintsWhole e (codes "input too long\n")
@@ -119,7 +120,7 @@ module _ (opens : List ℕ → DiskState → Type 0) (i : MakeInputs) (e : Endin
   at_8 row (no_node _ asks (other_nodes bus reads others) opened) is prints = absurd (omega (arith, is))
   at_8 row (no_room bus asks reads opened) is prints = absurd (omega (arith, is))
   at_8 row (rows.made bus disk after asks reads opened stands) is prints = absurd (omega (arith, is))
-  at_8 row (unmade bus disk after cause _ asks reads opened un is_row) is prints = absurd (not_unmade 8 cause row is_row unlike_8 is)
+  at_8 row (unmade bus disk after cause _ asks reads good opened un is_row) is prints = absurd (not_unmade 8 cause row is_row unlike_8 is)
 
   at_7 : (row : Row) → ComesOfMake opens i row → row.status ≡ 7 → PrintsWhole e row.text
       → PrintsWhole e [] × (OpensNoDisk i ⊎ OverDisk opens i (λ bus disk after. LeftAsItWas disk after))
@@ -131,14 +132,14 @@ module _ (opens : List ℕ → DiskState → Type 0) (i : MakeInputs) (e : Endin
   at_7 row (no_node _ asks (other_nodes bus reads others) opened) is prints = absurd (omega (arith, is))
   at_7 row (no_room bus asks reads opened) is prints = (prints, inl opened)
   at_7 row (rows.made bus disk after asks reads opened stands) is prints = absurd (omega (arith, is))
-  at_7 row (unmade bus disk after cause _ asks reads opened un is_row) is prints = (
+  at_7 row (unmade bus disk after cause _ asks reads good opened un is_row) is prints = (
     subst (PrintsWhole e) (unmade_text_7 cause row is_row is) prints,
     inr (asks, (bus, disk, after, reads, opened, left_at_7 bus.kind bus.version (node_config bus) disk after cause row un is_row is)),
   )
 
   at_9 : (row : Row) → ComesOfMake opens i row → row.status ≡ 9 → PrintsWhole e row.text
       → OverDisk opens i (λ bus disk after. (cause : MakeFault) × StoreUnmade bus.kind bus.version (node_config bus) disk after cause
-      × LeftAsItWas disk after × PrintsWhole e (make_row cause).text)
+      × LeftAsItWas disk after × ((make_row cause).status ≡ 9) × PrintsWhole e (make_row cause).text)
   at_9 row (no_form none unread opened) is prints = absurd (omega (arith, is))
   at_9 row (no_node _ asks (no_bus _ (no_file input.ReadFault lacks)) opened) is prints = absurd (omega (arith, is))
   at_9 row (no_node _ asks (no_bus _ (no_file input.TooLong lacks)) opened) is prints = absurd (omega (arith, is))
@@ -147,9 +148,9 @@ module _ (opens : List ℕ → DiskState → Type 0) (i : MakeInputs) (e : Endin
   at_9 row (no_node _ asks (other_nodes bus reads others) opened) is prints = absurd (omega (arith, is))
   at_9 row (no_room bus asks reads opened) is prints = absurd (omega (arith, is))
   at_9 row (rows.made bus disk after asks reads opened stands) is prints = absurd (omega (arith, is))
-  at_9 row (unmade bus disk after cause _ asks reads opened un is_row) is prints =
-      let (left, same) = unmade_at_9 bus.kind bus.version (node_config bus) disk after cause row un is_row is in
-      (asks, (bus, disk, after, reads, opened, (cause, un, left, subst (λ (r : Row). PrintsWhole e r.text) same prints)))
+  at_9 row (unmade bus disk after cause _ asks reads good opened un is_row) is prints =
+      let (left, nine, same) = unmade_at_9 bus.kind bus.version (node_config bus) disk after cause row un is_row is in
+      (asks, (bus, disk, after, reads, opened, (cause, un, left, nine, subst (λ (r : Row). PrintsWhole e r.text) same prints)))
 
   at_10 : (row : Row) → ComesOfMake opens i row → row.status ≡ 10 → PrintsWhole e row.text
       → OverDisk opens i (λ bus disk after. FailedToMake bus.kind bus.version (node_config bus) disk after × PrintsWhole e (codes "store: DiskFailed\n"))
@@ -161,7 +162,7 @@ module _ (opens : List ℕ → DiskState → Type 0) (i : MakeInputs) (e : Endin
   at_10 row (no_node _ asks (other_nodes bus reads others) opened) is prints = absurd (omega (arith, is))
   at_10 row (no_room bus asks reads opened) is prints = absurd (omega (arith, is))
   at_10 row (rows.made bus disk after asks reads opened stands) is prints = absurd (omega (arith, is))
-  at_10 row (unmade bus disk after cause _ asks reads opened un is_row) is prints =
+  at_10 row (unmade bus disk after cause _ asks reads good opened un is_row) is prints =
       let (failed, text) = unmade_at_10 bus.kind bus.version (node_config bus) disk after cause row un is_row is in
       (asks, (bus, disk, after, reads, opened, (failed, subst (PrintsWhole e) text prints)))
 
@@ -174,7 +175,7 @@ module _ (opens : List ℕ → DiskState → Type 0) (i : MakeInputs) (e : Endin
   never_6 row (no_node _ asks (other_nodes bus reads others) opened) is = omega (arith, is)
   never_6 row (no_room bus asks reads opened) is = omega (arith, is)
   never_6 row (rows.made bus disk after asks reads opened stands) is = omega (arith, is)
-  never_6 row (unmade bus disk after cause _ asks reads opened un is_row) is = not_unmade 6 cause row is_row unlike_6 is
+  never_6 row (unmade bus disk after cause _ asks reads good opened un is_row) is = not_unmade 6 cause row is_row unlike_6 is
 
   -- ---- which rows come
 
@@ -186,7 +187,7 @@ module _ (opens : List ℕ → DiskState → Type 0) (i : MakeInputs) (e : Endin
   only_2 none row (no_node _ asks lacks opened) = absurd (clash none asks)
   only_2 none row (no_room bus asks reads opened) = absurd (clash none asks)
   only_2 none row (rows.made bus disk after asks reads opened stands) = absurd (clash none asks)
-  only_2 none row (unmade bus disk after cause _ asks reads opened un is_row) = absurd (clash none asks)
+  only_2 none row (unmade bus disk after cause _ asks reads good opened un is_row) = absurd (clash none asks)
 
   only_config : (config : List ℕ) (err : ConfigFault) → AsksMake i.words → Offers i.bus config → bus_of config ≡ Err err
       → (row : Row) → ComesOfMake opens i row → (row.status ≡ 3) ⊎ (row.status ≡ 7)
@@ -196,7 +197,7 @@ module _ (opens : List ℕ → DiskState → Type 0) (i : MakeInputs) (e : Endin
   only_config config err asks offers is row (no_node _ also (other_nodes bus reads others) opened) = inl refl
   only_config config err asks offers is row (no_room bus also reads opened) = inr refl
   only_config config err asks offers is row (rows.made bus disk after also reads opened stands) = absurd (bus_or_fault i.bus bus config err reads.0 offers is)
-  only_config config err asks offers is row (unmade bus disk after cause _ also reads opened un is_row) =
+  only_config config err asks offers is row (unmade bus disk after cause _ also reads good opened un is_row) =
       absurd (bus_or_fault i.bus bus config err reads.0 offers is)
 
   one_and_more : (bus that : NamedBus) → ReadsNodeBus i.bus that → OffersBus i.bus bus → length bus.nodes ≢ 1 → ⊥
@@ -211,7 +212,7 @@ module _ (opens : List ℕ → DiskState → Type 0) (i : MakeInputs) (e : Endin
   only_nodes bus asks offers others row (no_node _ also (other_nodes that reads more) opened) = inl refl
   only_nodes bus asks offers others row (no_room that also reads opened) = inr refl
   only_nodes bus asks offers others row (rows.made that disk after also reads opened stands) = absurd (one_and_more bus that reads offers others)
-  only_nodes bus asks offers others row (unmade that disk after cause _ also reads opened un is_row) = absurd (one_and_more bus that reads offers others)
+  only_nodes bus asks offers others row (unmade that disk after cause _ also reads good opened un is_row) = absurd (one_and_more bus that reads offers others)
 
   -- ---- the disk that was opened
 
@@ -238,12 +239,16 @@ module _ (opens : List ℕ → DiskState → Type 0) (i : MakeInputs) (e : Endin
     | inr (inr seven) ↦ inr seven
   ]
 
-  failed_quiet : (disk after : DiskState) (bus : NamedBus) → FailedToMake bus.kind bus.version (node_config bus) disk after
-      → IsQuiet disk → ⊥
-  failed_quiet disk after bus failed quiet = failed.1 quiet
+  -- a disk that was quiet, or whose count of faults didn't rise, didn't fail
+  did_not_fail : (disk that after : DiskState) (bus : NamedBus) → disk ≡ that → i.left ≡ Some after
+      → FailedToMake bus.kind bus.version (node_config bus) that after
+      → IsQuiet disk ⊎ ((end : DiskState) → i.left ≡ Some end → ¬ Rose disk.faults end.faults) → ⊥
+  did_not_fail disk that after bus same left failed (inl quiet) = failed.1 (subst IsQuiet same quiet)
+  did_not_fail disk that after bus same left failed (inr calm) =
+      calm after left (subst (λ (d : DiskState). Rose d.faults after.faults) (sym same) failed.0)
 
-  -- on a quiet disk on which no store fits none is made
-  refused_9 : (bus : NamedBus) → AsksMake i.words → OffersNodeBus i.bus bus → OpenedQuiet i (NoStoreFits bus)
+  -- on such a disk, on which no store fits, none is made
+  refused_9 : (bus : NamedBus) → AsksMake i.words → OffersNodeBus i.bus bus → OpenedWell i (NoStoreFits bus)
       → (row : Row) → ComesOfMake opens i row → (row.status ≡ 9) ⊎ (row.status ≡ 7)
   refused_9 bus asks offers o row (no_form none unread opened) = absurd (clash none asks)
   refused_9 bus asks offers o row (no_node _ also lacks opened) = absurd (no_disk o.disk o.is opened)
@@ -254,11 +259,11 @@ module _ (opens : List ℕ → DiskState → Type 0) (i : MakeInputs) (e : Endin
       absurd (told_made that disk after o.told stands (ap (λ (d : DiskState). d.told) (sym disk_is) ∙ o.tells) reads
       (subst (λ (b : NamedBus). NoStoreFits b disk.size o.told.bytes) (sym bus_is)
       (subst (λ (d : DiskState). NoStoreFits bus d.size o.told.bytes) disk_is o.has)))
-  refused_9 bus asks offers o row (unmade that disk after cause _ also reads opened un is_row) =
+  refused_9 bus asks offers o row (unmade that disk after cause _ also reads good opened un is_row) =
       let disk_is = one_disk o.disk disk o.is opened.opened in
       at_quiet that disk after cause row un is_row (λ ten.
-      failed_quiet disk after that (unmade_at_10 that.kind that.version (node_config that) disk after cause row un is_row ten).0
-      (subst (λ (d : DiskState). IsQuiet d) disk_is o.quiet))
+      did_not_fail o.disk disk after that disk_is opened.left
+      (unmade_at_10 that.kind that.version (node_config that) disk after cause row un is_row ten).0 o.did)
 
   -- the disk's count of faults rose
   rose_10 : (disk after : DiskState) → i.opened ≡ Some disk → i.left ≡ Some after → disk.faults < after.faults
@@ -270,41 +275,44 @@ module _ (opens : List ℕ → DiskState → Type 0) (i : MakeInputs) (e : Endin
       let before_is = one_disk disk that first opened.opened in
       let after_is = last_disk after end last opened.left in
       absurd (omega (arith, rose, stands.faults, ap (λ (d : DiskState). d.faults) before_is, ap (λ (d : DiskState). d.faults) after_is))
-  rose_10 disk after first last rose row (unmade bus that end cause _ also reads opened un is_row) =
+  rose_10 disk after first last rose row (unmade bus that end cause _ also reads good opened un is_row) =
       let before_is = one_disk disk that first opened.opened in
       let after_is = last_disk after end last opened.left in
       rose_is_10 bus.kind bus.version (node_config bus) that end cause row un is_row
       (let more : that.faults < end.faults = omega (arith, rose, ap (λ (d : DiskState). d.faults) before_is, ap (λ (d : DiskState). d.faults) after_is) in more)
 
-  blank_7 : (bus : NamedBus) (disk after : DiskState) (cause : MakeFault) (row : Row) → StoreUnmade bus.kind bus.version (node_config bus) disk after cause
-      → IsMakeRow cause row → IsQuiet disk → (t : Told) → disk.told ≡ Some t → BlankFits bus disk.size t.bytes → (row.status ≡ 0) ⊎ (row.status ≡ 7)
-  blank_7 bus disk after (fault.Store store.DiskFailed) row un is quiet t tells (room, blank) = absurd (un.1 quiet)
-  blank_7 bus disk after (fault.Store store.NotFormatted) row un is quiet t tells (room, blank) =
-      absurd (blank_refused bus.kind bus.version (node_config bus) t.bytes (fault.Store store.NotFormatted) blank (un.1 t tells))
-  blank_7 bus disk after (fault.Store (store.Damaged place)) row un is quiet t tells (room, blank) =
-      absurd (blank_refused bus.kind bus.version (node_config bus) t.bytes (fault.Store (store.Damaged place)) blank (un.1 t tells))
-  blank_7 bus disk after (fault.Store store.TooSmall) row un is quiet t tells (room, blank) = absurd (omega (arith, room, un.0))
-  blank_7 bus disk after (fault.Store store.Memory) row un (inl is) quiet t tells (room, blank) = inr (ap (λ (r : Row). r.status) is)
-  blank_7 bus disk after (fault.Store store.Memory) row un (inr (number, is)) quiet t tells (room, blank) = absurd number
-  blank_7 bus disk after (fault.BadSlot slot) row un is quiet t tells (room, blank) =
-      absurd (blank_refused bus.kind bus.version (node_config bus) t.bytes (fault.BadSlot slot) blank (un.1 t tells))
-  blank_7 bus disk after (fault.BadBound place) row un is quiet t tells (room, blank) =
-      absurd (blank_refused bus.kind bus.version (node_config bus) t.bytes (fault.BadBound place) blank (un.1 t tells))
+  fits_7 : (bus : NamedBus) (disk after : DiskState) (cause : MakeFault) (row : Row) → IsConfig (node_config bus)
+      → StoreUnmade bus.kind bus.version (node_config bus) disk after cause → IsMakeRow cause row
+      → ¬ FailedToMake bus.kind bus.version (node_config bus) disk after
+      → (t : Told) → disk.told ≡ Some t → StoreFits bus disk.size t.bytes → (row.status ≡ 0) ⊎ (row.status ≡ 7)
+  fits_7 bus disk after (fault.Store store.DiskFailed) row good un is well t tells (room, fit) = absurd (well un)
+  fits_7 bus disk after (fault.Store store.NotFormatted) row good un is well t tells (room, fit) =
+      absurd (fit_refused bus.kind bus.version (node_config bus) t.bytes (fault.Store store.NotFormatted) good fit (un.1 t tells))
+  fits_7 bus disk after (fault.Store (store.Damaged place)) row good un is well t tells (room, fit) =
+      absurd (fit_refused bus.kind bus.version (node_config bus) t.bytes (fault.Store (store.Damaged place)) good fit (un.1 t tells))
+  fits_7 bus disk after (fault.Store store.TooSmall) row good un is well t tells (room, fit) = absurd (omega (arith, room, un.0))
+  fits_7 bus disk after (fault.Store store.Memory) row good un (inl is) well t tells (room, fit) = inr (ap (λ (r : Row). r.status) is)
+  fits_7 bus disk after (fault.Store store.Memory) row good un (inr (number, is)) well t tells (room, fit) = absurd number
+  fits_7 bus disk after (fault.BadSlot slot) row good un is well t tells (room, fit) =
+      absurd (fit_refused bus.kind bus.version (node_config bus) t.bytes (fault.BadSlot slot) good fit (un.1 t tells))
+  fits_7 bus disk after (fault.BadBound place) row good un is well t tells (room, fit) =
+      absurd (fit_refused bus.kind bus.version (node_config bus) t.bytes (fault.BadBound place) good fit (un.1 t tells))
 
-  -- a quiet blank disk gets its store, or memory is out
-  blank_0 : (bus : NamedBus) → AsksMake i.words → OffersNodeBus i.bus bus → OpenedQuiet i (BlankFits bus)
+  -- such a disk that is blank gets its store, and one that has it is left, or memory is out
+  fits_0 : (bus : NamedBus) → AsksMake i.words → OffersNodeBus i.bus bus → OpenedWell i (StoreFits bus)
       → (row : Row) → ComesOfMake opens i row → (row.status ≡ 0) ⊎ (row.status ≡ 7)
-  blank_0 bus asks offers o row (no_form none unread opened) = absurd (clash none asks)
-  blank_0 bus asks offers o row (no_node _ also lacks opened) = absurd (no_disk o.disk o.is opened)
-  blank_0 bus asks offers o row (no_room that also reads opened) = inr refl
-  blank_0 bus asks offers o row (rows.made that disk after also reads opened stands) = inl refl
-  blank_0 bus asks offers o row (unmade that disk after cause _ also reads opened un is_row) =
+  fits_0 bus asks offers o row (no_form none unread opened) = absurd (clash none asks)
+  fits_0 bus asks offers o row (no_node _ also lacks opened) = absurd (no_disk o.disk o.is opened)
+  fits_0 bus asks offers o row (no_room that also reads opened) = inr refl
+  fits_0 bus asks offers o row (rows.made that disk after also reads opened stands) = inl refl
+  fits_0 bus asks offers o row (unmade that disk after cause _ also reads good opened un is_row) =
       let bus_is = same_bus i.bus that bus reads.0 offers.0 in
       let disk_is = one_disk o.disk disk o.is opened.opened in
-      blank_7 that disk after cause row un is_row (subst (λ (d : DiskState). IsQuiet d) disk_is o.quiet) o.told
+      fits_7 that disk after cause row good un is_row
+      (λ failed. did_not_fail o.disk disk after that disk_is opened.left failed o.did) o.told
       (ap (λ (d : DiskState). d.told) (sym disk_is) ∙ o.tells)
-      (subst (λ (b : NamedBus). BlankFits b disk.size o.told.bytes) (sym bus_is)
-      (subst (λ (d : DiskState). BlankFits bus d.size o.told.bytes) disk_is o.has))
+      (subst (λ (b : NamedBus). StoreFits b disk.size o.told.bytes) (sym bus_is)
+      (subst (λ (d : DiskState). StoreFits bus d.size o.told.bytes) disk_is o.has))
 
   pub makes_row : EndsInRow (ComesOfMake opens i) e → MakesUnitStore opens i e
   makes_row ends = record {
@@ -326,5 +334,5 @@ module _ (opens : List ℕ → DiskState → Type 0) (i : MakeInputs) (e : Endin
     store_refused_only = λ bus asks offers o. EndsInRow-may ends 9 (refused_9 bus asks offers o);
     disk_failed = EndsInRow-at ends 10 refl at_10;
     disk_failed_only = λ disk after first last rose. EndsInRow-only ends 10 (rose_10 disk after first last rose);
-    complete = λ bus asks offers o well. EndsInRow-done ends well 0 (blank_0 bus asks offers o);
+    complete = λ bus asks offers o well. EndsInRow-done ends well 0 (fits_0 bus asks offers o);
   }

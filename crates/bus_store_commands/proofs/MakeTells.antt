@@ -21,9 +21,10 @@ use Rattle.bus_programs.proofs.CallerLemmas.{RowTells, calm_unread, calm_whole}
 use Rattle.bus_world.specs.TakingUp.{cells_in}
 use Rattle.bus_store_commands.specs.declared.making.MakeFault.{MakeFault}
 use Rattle.bus_store_commands.specs.declared.making.MakeFault.TheVariants as fault
-use Rattle.bus_store_commands.specs.NodeStores.{MadeOrFound, made, stood, StoreUnmade, FailedToMake, LeftAsItWas, BytesRefused}
+use Rattle.bus_store_commands.specs.NodeStores.{MadeOrFound, made, stood, StoreUnmade, FailedToMake, LeftAsItWas, BytesRefused, IsUnused}
 use Rattle.bus_store_commands.specs.MakeRows.{MakeInputs, make_row, IsMakeRow, ComesOfMake, no_form, no_node, no_room, unmade}
 use Rattle.bus_store_commands.specs.MakeRows as rows
+use Rattle.bus_store_commands.specs.MakesUnitStore.{BlankOrWhole}
 use Rattle.bus_store_commands.proofs.CheckTells.{lacks_tells}
 
 -- ---- the row of a store that isn't made
@@ -57,8 +58,10 @@ module _ (kind : Kind) (version : Version) (config : Config) (before after : Dis
 
   -- 9: nothing was written
   pub unmade_at_9 : (cause : MakeFault) (row : Row) → StoreUnmade kind version config before after cause → IsMakeRow cause row → row.status ≡ 9
-      → LeftAsItWas before after × (row ≡ make_row cause)
-  unmade_at_9 cause row un (inl is) nine = (left_at_9 cause un (sym (ap (λ (r : Row). r.status) is) ∙ nine), is)
+      → LeftAsItWas before after × ((make_row cause).status ≡ 9) × (row ≡ make_row cause)
+  unmade_at_9 cause row un (inl is) nine =
+      let same = sym (ap (λ (r : Row). r.status) is) ∙ nine in
+      (left_at_9 cause un same, same, is)
   unmade_at_9 cause row un (inr (number, is)) nine = absurd (omega (arith, nine, ap (λ (r : Row). r.status) is))
 
   failed_at_10 : (cause : MakeFault) → StoreUnmade kind version config before after cause → (make_row cause).status ≡ 10
@@ -128,36 +131,46 @@ module _ (kind : Kind) (version : Version) (config : Config) (x : List ℕ) wher
   blank_standing : IsFound kind version (cells_in config) x Blank → IsFound kind version (cells_in config) x Standing → ⊥
   blank_standing first second = two_found Blank Standing first second (λ same. cc same)
 
-  -- blank bytes aren't refused
-  pub blank_refused : (cause : MakeFault) → IsFound kind version (cells_in config) x Blank → BytesRefused kind version config x cause → ⊥
+  -- zeros aren't refused
+  pub blank_refused : (cause : MakeFault) → IsUnused kind version config x → BytesRefused kind version config x cause → ⊥
   blank_refused (fault.Store store.DiskFailed) blank refused = refused
-  blank_refused (fault.Store store.NotFormatted) blank (inl foreign) = two_found Blank Foreign blank foreign (λ same. cc same)
-  blank_refused (fault.Store store.NotFormatted) blank (inr older) = two_found Blank Older blank older (λ same. cc same)
-  blank_refused (fault.Store (store.Damaged place)) blank refused = blank_standing blank refused.0
+  blank_refused (fault.Store store.NotFormatted) blank (inl foreign) = two_found Blank Foreign blank.0 foreign (λ same. cc same)
+  blank_refused (fault.Store store.NotFormatted) blank (inr (inl older)) = two_found Blank Older blank.0 older (λ same. cc same)
+  blank_refused (fault.Store store.NotFormatted) blank (inr (inr used)) = used.1 blank.1
+  blank_refused (fault.Store (store.Damaged place)) blank refused = blank_standing blank.0 refused.0
   blank_refused (fault.Store store.TooSmall) blank refused = refused
   blank_refused (fault.Store store.Memory) blank refused = refused
-  blank_refused (fault.BadSlot slot) blank refused = blank_standing blank refused.0
-  blank_refused (fault.BadBound place) blank refused = blank_standing blank refused.0
+  blank_refused (fault.BadSlot slot) blank refused = blank_standing blank.0 refused.0
+  blank_refused (fault.BadBound place) blank refused = blank_standing blank.0 refused.0
 
 -- nor are those of a node's store that stands
+pub fit_refused : (kind : Kind) (version : Version) (config : Config) (x : List ℕ) (cause : MakeFault) → IsConfig config
+    → BlankOrWhole kind version config x → BytesRefused kind version config x cause → ⊥
+fit_refused kind version config x cause good (inl blank) refused = blank_refused kind version config x cause blank refused
+fit_refused kind version config x (fault.Store store.DiskFailed) good (inr (kept, standing, is, stands)) refused = refused
+fit_refused kind version config x (fault.Store store.NotFormatted) good (inr (kept, standing, is, stands)) (inl foreign) =
+    two_found kind version config x Standing Foreign standing foreign (λ clash. cc clash)
+fit_refused kind version config x (fault.Store store.NotFormatted) good (inr (kept, standing, is, stands)) (inr (inl older)) =
+    two_found kind version config x Standing Older standing older (λ clash. cc clash)
+fit_refused kind version config x (fault.Store store.NotFormatted) good (inr (kept, standing, is, stands)) (inr (inr used)) =
+    two_found kind version config x Standing Blank standing used.0 (λ clash. cc clash)
+fit_refused kind version config x (fault.Store (store.Damaged place)) good (inr (kept, standing, is, stands)) refused =
+    stands-whole (layout kind version) x (CellsOf config kept) (cells_in config) place stands (length-CellsOf config kept is) refused.1
+fit_refused kind version config x (fault.Store store.TooSmall) good (inr (kept, standing, is, stands)) refused = refused
+fit_refused kind version config x (fault.Store store.Memory) good (inr (kept, standing, is, stands)) refused = refused
+fit_refused kind version config x (fault.BadSlot slot) good (inr (kept, standing, is, stands)) refused =
+    no_bad_slot config kept slot is (subst (λ (cs : List (List ℕ)). FirstBadSlot cs slot)
+    (stands_once (layout kind version) x refused.1.cells (CellsOf config kept) refused.1.stands stands) refused.1.such)
+fit_refused kind version config x (fault.BadBound place) good (inr (kept, standing, is, stands)) refused =
+    no_bad_bound config kept place good is (subst (λ (cs : List (List ℕ)). SlotsButNoBound config.routes cs place)
+    (stands_once (layout kind version) x refused.1.cells (CellsOf config kept) refused.1.stands stands) refused.1.such)
+
+-- bytes of which a store was made, or in which it was found, are so
 pub made_refused : (kind : Kind) (version : Version) (config : Config) (t : Told) (new : Option Told) (cause : MakeFault) → IsConfig config
     → MadeOrFound kind version config t new → BytesRefused kind version config t.bytes cause → ⊥
-made_refused kind version config t new cause good (made blank fresh) refused = blank_refused kind version config t.bytes cause blank refused
-made_refused kind version config t new (fault.Store store.DiskFailed) good (stood kept standing is stands same) refused = refused
-made_refused kind version config t new (fault.Store store.NotFormatted) good (stood kept standing is stands same) (inl foreign) =
-    two_found kind version config t.bytes Standing Foreign standing foreign (λ clash. cc clash)
-made_refused kind version config t new (fault.Store store.NotFormatted) good (stood kept standing is stands same) (inr older) =
-    two_found kind version config t.bytes Standing Older standing older (λ clash. cc clash)
-made_refused kind version config t new (fault.Store (store.Damaged place)) good (stood kept standing is stands same) refused =
-    stands-whole (layout kind version) t.bytes (CellsOf config kept) (cells_in config) place stands (length-CellsOf config kept is) refused.1
-made_refused kind version config t new (fault.Store store.TooSmall) good (stood kept standing is stands same) refused = refused
-made_refused kind version config t new (fault.Store store.Memory) good (stood kept standing is stands same) refused = refused
-made_refused kind version config t new (fault.BadSlot slot) good (stood kept standing is stands same) refused =
-    no_bad_slot config kept slot is (subst (λ (cs : List (List ℕ)). FirstBadSlot cs slot)
-    (stands_once (layout kind version) t.bytes refused.1.cells (CellsOf config kept) refused.1.stands stands) refused.1.such)
-made_refused kind version config t new (fault.BadBound place) good (stood kept standing is stands same) refused =
-    no_bad_bound config kept place good is (subst (λ (cs : List (List ℕ)). SlotsButNoBound config.routes cs place)
-    (stands_once (layout kind version) t.bytes refused.1.cells (CellsOf config kept) refused.1.stands stands) refused.1.such)
+made_refused kind version config t new cause good (made blank fresh) refused = fit_refused kind version config t.bytes cause good (inl blank) refused
+made_refused kind version config t new cause good (stood kept standing is stands same) refused =
+    fit_refused kind version config t.bytes cause good (inr (kept, standing, is, stands)) refused
 
 -- ---- the bus file's source
 
@@ -171,5 +184,5 @@ make_tells opens i row (no_node _ asks lacks opened) = lacks_tells i.bus (unread
 make_tells opens i row (no_room bus asks ((read, whole, is), one) opened) = inr (inr (calm_whole i.bus read whole, calm_unread (unread_other i.bus) refl))
 make_tells opens i row (rows.made bus disk after asks ((read, whole, is), one) opened stands) =
     inr (inr (calm_whole i.bus read whole, calm_unread (unread_other i.bus) refl))
-make_tells opens i row (unmade bus disk after cause _ asks ((read, whole, is), one) opened un is_row) =
+make_tells opens i row (unmade bus disk after cause _ asks ((read, whole, is), one) good opened un is_row) =
     inr (inr (calm_whole i.bus read whole, calm_unread (unread_other i.bus) refl))

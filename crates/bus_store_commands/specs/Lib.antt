@@ -5,6 +5,7 @@ pub mod ChecksOverBus
 pub mod GrowRows
 pub mod GrowsOverBus
 pub mod NodeStores
+pub mod CutMakes
 pub mod MakeRows
 pub mod MakeSteps
 pub mod MakesUnitStore

@@ -8,7 +8,7 @@ use Rattle.text_lines.specs.Texts.{line}
 use Rattle.text_lines.specs.Written.{written}
 use Rattle.program_edge.specs.Rows.{Row, row_of, memory_row}
 use Rattle.program_edge.specs.Inputs.{Reading, IsUnread}
-use Rattle.freshness_routes.specs.Config.{Config}
+use Rattle.freshness_routes.specs.Config.{Config, IsConfig}
 use Rattle.bus_config.specs.Buses.{NamedBus}
 use Rattle.bus_script.specs.EventForms.{node_line_at}
 use Rattle.bus_world.specs.TakingUp.{cells_in}
@@ -103,6 +103,6 @@ pub data ComesOfMake (opens : List ℕ → DiskState → Type 0) (i : MakeInputs
       → OpensStoreDisk opens i disk after → StoreMade bus.kind bus.version (node_config bus) disk after
       → ComesOfMake opens i (row_of 0 (made_text bus))
   unmade : (bus : NamedBus) (disk after : DiskState) (cause : MakeFault) (row : Row) → AsksMake i.words
-      → ReadsNodeBus i.bus bus → OpensStoreDisk opens i disk after
+      → ReadsNodeBus i.bus bus → IsConfig (node_config bus) → OpensStoreDisk opens i disk after
       → StoreUnmade bus.kind bus.version (node_config bus) disk after cause → IsMakeRow cause row
       → ComesOfMake opens i row

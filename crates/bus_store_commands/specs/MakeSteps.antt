@@ -4,6 +4,7 @@ use Rattle.cut_disk.specs.State.{DiskState}
 use Rattle.program_edge.specs.Rows.{Row, row_of, memory_row}
 use Rattle.program_edge.specs.Inputs.{Reading, IsUnread}
 use Rattle.program_edge.specs.Endings.{Ending, EndsInRow}
+use Rattle.freshness_routes.specs.Config.{IsConfig}
 use Rattle.bus_config.specs.Buses.{NamedBus}
 use Rattle.bus_store_commands.specs.declared.make.MakeJob.{MakeJob}
 use Rattle.bus_store_commands.specs.declared.making.MakeFault.{MakeFault}
@@ -28,8 +29,9 @@ PreparesMake words bus (Err row) = LacksMakeJob words bus row
 pub data ComesOverDisk (bus : NamedBus) (disk after : DiskState) : Row → Type 0 where
   of_made : StoreMade bus.kind bus.version (node_config bus) disk after
       → ComesOverDisk bus disk after (row_of 0 (made_text bus))
-  of_unmade : (cause : MakeFault) (row : Row) → StoreUnmade bus.kind bus.version (node_config bus) disk after cause
-      → IsMakeRow cause row → ComesOverDisk bus disk after row
+  of_unmade : (cause : MakeFault) (row : Row) → IsConfig (node_config bus)
+      → StoreUnmade bus.kind bus.version (node_config bus) disk after cause → IsMakeRow cause row
+      → ComesOverDisk bus disk after row
 
 -- how the second phase ends: there was no memory for the disk, and none was opened; or the one disk that the argument
 -- opens, once, was handed back, with the row that comes of it

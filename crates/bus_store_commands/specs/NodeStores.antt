@@ -1,10 +1,11 @@
--- The store of a unit whose engine is a node of a bus: how it is made on a blank disk, or why it isn't (SHE
+-- The store of a unit whose engine is a node of a bus: how it is made on an unused disk, or why it isn't (SHE
 -- specification, key memory; the cells of bounds are for AUTOSAR SecOC's freshness)
-use Rattle.std.specs.Prelude.{◌≡◌, ◌⊎◌, ℕ, ◌<◌, ◌≤◌, Option, Some, List}
+use Rattle.std.specs.Prelude.{◌≡◌, ◌⊎◌, ℕ, ◌<◌, ◌≤◌, Option, Some, List, length, replicate}
 use Rattle.cut_disk.specs.State.{DiskState, Told}
 use Rattle.cut_disk.specs.Calls.{Rose, IsQuiet}
 use Rattle.cell_store.specs.declared.kinds.Kind.{Kind}
 use Rattle.cell_store.specs.declared.kinds.Version.{Version}
+use Rattle.cell_store.specs.declared.faults.StoreFault.{StoreFault}
 use Rattle.cell_store.specs.declared.faults.StoreFault.TheVariants as store
 use Rattle.cell_store.specs.Store.{Stands, FirstDamaged, store_size}
 use Rattle.cell_store.specs.Formats.{FreshOn, LeavesUnformed}
@@ -22,10 +23,18 @@ use Rattle.bus_world.specs.Opening.{StandsAs}
 use Rattle.bus_store_commands.specs.declared.making.MakeFault.{MakeFault}
 use Rattle.bus_store_commands.specs.declared.making.MakeFault.TheVariants as fault
 
--- Told bytes were blank, and have a fresh store of a new node's cells now, none of them loose: fourteen empty slots,
+-- all bytes are zeros
+abbrev pub AllZeros : List ℕ → Type 0
+AllZeros x = x ≡ replicate (length x) 0
+
+-- nothing was ever written here: the headers are blank, and so is all else
+abbrev pub IsUnused : Kind → Version → Config → List ℕ → Type 0
+IsUnused kind version config x = IsFound kind version (cells_in config) x found.Blank × AllZeros x
+
+-- Told bytes were unused, and have a fresh store of a new node's cells now, none of them loose: fourteen empty slots,
 -- and each route's start as its bound. Or the node's store stood there whole, and they are as they were.
 pub data MadeOrFound (kind : Kind) (version : Version) (config : Config) (t : Told) (new : Option Told) : Type 0 where
-  made : IsFound kind version (cells_in config) t.bytes found.Blank
+  made : IsUnused kind version config t.bytes
       → FreshOn (layout kind version) (new_cells config) t new → MadeOrFound kind version config t new
   stood : (kept : Kept) → IsFound kind version (cells_in config) t.bytes found.Standing → IsKept config kept
       → Stands (layout kind version) t.bytes (CellsOf config kept) → new ≡ Some t
@@ -44,11 +53,13 @@ StandsWith kind version config x P =
     IsFound kind version (cells_in config) x found.Standing × StandsAs (layout kind version) (cells_in config) x P
 
 -- Why bytes are refused. Another store stands there, also the node's in version 1 for one of version 2, or anything
--- else. Or the node's store does, and a place is damaged, or a cell holds nothing that it is to hold: the first is
--- named.
+-- else, or the headers are blank and a byte isn't: cells may stand there whose header is damaged. Or the node's store
+-- does, and a place is damaged, or a cell holds nothing that it is to hold: the first is named.
 abbrev pub BytesRefused : Kind → Version → Config → List ℕ → MakeFault → Type 0
 BytesRefused kind version config x (fault.Store store.NotFormatted) =
-    IsFound kind version (cells_in config) x found.Foreign ⊎ IsFound kind version (cells_in config) x found.Older
+    IsFound kind version (cells_in config) x found.Foreign
+    ⊎ (IsFound kind version (cells_in config) x found.Older
+    ⊎ (IsFound kind version (cells_in config) x found.Blank × (¬ AllZeros x)))
 BytesRefused kind version config x (fault.Store (store.Damaged place)) =
     IsFound kind version (cells_in config) x found.Standing
     × FirstDamaged (layout kind version) x (cells_in config) place
@@ -62,12 +73,12 @@ BytesRefused kind version config x fault = ⊥
 abbrev pub LeftAsItWas : DiskState → DiskState → Type 0
 LeftAsItWas before after = (after.told ≡ before.told) × (after.faults ≡ before.faults)
 
--- The disk failed, and wasn't quiet. Its bytes are as they were; or they were blank, and each image is as a failed
+-- The disk failed, and wasn't quiet. Its bytes are as they were; or they were unused, and each image is as a failed
 -- format may leave it.
 abbrev pub FailedToMake : Kind → Version → Config → DiskState → DiskState → Type 0
 FailedToMake kind version config before after = Rose before.faults after.faults × (¬ IsQuiet before)
     × ((after.told ≡ before.told)
-    ⊎ (((t : Told) → before.told ≡ Some t → IsFound kind version (cells_in config) t.bytes found.Blank)
+    ⊎ (((t : Told) → before.told ≡ Some t → IsUnused kind version config t.bytes)
     × LeavesUnformed (layout kind version) (new_cells config) before.told after.told))
 
 -- why no store is made, and what that leaves of the disk
@@ -85,3 +96,10 @@ abbrev pub fault_of_cells : AttachFault → MakeFault
 fault_of_cells (cells.BadSlot slot) = fault.BadSlot slot
 fault_of_cells (cells.BadBound place) = fault.BadBound place
 fault_of_cells cells.Memory = fault.Store store.Memory
+
+-- the bytes weren't read: there was no memory, or the disk failed
+abbrev pub ZerosUnread : DiskState → DiskState → StoreFault → Type 0
+ZerosUnread before after store.Memory = LeftAsItWas before after
+ZerosUnread before after store.DiskFailed =
+    Rose before.faults after.faults × (¬ IsQuiet before) × (after.told ≡ before.told)
+ZerosUnread before after fault = ⊥

@@ -25,7 +25,7 @@ use std::alloc::{AllocError, Global};
 
 const USAGE: &str = "usage: station slots make FILE BUS\n";
 
-/// Makes the store of the node of BUS on the disk that FILE opens, if that is blank. It gives the status that the
+/// Makes the store of the node of BUS on the disk that FILE opens, if its bytes are zeros. It gives the status that the
 /// program ends with, the source of the bus file and the disk, as they were left. `-` names the input as BUS, which is
 /// taken then. BUS is read whole before the disk is opened, so that one that is refused makes no file.
 ///
@@ -150,24 +150,34 @@ fn make_over<D: Disk, K: Sink>(alloc: Global, disk: D, job: &MakeJob, sink: &mut
     match make_store(alloc, bus.kind(), bus.version(), node_config(bus), disk) {
         Ok(disk) => (tell(sink, job.text.as_slice(), DONE), disk),
         Err(unmade) => {
-            let refusal = make_refusal(alloc, &unmade.fault);
+            let refusal = make_refusal(alloc, unmade.fault);
             (tell_refusal(sink, &refusal), unmade.disk)
         }
     }
 }
 
 /// The refusal of a store that isn't made.
-fn make_refusal(alloc: Global, fault: &MakeFault) -> Refusal
-    ensures { IsMakeRow fault.now result }
+fn make_refusal(alloc: Global, fault: MakeFault) -> Refusal
+    ensures { IsMakeRow fault result }
 {
     match fault {
-        MakeFault::Store(StoreFault::DiskFailed) => Refusal::fixed(10, "store: DiskFailed\n"),
-        MakeFault::Store(fault) => store_refusal(alloc, *fault),
+        MakeFault::Store(fault) => store_fault_refusal(alloc, fault),
         MakeFault::BadSlot(slot) => {
             let number = slot.number();
             made(format!(in alloc; "store: BadSlot {number}\n"))
         }
         MakeFault::BadBound(cell) => made(format!(in alloc; "store: BadBound {cell}\n")),
+    }
+}
+
+/// The refusal of a fault of the store: 10 if the disk failed, which was asked for a change, and else as `check FILE`
+/// tells it.
+fn store_fault_refusal(alloc: Global, fault: StoreFault) -> Refusal
+    ensures { IsMakeRow (MakeFault.Store fault) result }
+{
+    match fault {
+        StoreFault::DiskFailed => Refusal::fixed(10, "store: DiskFailed\n"),
+        _ => store_refusal(alloc, fault),
     }
 }
 

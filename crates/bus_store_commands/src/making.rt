@@ -1,12 +1,14 @@
-//! A node's store on a disk: made if the disk is blank, and found if it stands there.
-ghost use Rattle.std.specs.Prelude.{◌≡◌, ◌≤◌, ◌+◌, length, Some, IfOk, IfErr};
+//! A node's store on a disk: made if the disk is unused, and found if it stands there.
+ghost use Rattle.std.specs.Prelude.{◌≡◌, ◌↔◌, ◌≤◌, ◌+◌, IsTrue, length, replicate, Some, IfOk, IfErr, OnOk};
 ghost use Rattle.any_cells.specs.Either.{layout};
 ghost use Rattle.any_cells.specs.Looking.{IsFound};
 ghost use Rattle.any_cells.specs.declared.looking.Found.TheVariants.{Blank, Standing};
 ghost use Rattle.cell_store.specs.Store.{store_size};
 ghost use Rattle.cut_disk.specs.State.{Told};
+ghost use Rattle.cut_disk.specs.Calls.{AsBefore};
 ghost use Rattle.freshness_routes.specs.Config.{IsConfig};
 ghost use Rattle.bus_store_commands.specs.NodeStores.{StoreMade, StoreUnmade, fault_of_cells};
+ghost use Rattle.bus_store_commands.specs.NodeStores.{AllZeros, IsUnused, ZerosUnread};
 
 use any_cells::{AnyCells, Found, look, store_size};
 use cell_store::{Cells, Kind, StoreFault, Version};
@@ -37,12 +39,13 @@ pub struct Unmade<D> {
     pub fault: MakeFault,
 }
 
-/// Makes the store of a node with this configuration on the disk, of this kind and version, if the disk is blank: with
-/// the cells of a new node, as the node's first start would. The node's store that stands there whole is only read, and
-/// so is anything else, which is refused.
+/// Makes the store of a node with this configuration on the disk, of this kind and version, if all bytes of the disk
+/// are zeros: with the cells of a new node, as the node's first start would. The node's store that stands there whole
+/// is only read, and so is anything else, which is refused.
 ///
-/// Errors, in this order: `TooSmall`; `DiskFailed` of the look; `NotFormatted`; `DiskFailed` of the format; or of the
-/// store that stands, `Memory`, `DiskFailed`, `Damaged`, `BadSlot` and `BadBound`.
+/// Errors, in this order: `TooSmall`; `DiskFailed` of the look; `NotFormatted`; of blank headers `Memory`,
+/// `DiskFailed` of the bytes, `NotFormatted` if one isn't zero, and `DiskFailed` of the format; of the store that
+/// stands, `Memory`, `DiskFailed`, `Damaged`, `BadSlot` and `BadBound`.
 pub fn make_store<D: Disk>(
     alloc: Global,
     kind: Kind,
@@ -83,7 +86,7 @@ fn make_in_room<D: Disk>(
     ensures refused { IfErr result (λ u. StoreUnmade kind version config.now (D.state disk) (D.state u.disk) u.fault) }
 {
     match look(&mut disk, kind, version, cells_of(config)) {
-        Ok(Found::Blank) => make_new(kind, version, config, disk),
+        Ok(Found::Blank) => make_blank(alloc, kind, version, config, disk),
         Ok(Found::Standing) => find_standing(alloc, kind, version, config, disk),
         Ok(_) => {
             let fault = MakeFault::Store(StoreFault::NotFormatted);
@@ -96,7 +99,67 @@ fn make_in_room<D: Disk>(
     }
 }
 
-/// Formats a blank disk as a store of the first cells of a node with this configuration.
+/// Makes the store on a disk whose headers are blank, if all bytes are zeros.
+fn make_blank<D: Disk>(
+    alloc: Global,
+    kind: Kind,
+    version: Version,
+    config: &NodeConfig,
+    mut disk: D,
+) -> Result<D, Unmade<D>>
+    requires config { IsConfig config.now }
+    requires room { store_size (layout kind version) (14 + length config.now.routes) ≤ (D.state disk).size }
+    requires blank { (t : Told) → (D.state disk).told ≡ Some t
+        → IsFound kind version (14 + length config.now.routes) t.bytes Blank }
+    ensures made { IfOk result (λ d. StoreMade kind version config.now (D.state disk) (D.state d)) }
+    ensures refused { IfErr result (λ u. StoreUnmade kind version config.now (D.state disk) (D.state u.disk) u.fault) }
+{
+    match is_zeroed(alloc, &mut disk) {
+        Ok(true) => make_new(kind, version, config, disk),
+        Ok(false) => {
+            let fault = MakeFault::Store(StoreFault::NotFormatted);
+            Err(Unmade { disk, fault })
+        }
+        Err(fault) => Err(Unmade {
+            disk,
+            fault: MakeFault::Store(fault),
+        }),
+    }
+}
+
+/// Whether all bytes of the disk are zeros: they are read.
+fn is_zeroed<D: Disk>(alloc: Global, disk: &mut D) -> Result<bool, StoreFault>
+    ensures zeros { IfOk result (λ zeros. (t : Told) → (D.state disk.old).told ≡ Some t
+        → (IsTrue zeros ↔ AllZeros t.bytes)) }
+    ensures as_before { OnOk result (AsBefore 1 (D.state disk.old) (D.state disk.new)) }
+    ensures refused { IfErr result (ZerosUnread (D.state disk.old) (D.state disk.new)) }
+{
+    let size = disk.size() as usize;
+    let Ok(zeros) = vec![in alloc; 0; size] else {
+        return Err(StoreFault::Memory);
+    };
+    let Ok(mut bytes) = vec![in alloc; 0; size] else {
+        return Err(StoreFault::Memory);
+    };
+    read_zeros(disk, bytes.as_mut_slice(), zeros.as_slice())
+}
+
+/// The same in room for the bytes, beside as many zeros.
+fn read_zeros<D: Disk>(disk: &mut D, bytes: &mut [u8], zeros: &[u8]) -> Result<bool, StoreFault>
+    requires sized { length bytes.old ≡ (D.state disk.old).size }
+    requires zeros { zeros.now ≡ replicate (D.state disk.old).size 0 }
+    ensures zeros { IfOk result (λ zeros. (t : Told) → (D.state disk.old).told ≡ Some t
+        → (IsTrue zeros ↔ AllZeros t.bytes)) }
+    ensures as_before { OnOk result (AsBefore 1 (D.state disk.old) (D.state disk.new)) }
+    ensures refused { IfErr result (ZerosUnread (D.state disk.old) (D.state disk.new)) }
+{
+    match disk.read(0, bytes) {
+        Ok(()) => Ok(bytes[..] == zeros[..]),
+        Err(DiskFailed) => Err(StoreFault::DiskFailed),
+    }
+}
+
+/// Formats an unused disk as a store of the first cells of a node with this configuration.
 fn make_new<D: Disk>(
     kind: Kind,
     version: Version,
@@ -105,8 +168,7 @@ fn make_new<D: Disk>(
 ) -> Result<D, Unmade<D>>
     requires config { IsConfig config.now }
     requires room { store_size (layout kind version) (14 + length config.now.routes) ≤ (D.state disk).size }
-    requires blank { (t : Told) → (D.state disk).told ≡ Some t
-        → IsFound kind version (14 + length config.now.routes) t.bytes Blank }
+    requires unused { (t : Told) → (D.state disk).told ≡ Some t → IsUnused kind version config.now t.bytes }
     ensures made { IfOk result (λ d. StoreMade kind version config.now (D.state disk) (D.state d)) }
     ensures refused { IfErr result (λ u. StoreUnmade kind version config.now (D.state disk) (D.state u.disk) u.fault) }
 {

@@ -1,4 +1,3 @@
--- Not checked yet
 use Rattle.bus_store_commands.proofs.MakePhases.{row_made, row_unmade}
 use Rattle.bus_store_commands.proofs.make.make_over.Goals as goal
 
@@ -17,7 +16,7 @@ pub returns-in-Err : goal.returns-in-Err
 returns-in-Err g c =
     record {
       row = c.make_refusal-refusal.result;
-      comes = row_unmade _ _ _ _ c.kind.ensures c.version.ensures c.node_config.ensures.config _ _ c.in-Err.unmade.fault _ c.in-Err.ensures.refused
+      comes = row_unmade _ _ _ _ c.kind.ensures c.version.ensures c.node_config.ensures.config _ _ c.in-Err.unmade.fault _ c.node_config.ensures.good c.in-Err.ensures.refused
           c.make_refusal-refusal.ensures;
       told = c.tell_refusal.ensures;
     }

@@ -1,11 +1,10 @@
--- Not checked yet: the form is grow_words'
 use Rattle.std.proofs.Common.{refl}
 use Rattle.program_edge.specs.NamedSources.{word_source}
 use Rattle.bus_store_commands.proofs.MakePhases.{job_lacking, job_done}
 use Rattle.bus_store_commands.proofs.make.make_words.Goals as goal
 
-pub make_named-requires : goal.make_named-requires
-make_named-requires g c = record { one = c.in-Ok.ensures.1.1; text = c.in-Ok.ensures.2 }
+pub make_named-status-requires : goal.make_named-status-requires
+make_named-status-requires g c = record { one = c.in-Ok.ensures.1.1; text = c.in-Ok.ensures.2 }
 
 pub returns-in-Ok : goal.returns-in-Ok
 returns-in-Ok g c =

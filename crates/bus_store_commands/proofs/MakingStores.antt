@@ -1,8 +1,11 @@
 -- A node's store that is made or found on a disk, from what looks, formats and attaching ensure
-use Rattle.std.specs.Prelude.{◌≡◌, ℕ, ◌<◌, ◌≤◌, Option, Some, List, length, Result, Ok, Err, IfErr}
+use Rattle.std.specs.Prelude.{◌≡◌, ◌↔◌, ℕ, ◌+◌, ◌-◌, ◌<◌, ◌≤◌, Bool, true, false, IsTrue, Option, Some, List, length, take, replicate, Result, Ok, Err, IfErr}
 use Rattle.std.proofs.Common.{refl, sym, ap, ◌∙◌, subst, arith, inl, inr}
 use Rattle.cut_disk.specs.State.{DiskState, Told}
-use Rattle.cut_disk.specs.Calls.{Rose, IsQuiet}
+use Rattle.std.proofs.lemmas.Bool.{false≢true}
+use Rattle.std.proofs.lemmas.List.{take_all}
+use Rattle.cut_disk.specs.Calls.{Rose, IsQuiet, IsDisk, AsBefore}
+use Rattle.cut_disk.specs.Images.{ReadsAs}
 use Rattle.cut_disk.proofs.CallerLemmas.{quiet_never_rose}
 use Rattle.cell_store.specs.declared.kinds.Kind.{Kind}
 use Rattle.cell_store.specs.declared.kinds.Version.{Version}
@@ -30,20 +33,24 @@ use Rattle.bus_world.specs.TakingUp.{cells_in, new_cells}
 use Rattle.bus_world.proofs.CallerLemmas.{standing_not_blank, standing_not_older, standing_not_foreign}
 use Rattle.bus_store_commands.specs.declared.making.MakeFault.{MakeFault}
 use Rattle.bus_store_commands.specs.declared.making.MakeFault.TheVariants as fault
-use Rattle.bus_store_commands.specs.NodeStores.{made, stood, StoreMade, StoreUnmade, FailedToMake, LeftAsItWas, BytesRefused, fault_of_cells}
+use Rattle.bus_store_commands.specs.NodeStores.{made, stood, StoreMade, StoreUnmade, FailedToMake, LeftAsItWas, BytesRefused, fault_of_cells, AllZeros, IsUnused, ZerosUnread}
 
 -- ---- what a look finds
 
+-- a look only reads
+pub as_read : {calls : ℕ} {before after : DiskState} → ReadOnly calls before after → AsBefore calls before after
+as_read read = record { runs = read.runs; told = read.told; faults = read.faults }
+
 -- a store that stands has its header
-standing_header : (kind : Kind) (version : Version) (n : ℕ) (x : List ℕ) → IsFound kind version n x Standing → HasHeader (layout kind version) n x
+pub standing_header : (kind : Kind) (version : Version) (n : ℕ) (x : List ℕ) → IsFound kind version n x Standing → HasHeader (layout kind version) n x
 standing_header kind One n x (inl (high, is)) = absurd (standing_not_foreign is)
-standing_header kind One n x (inr (no, inl (blank, is))) = absurd (standing_not_blank is)
-standing_header kind One n x (inr (no, inr (not, inl (low, is)))) = low
-standing_header kind One n x (inr (no, inr (not, inr (other, is)))) = absurd (standing_not_foreign is)
+standing_header kind One n x (inr (none, inl (blank, is))) = absurd (standing_not_blank is)
+standing_header kind One n x (inr (none, inr (neither, inl (low, is)))) = low
+standing_header kind One n x (inr (none, inr (neither, inr (other, is)))) = absurd (standing_not_foreign is)
 standing_header kind Two n x (inl (high, is)) = high
-standing_header kind Two n x (inr (no, inl (low, is))) = absurd (standing_not_older is)
-standing_header kind Two n x (inr (no, inr (not, inl (blank, is)))) = absurd (standing_not_blank is)
-standing_header kind Two n x (inr (no, inr (not, inr (other, is)))) = absurd (standing_not_foreign is)
+standing_header kind Two n x (inr (none, inl (low, is))) = absurd (standing_not_older is)
+standing_header kind Two n x (inr (none, inr (neither, inl (blank, is)))) = absurd (standing_not_blank is)
+standing_header kind Two n x (inr (none, inr (neither, inr (other, is)))) = absurd (standing_not_foreign is)
 
 module _ (kind : Kind) (version : Version) (config : Config) where
   -- this is found of told bytes
@@ -55,16 +62,20 @@ module _ (kind : Kind) (version : Version) (config : Config) where
       → BytesRefused kind version config x (fault.Store store.NotFormatted)
   refused_found Blank x is not_blank not_standing = absurd (not_blank refl)
   refused_found Standing x is not_blank not_standing = absurd (not_standing refl)
-  refused_found Older x is not_blank not_standing = inr is
+  refused_found Older x is not_blank not_standing = inr (inl is)
   refused_found Foreign x is not_blank not_standing = inl is
+
+  -- told bytes are all zeros
+  abbrev Unused : DiskState → Type 0
+  Unused disk = (t : Told) → disk.told ≡ Some t → IsUnused kind version config t.bytes
 
   -- ---- a new store
 
-  new_length : IsConfig config → length (new_cells config) ≡ cells_in config
+  pub new_length : IsConfig config → length (new_cells config) ≡ cells_in config
   new_length good = length-CellsOf config (first_node config).kept (first_is_kept config good)
 
   pub new_made : {calls : ℕ} (before after : DiskState) (first : List (List ℕ)) → first ≡ new_cells config → IsConfig config
-      → Formatted (layout kind version) calls first before after → FindsTold before Blank → StoreMade kind version config before after
+      → Formatted (layout kind version) calls first before after → Unused before → StoreMade kind version config before after
   new_made before after first is good f blank = record {
     is_config = good;
     room = subst (λ (n : ℕ). store_size (layout kind version) n ≤ before.size) (ap length is ∙ new_length good) f.room;
@@ -72,19 +83,19 @@ module _ (kind : Kind) (version : Version) (config : Config) where
     told = λ t tells. made (blank t tells) (subst (λ (c : List (List ℕ)). FreshOn (layout kind version) c t after.told) is (f.fresh t tells));
   }
 
-  pub new_unmade : {calls : ℕ} (before after : DiskState) (first : List (List ℕ)) (f : StoreFault) → first ≡ new_cells config → IsConfig config
-      → NotFormed (layout kind version) calls first before after f → FindsTold before Blank
+  pub new_unmade : (calls : ℕ) (before after : DiskState) (first : List (List ℕ)) (f : StoreFault) → first ≡ new_cells config → IsConfig config
+      → NotFormed (layout kind version) calls first before after f → Unused before
       → StoreUnmade kind version config before after (fault.Store f)
-  new_unmade before after first store.TooSmall is good h blank =
+  new_unmade calls before after first store.TooSmall is good h blank =
       (subst (λ (n : ℕ). before.size < store_size (layout kind version) n) (ap length is ∙ new_length good) h.0, h.1)
-  new_unmade before after first store.DiskFailed is good h blank = (
+  new_unmade calls before after first store.DiskFailed is good h blank = (
     h.rose,
     (λ quiet. quiet_never_rose quiet (h.runs.quiet refl quiet) h.rose),
     inr (blank, subst (λ (c : List (List ℕ)). LeavesUnformed (layout kind version) c before.told after.told) is h.unformed),
   )
-  new_unmade before after first store.NotFormatted is good h blank = absurd h
-  new_unmade before after first (store.Damaged place) is good h blank = absurd h
-  new_unmade before after first store.Memory is good h blank = absurd h
+  new_unmade calls before after first store.NotFormatted is good h blank = absurd h
+  new_unmade calls before after first (store.Damaged place) is good h blank = absurd h
+  new_unmade calls before after first store.Memory is good h blank = absurd h
 
   -- ---- one that stands
 
@@ -113,23 +124,23 @@ module _ (kind : Kind) (version : Version) (config : Config) where
         (left, λ t tells. (standing t tells, record { cells = s.cells; count = a.count; stands = a.stands t tells; such = cause }))
     cells_unmade cells.Memory cause = left
 
-  pub unread_unmade : {reads : ℕ} {to : ℕ → ℕ} (before after : DiskState) (f : StoreFault)
+  pub unread_unmade : (reads : ℕ) (to : ℕ → ℕ) (before after : DiskState) (f : StoreFault)
       → NotAttached (layout kind version) reads to (cells_in config) before after f → FindsTold before Standing
       → StoreUnmade kind version config before after (fault.Store f)
-  unread_unmade before after store.TooSmall h standing = h
-  unread_unmade before after store.Memory h standing = (ap (λ (d : DiskState). d.told) h.1, ap (λ (d : DiskState). d.faults) h.1)
-  unread_unmade before after store.DiskFailed h standing =
+  unread_unmade reads to before after store.TooSmall h standing = h
+  unread_unmade reads to before after store.Memory h standing = (ap (λ (d : DiskState). d.told) h.1, ap (λ (d : DiskState). d.faults) h.1)
+  unread_unmade reads to before after store.DiskFailed h standing =
       (h.leaves.rose, (λ quiet. quiet_never_rose quiet (h.leaves.runs.quiet refl quiet) h.leaves.rose), inl h.leaves.told)
-  unread_unmade before after store.NotFormatted h standing = (
+  unread_unmade reads to before after store.NotFormatted h standing = (
     (h.leaves.told, h.leaves.faults),
     λ t tells. absurd (h.finds t tells (standing_header kind version (cells_in config) t.bytes (standing t tells))),
   )
-  unread_unmade before after (store.Damaged place) h standing =
+  unread_unmade reads to before after (store.Damaged place) h standing =
       ((h.leaves.told, h.leaves.faults), λ t tells. (standing t tells, (h.finds t tells).1))
 
   -- ---- after a look
 
-  module _ {calls : ℕ} (before mid : DiskState) (look : ReadOnly calls before mid) where
+  module _ {calls : ℕ} (before mid : DiskState) (look : AsBefore calls before mid) where
     -- told bytes are found to be the same
     pub finds_after : (what : Found) → FindsTold before what → FindsTold mid what
     finds_after what finds t tells = finds t (sym look.told ∙ tells)
@@ -148,7 +159,7 @@ module _ (kind : Kind) (version : Version) (config : Config) where
     quiet_after : IsQuiet before → IsQuiet mid
     quiet_after quiet =
         let stays = look.runs.quiet refl quiet in
-        record { quiet = stays.quiet; below = subst (λ (k : ℕ). k < _) (sym stays.faults) quiet.below }
+        record { quiet = stays.quiet; below = rw stays.faults quiet.below }
 
     failed_after : (after : DiskState) → FailedToMake kind version config mid after → FailedToMake kind version config before after
     failed_after after (rose, not, inl told) =
@@ -176,11 +187,30 @@ module _ (kind : Kind) (version : Version) (config : Config) where
     unmade_after after (fault.BadSlot slot) room h = (left_after after h.0, λ t tells. h.1 t (look.told ∙ tells))
     unmade_after after (fault.BadBound place) room h = (left_after after h.0, λ t tells. h.1 t (look.told ∙ tells))
 
+    -- all bytes were read: they are zeros, or one of them isn't
+    pub unused_after : (zeros : Bool) → FindsTold before Blank → ((t : Told) → before.told ≡ Some t → IsTrue zeros ↔ AllZeros t.bytes)
+        → zeros ≡ true → Unused mid
+    unused_after zeros blank says is t tells =
+        let told = sym look.told ∙ tells in
+        (blank t told, (says t told).0 is)
+
+    pub used_unmade : (zeros : Bool) → FindsTold before Blank → ((t : Told) → before.told ≡ Some t → IsTrue zeros ↔ AllZeros t.bytes)
+        → zeros ≡ false → StoreUnmade kind version config before mid (fault.Store store.NotFormatted)
+    used_unmade zeros blank says is =
+        ((look.told, look.faults), λ t tells. inr (inr (blank t tells, λ all. absurd (false≢true (sym is ∙ (says t tells).1 all)))))
+
     -- and what is refused at once was only read
     pub refused_at_once : (what : Found) → FindsTold before what → ¬ (what ≡ Blank) → ¬ (what ≡ Standing)
         → StoreUnmade kind version config before mid (fault.Store store.NotFormatted)
     refused_at_once what finds not_blank not_standing =
         ((look.told, look.faults), λ t tells. refused_found what t.bytes (finds t tells) not_blank not_standing)
+
+  pub zeros_unread : (before mid : DiskState) (f : StoreFault) → ZerosUnread before mid f → StoreUnmade kind version config before mid (fault.Store f)
+  zeros_unread before mid store.Memory h = h
+  zeros_unread before mid store.DiskFailed (rose, not, told) = (rose, not, inl told)
+  zeros_unread before mid store.TooSmall h = absurd h
+  zeros_unread before mid store.NotFormatted h = absurd h
+  zeros_unread before mid (store.Damaged place) h = absurd h
 
   pub look_failed : {calls : ℕ} (before mid : DiskState) → ReadFailed calls before mid
       → StoreUnmade kind version config before mid (fault.Store store.DiskFailed)
@@ -202,25 +232,45 @@ module _ (kind : Kind) (version : Version) (config copy : Config) (is : copy ≡
   of_copy : FindsTold kind version copy before Standing
   of_copy = subst (λ (c : Config). FindsTold kind version c before Standing) (sym is) standing
 
-  pub copy_made : {reads : ℕ → ℕ} (after : DiskState) (s : CellsState) → IsConfig copy → Attached (layout kind version) (reads n) n before s
+  pub copy_made : (reads : ℕ → ℕ) (after : DiskState) (s : CellsState) → IsConfig copy → Attached (layout kind version) (reads n) n before s
       → after ≡ s.disk → (node : Node) → node ≡ powered copy node.kept → s.cells ≡ CellsOf copy node.kept → Sound node
       → StoreMade kind version config before after
-  copy_made {reads} after s good a same node up kept sound =
+  copy_made reads after s good a same node up kept sound =
       subst (λ (c : Config). StoreMade kind version c before after) is
       (stood_made kind version copy before after s (subst (λ (k : ℕ). Attached (layout kind version) (reads k) k before s) cells_are a) same of_copy
       good node up kept sound)
 
-  pub copy_cells : {reads : ℕ → ℕ} (after : DiskState) (s : CellsState) → Attached (layout kind version) (reads n) n before s → after ≡ s.disk
+  pub copy_cells : (reads : ℕ → ℕ) (after : DiskState) (s : CellsState) → Attached (layout kind version) (reads n) n before s → after ≡ s.disk
       → (f : AttachFault) → AttachCause copy.routes s.cells f → StoreUnmade kind version config before after (fault_of_cells f)
-  copy_cells {reads} after s a same f cause =
+  copy_cells reads after s a same f cause =
       subst (λ (c : Config). StoreUnmade kind version c before after (fault_of_cells f)) is
       (cells_unmade kind version copy before after s (subst (λ (k : ℕ). Attached (layout kind version) (reads k) k before s) cells_are a) same of_copy f cause)
 
-  pub copy_unread : {reads : ℕ → ℕ} {to : ℕ → ℕ → ℕ} (after : DiskState) (f : StoreFault)
+  pub copy_unread : (reads : ℕ → ℕ) (to : ℕ → ℕ → ℕ) (after : DiskState) (f : StoreFault)
       → NotAttached (layout kind version) (reads n) (to n) n before after f → StoreUnmade kind version config before after (fault.Store f)
-  copy_unread {reads} {to} after f h =
+  copy_unread reads to after f h =
       subst (λ (c : Config). StoreUnmade kind version c before after (fault.Store f)) is
-      (unread_unmade kind version copy before after f (subst (λ (k : ℕ). NotAttached (layout kind version) (reads k) (to k) k before after f) cells_are h) of_copy)
+      (unread_unmade kind version copy (reads (cells_in copy)) (to (cells_in copy)) before after f (subst (λ (k : ℕ). NotAttached (layout kind version) (reads k) (to k) k before after f) cells_are h) of_copy)
+
+-- ---- all bytes of a disk
+
+-- one read of as many bytes as the disk has
+pub whole_read : (disk : DiskState) (out : List ℕ) → IsDisk disk → length out ≡ disk.size → ReadsAs disk.told 0 out → (t : Told) → disk.told ≡ Some t
+    → out ≡ t.bytes
+whole_read disk out is sized reads t tells =
+    let long : length t.bytes ≡ length out = is.bytes_sized t tells ∙ sym sized in
+    let e : (0 + length out) - 0 ≡ length out = omega arith in
+    reads t tells ∙ ap (λ (m : ℕ). take m t.bytes) e ∙ take_all (length out) t.bytes (omega (arith, long))
+
+-- it is zeros exactly if they are
+pub zeros_read : (disk : DiskState) (out : List ℕ) (size : ℕ) (says : Bool) → IsDisk disk → length out ≡ size → size ≡ disk.size → ReadsAs disk.told 0 out
+    → IsTrue says ↔ (out ≡ replicate size 0) → (t : Told) → disk.told ≡ Some t → IsTrue says ↔ AllZeros t.bytes
+zeros_read disk out size says is sized all reads equal t tells =
+    let same = whole_read disk out is (sized ∙ all) reads t tells in
+    let long : length t.bytes ≡ size = ap length (sym same) ∙ sized in (
+      λ yes. sym same ∙ (equal.0 yes ∙ ap (λ (n : ℕ). replicate n 0) (sym long)),
+      λ zeros. equal.1 (same ∙ (zeros ∙ ap (λ (n : ℕ). replicate n 0) long)),
+    )
 
 -- what is refused, for a weaker reason
 pub if_err_weaker : {X Y : Type 0} (r : Result X Y) (P Q : Y → Type 0) → ((y : Y) → P y → Q y) → IfErr r P → IfErr r Q
