@@ -189,8 +189,6 @@ def make(data, kind, version, routes):
     if len(data) < base + (32 + 68 * count if kind == 1 else 4516 + 64 * count):
         raise No(9, "store: TooSmall\n")
     low, high = header(data, 1), header(data, 2)
-    other = high if version == 1 else low
-    blank = not any(data[:32]) and not any(data[base:base + 32])
     stands = (high if version == 2 else low) == (kind, count) and not (version == 1 and high == (kind, count))
     text = f"made {('twin', 'log')[kind - 1]} {version} {count}\n"
     if stands:
@@ -203,7 +201,7 @@ def make(data, kind, version, routes):
             if place >= 14 and finding(place, cell, [route[:2] for route in routes]):
                 raise No(9, f"store: BadBound {place}\n")
         return 0, text, data
-    if not blank or other == (kind, count):
+    if any(data):
         raise No(9, "store: NotFormatted\n")
     cells = [bytes(32)] * 14 + [bytes([2, way]) + name + bound.to_bytes(8, "big") + bytes(20) for name, way, bound in routes]
     made = fresh(kind, version, cells)
