@@ -120,13 +120,14 @@ def line_of(place, cell):
     return f"bound {place} {cell[2:4].hex()} {'sends' if cell[1] == 1 else 'receives'} {cell[4:12].hex()}\n", True
 
 
-def routes_of(text):
-    """Data ID and direction, 1 or 2, of each route of a bus file that is good and has one node."""
+def bus_of(text):
+    """Of a bus file that is good and has one node: Data ID and direction, 1 or 2, of each route; and kind and version of the store, numbers."""
     import tomllib
-    nodes = tomllib.loads(text)["node"]
-    if len(nodes) != 1:
+    bus = tomllib.loads(text)
+    if len(bus["node"]) != 1:
         raise No(3, "config: nodes\n")
-    return [(bytes.fromhex(route["id"]), 1 if route["direction"] == "send" else 2) for route in nodes[0].get("route", [])]
+    routes = [(bytes.fromhex(route["id"]), 1 if route["direction"] == "send" else 2) for route in bus["node"][0].get("route", [])]
+    return routes, ({"twin": 1, "log": 2}[bus.get("store", "twin")], bus.get("version", 1))
 
 
 def finding(place, cell, routes):
@@ -144,8 +145,9 @@ def finding(place, cell, routes):
     return f"cell {place} BadBound {name.hex()} {'sends' if direction == 1 else 'receives'}\n"
 
 
-def slots(name, data, values, routes=None):
-    """What `slots NAME` prints of these bytes, and the status; of a check, over the routes of the unit's node or none."""
+def slots(name, data, values, routes=None, wanted=None):
+    """What `slots NAME` prints of these bytes, and the status; of a check, over the routes of the unit's node, and kind and version of the store
+    that it wants, or none."""
     if name == "reply":
         uid, slot, auth = bytes.fromhex(values[0]), int(values[1]), int(values[2])
         if slot == 0 or not (auth == 1 or (auth == 2 if slot == 3 else auth == slot)):
@@ -154,7 +156,8 @@ def slots(name, data, values, routes=None):
     cells, damaged = cells_of(kind, count, store)
     head = f"store {('twin', 'log')[kind - 1]} {version} {count}\n"
     if name == "check":
-        lines = [f"place {damaged} Damaged\n"] if cells is None else [finding(place, cell, routes) for place, cell in enumerate(cells)]
+        lines = [] if wanted in (None, (kind, version)) else [f"wanted {('twin', 'log')[wanted[0] - 1]} {wanted[1]} {14 + len(routes)}\n"]
+        lines += [f"place {damaged} Damaged\n"] if cells is None else [finding(place, cell, routes) for place, cell in enumerate(cells)]
         lines += [f"route {it.hex()} {'sends' if direction == 1 else 'receives'} NoCell\n" for it, direction in (routes or [])[count - 14:]]
         return (1 if any(lines) else 0), head + "".join(lines)
     if damaged is not None:
@@ -169,6 +172,40 @@ def slots(name, data, values, routes=None):
     import bus_model
     m4, m5 = bus_model.reply(uid, slot, auth, held[1], held[2])
     return 0, f"loaded {m4.hex()} {m5.hex()}\n"
+
+
+def fresh(kind, version, cells):
+    """The bytes of a fresh store of these cells."""
+    head = b"SECOCST1" + bytes([kind, version]) + len(cells).to_bytes(2, "big") + bytes(20)
+    if kind == 1:
+        return head + b"".join(bytes([LIVE, 0]) + cell + bytes([LIVE, 2]) + cell for cell in cells)
+    return head + bytes([LIVE, 0]) + b"".join(cells) + bytes(64 * 35) + bytes([0, 2]) + bytes(32 * len(cells) + 64 * 35)
+
+
+def make(data, kind, version, routes):
+    """What `slots make` makes of a disk of these bytes for a node: the status, the text, and the bytes. Kind and version are numbers; of
+    each route of the bus its Data ID, direction and first bound."""
+    count, base = 14 + len(routes), 32768 * (version - 1)
+    if len(data) < base + (32 + 68 * count if kind == 1 else 4516 + 64 * count):
+        raise No(9, "store: TooSmall\n")
+    low, high = header(data, 1), header(data, 2)
+    stands = (high if version == 2 else low) == (kind, count) and not (version == 1 and high == (kind, count))
+    text = f"made {('twin', 'log')[kind - 1]} {version} {count}\n"
+    if stands:
+        cells, damaged = cells_of(kind, count, data[base:])
+        if damaged is not None:
+            raise No(9, f"store: Damaged {damaged}\n")
+        for place, cell in enumerate(cells):
+            if place < 14 and slot_of(cell) is None:
+                raise No(9, f"store: BadSlot {place}\n")
+            if place >= 14 and finding(place, cell, [route[:2] for route in routes]):
+                raise No(9, f"store: BadBound {place}\n")
+        return 0, text, data
+    if any(data):
+        raise No(9, "store: NotFormatted\n")
+    cells = [bytes(32)] * 14 + [bytes([2, way]) + name + bound.to_bytes(8, "big") + bytes(20) for name, way, bound in routes]
+    made = fresh(kind, version, cells)
+    return 0, text, data[:base] + made + data[base + len(made):]
 
 
 def grow(data, routes):
@@ -331,7 +368,7 @@ def main(words):
     over_bus = words[:2] == ["slots", "check"] and len(words) == 4
     try:
         if over_bus:
-            status, text = slots("check", files[0], [], routes_of(read(words[3]).decode()))
+            status, text = slots("check", files[0], [], *bus_of(read(words[3]).decode()))
         elif words[0] == "slots":
             status, text = slots(words[1], files[0], words[3:])
         elif words[1] in ("adopt", "import", "merge"):

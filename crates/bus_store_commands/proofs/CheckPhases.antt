@@ -14,10 +14,13 @@ use Rattle.bus_config.specs.Buses.{NamedBus}
 use Rattle.bus_programs.specs.BusFiles.{ReadsBus}
 use Rattle.bus_programs.specs.BusRoutes.{routes_of, HasOneNode}
 use Rattle.slot_commands.specs.Checked.{Checked}
-use Rattle.slot_commands.specs.Stores.{ChecksStore, NoStoreIn}
+use Rattle.slot_commands.specs.Cells.{slot_count}
+use Rattle.slot_commands.specs.Stores.{NoStoreIn}
 use Rattle.bus_store_commands.specs.NodeBuses.{ReadsNodeBus, LacksNodeBus, other_nodes}
 use Rattle.bus_store_commands.specs.BusWords.{asks_over_bus}
-use Rattle.bus_store_commands.specs.CheckRows.{BusCheckInputs, AsksBusCheck, DoesBusCheck, found_nothing, found, not_checked, bus_check_usage}
+use Rattle.key_commands.specs.declared.finding.CountingStore.{CountingStore}
+use Rattle.key_commands.specs.Counting.{counting_store}
+use Rattle.bus_store_commands.specs.CheckRows.{BusCheckInputs, AsksBusCheck, wanted_store, ChecksNodeStore, DoesBusCheck, found_nothing, found, not_checked, bus_check_usage}
 use Rattle.bus_store_commands.specs.CheckRows.{ComesOfBusCheck, no_form, no_node, done, AnswersBusCheck}
 use Rattle.bus_store_commands.specs.CheckRows as rows
 use Rattle.bus_store_commands.specs.ChecksOverBus.{ChecksOverBus}
@@ -42,35 +45,58 @@ pub file_lacking : (i : BusCheckInputs) (bus : NamedBus) (fault : InputFault) (r
     → Lacks i.file fault → row ≡ input_row fault → ComesOfBusCheck i row
 file_lacking i bus fault row asks reads lacks is = subst (ComesOfBusCheck i) (sym is) (rows.no_file bus fault asks reads lacks)
 
--- what is done over its bytes and the routes of the bus
-pub check_done : (i : BusCheckInputs) (bus : NamedBus) (routes : List Route) (x shown : List ℕ) (result : Result (Vec ℕ Global × ℕ) Row)
-    → AsksBusCheck i.words → ReadsNodeBus i.bus bus → ReadsWhole i.file x → shown ≡ x → routes ≡ routes_of bus
-    → IfOk result (λ r. DoesBusCheck routes shown (row_of r.1 r.0.items))
-    → IfErr result (λ row. DoesBusCheck routes shown row ⊎ (row ≡ memory_row)) → AnswersBusCheck i result
-check_done i bus routes x shown (Ok (text, status)) asks reads whole is are does not =
-    done bus shown (row_of status text.items) asks reads (subst (ReadsWhole i.file) (sym is) whole)
-    (subst (λ (r : List Route). DoesBusCheck r shown (row_of status text.items)) are does)
-check_done i bus routes x shown (Err row) asks reads whole is are does (inl not) =
-    done bus shown row asks reads (subst (ReadsWhole i.file) (sym is) whole) (subst (λ (r : List Route). DoesBusCheck r shown row) are not)
-check_done i bus routes x shown (Err row) asks reads whole is are does (inr memory) =
+-- what is done over its bytes and the bus
+pub check_done : (i : BusCheckInputs) (bus : NamedBus) (x shown : List ℕ) (result : Result (Vec ℕ Global × ℕ) Row)
+    → AsksBusCheck i.words → ReadsNodeBus i.bus bus → ReadsWhole i.file x → shown ≡ x
+    → IfOk result (λ r. DoesBusCheck bus shown (row_of r.1 r.0.items))
+    → IfErr result (λ row. DoesBusCheck bus shown row ⊎ (row ≡ memory_row)) → AnswersBusCheck i result
+check_done i bus x shown (Ok (text, status)) asks reads whole is does not =
+    done bus shown (row_of status text.items) asks reads (subst (ReadsWhole i.file) (sym is) whole) does
+check_done i bus x shown (Err row) asks reads whole is does (inl not) =
+    done bus shown row asks reads (subst (ReadsWhole i.file) (sym is) whole) not
+check_done i bus x shown (Err row) asks reads whole is does (inr memory) =
     subst (ComesOfBusCheck i) (sym memory) (rows.no_file bus input.Memory asks reads (Lacks-whole i.file x whole))
 
 -- ---- a check
 
-pub check_good : (routes : List Route) (x text : List ℕ) (good : Bool) → Checked (Some routes) x text good → good ≡ true
-    → DoesBusCheck routes x (row_of 0 text)
-check_good routes x text good (findings, checks, decides) is =
-    found_nothing text (subst (λ (f : List (List (List ℕ))). ChecksStore (Some routes) x f text) (decides.0 is) checks)
+-- a check over a store and routes that are those of the bus is one over the bus
+over_bus : (bus : NamedBus) (wanted : CountingStore) (routes : List Route) (x text : List ℕ) (good : Bool) → wanted ≡ wanted_store bus
+    → routes ≡ routes_of bus → Checked (Some wanted) (Some routes) x text good → Checked (Some (wanted_store bus)) (Some (routes_of bus)) x text good
+over_bus bus wanted routes x text good is are checked =
+    subst (λ (w : CountingStore). Checked (Some w) (Some (routes_of bus)) x text good) is
+    (subst (λ (r : List Route). Checked (Some wanted) (Some r) x text good) are checked)
 
-pub check_bad : (routes : List Route) (x text : List ℕ) (good : Bool) → Checked (Some routes) x text good → good ≡ false
-    → DoesBusCheck routes x (row_of 1 text)
-check_bad routes x text good (findings, checks, decides) is =
+good_over_bus : (bus : NamedBus) (x text : List ℕ) (good : Bool) → Checked (Some (wanted_store bus)) (Some (routes_of bus)) x text good → good ≡ true
+    → DoesBusCheck bus x (row_of 0 text)
+good_over_bus bus x text good (findings, checks, decides) is =
+    found_nothing text (subst (λ (f : List (List (List ℕ))). ChecksNodeStore bus x f text) (decides.0 is) checks)
+
+bad_over_bus : (bus : NamedBus) (x text : List ℕ) (good : Bool) → Checked (Some (wanted_store bus)) (Some (routes_of bus)) x text good → good ≡ false
+    → DoesBusCheck bus x (row_of 1 text)
+bad_over_bus bus x text good (findings, checks, decides) is =
     found findings text (λ none. let clash : false ≡ true = sym is ∙ decides.1 none in cc clash) checks
 
-pub check_refused : (routes : List Route) (x : List ℕ) (row : Row) → NoStoreIn x row ⊎ (row ≡ memory_row)
-    → DoesBusCheck routes x row ⊎ (row ≡ memory_row)
-check_refused routes x row (inl none) = inl (not_checked row none)
-check_refused routes x row (inr memory) = inr memory
+pub check_good : (bus : NamedBus) (wanted : CountingStore) (routes : List Route) (x text : List ℕ) (good : Bool) → wanted ≡ wanted_store bus
+    → routes ≡ routes_of bus → Checked (Some wanted) (Some routes) x text good → good ≡ true → DoesBusCheck bus x (row_of 0 text)
+check_good bus wanted routes x text good is are checked none =
+    good_over_bus bus x text good (over_bus bus wanted routes x text good is are checked) none
+
+pub check_bad : (bus : NamedBus) (wanted : CountingStore) (routes : List Route) (x text : List ℕ) (good : Bool) → wanted ≡ wanted_store bus
+    → routes ≡ routes_of bus → Checked (Some wanted) (Some routes) x text good → good ≡ false → DoesBusCheck bus x (row_of 1 text)
+check_bad bus wanted routes x text good is are checked some =
+    bad_over_bus bus x text good (over_bus bus wanted routes x text good is are checked) some
+
+pub check_refused : (bus : NamedBus) (x : List ℕ) (row : Row) → NoStoreIn x row ⊎ (row ≡ memory_row)
+    → DoesBusCheck bus x row ⊎ (row ≡ memory_row)
+check_refused bus x row (inl none) = inl (not_checked row none)
+check_refused bus x row (inr memory) = inr memory
+
+-- the store that a bus wants
+pub is_wanted : (bus : NamedBus) (cells : ℕ) (routes : List Route) → cells ≡ length routes + 14 → routes ≡ routes_of bus
+    → counting_store bus.kind bus.version cells ≡ wanted_store bus
+is_wanted bus cells routes is are =
+    let number : cells ≡ slot_count + length (routes_of bus) = omega (arith, is, ap (λ (r : List Route). length r) are) in
+    ap (counting_store bus.kind bus.version) number
 
 -- ---- a run
 

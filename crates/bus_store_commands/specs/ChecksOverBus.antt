@@ -8,26 +8,37 @@ use Rattle.bus_config.specs.declared.fault.ConfigFault.{ConfigFault}
 use Rattle.bus_config.specs.BusFile.{bus_of}
 use Rattle.bus_config.specs.Buses.{NamedBus}
 use Rattle.bus_programs.specs.BusFiles.{OffersBus}
-use Rattle.bus_programs.specs.BusRoutes.{routes_of}
-use Rattle.slot_commands.specs.Stores.{ChecksStore, NoStoreIn}
+use Rattle.cell_store.specs.Layout.{layout}
+use Rattle.key_commands.specs.declared.finding.CountingStore.{CountingStore}
+use Rattle.any_cells.specs.declared.looking.Found.TheVariants.{Standing}
+use Rattle.any_cells.specs.Looking.{IsFound}
+use Rattle.key_commands.specs.Opening.{layout_of}
+use Rattle.slot_commands.specs.Stores.{HasStoreToCheck, NoStoreIn}
 use Rattle.bus_store_commands.specs.NodeBuses.{OffersNodeBus, LacksNodeBus}
 use Rattle.bus_store_commands.specs.BusWords.{asks_over_bus}
-use Rattle.bus_store_commands.specs.CheckRows.{BusCheckInputs, AsksBusCheck, OverStoreAndBus, DoesBusCheck}
+use Rattle.bus_store_commands.specs.CheckRows.{BusCheckInputs, AsksBusCheck, OverStoreAndBus, wanted_store, ChecksNodeStore, DoesBusCheck}
 use Rattle.bus_store_commands.specs.CheckRows.{ComesOfBusCheck, bus_check_usage}
 
 -- what is promised of these inputs that ends so, in the order of the table of answers
 pub record ChecksOverBus (i : BusCheckInputs) (e : Ending) : Type 0 where
   -- The program prints a row of the table and ends with its status, or at 6 a prefix of one.
   pub ends : EndsInRow (ComesOfBusCheck i) e
-  -- 0 exactly if nothing is wrong with a cell, and each route has one; 1 exactly if something is, and each is printed.
+  -- 0 exactly if kind and version are the bus's, nothing is wrong with a cell, and each route has one; 1 exactly if
+  -- something is wrong, and each is printed.
   pub good : e.status ≡ 0 → OverStoreAndBus i (λ bus x.
-      (text : List ℕ) × ChecksStore (Some (routes_of bus)) x [] text × PrintsWhole e text)
+      (text : List ℕ) × ChecksNodeStore bus x [] text × PrintsWhole e text)
   pub found : e.status ≡ 1 → OverStoreAndBus i (λ bus x.
       (findings : List (List (List ℕ))) × (text : List ℕ) × (findings ≢ [])
-      × ChecksStore (Some (routes_of bus)) x findings text × PrintsWhole e text)
+      × ChecksNodeStore bus x findings text × PrintsWhole e text)
   pub found_only : (bus : NamedBus) (x text : List ℕ) (findings : List (List (List ℕ))) → AsksBusCheck i.words
-      → OffersNodeBus i.bus bus → Offers i.file x → ChecksStore (Some (routes_of bus)) x findings text → findings ≢ []
+      → OffersNodeBus i.bus bus → Offers i.file x → ChecksNodeStore bus x findings text → findings ≢ []
       → MayEndIn 1 e
+  -- At 0 the node's start would find its store standing. One of another kind or version than the bus's is always found.
+  pub standing : e.status ≡ 0 → OverStoreAndBus i (λ bus x.
+      IsFound bus.kind bus.version (wanted_store bus).cells x Standing)
+  pub kind_found_only : (bus : NamedBus) (x : List ℕ) (found : CountingStore) → AsksBusCheck i.words
+      → OffersNodeBus i.bus bus → Offers i.file x → HasStoreToCheck x found
+      → ¬ (layout_of found ≡ layout bus.kind bus.version) → MayEndIn 1 e
   -- 2: exactly if the words are malformed; nothing was read.
   pub usage : e.status ≡ 2 → (asks_over_bus (codes "check") i.words ≡ false) × IsUnread i.bus × IsUnread i.file
       × PrintsWhole e bus_check_usage
@@ -57,5 +68,5 @@ pub record ChecksOverBus (i : BusCheckInputs) (e : Ending) : Type 0 where
       → Offers i.file x → NoStoreIn x row → MayEndIn 9 e
   -- What is valid is done, if no port failed and there was memory.
   pub complete : (bus : NamedBus) (x : List ℕ) (row : Row) → AsksBusCheck i.words → OffersNodeBus i.bus bus
-      → Offers i.file x → DoesBusCheck (routes_of bus) x row → ¬ SinkFailed e
+      → Offers i.file x → DoesBusCheck bus x row → ¬ SinkFailed e
       → (e.status ≡ row.status) ⊎ (e.status ≡ 7)

@@ -2,14 +2,15 @@
 ghost use Rattle.std.specs.Prelude.{◌≡◌, ◌⊎◌, ◌≤◌, length, map as each, string_bytes, IfOk, IfErr};
 ghost use Rattle.program_edge.specs.Input.{input_limit};
 ghost use Rattle.program_edge.specs.Rows.{row_of, memory_row};
-ghost use Rattle.bus_store_commands.specs.CheckRows.{DoesBusCheck, AnswersBusCheck};
+ghost use Rattle.bus_store_commands.specs.CheckRows.{wanted_store, DoesBusCheck, AnswersBusCheck};
 ghost use Rattle.bus_store_commands.specs.ChecksOverBus.{ChecksOverBus};
 
 use crate::node_buses::node_bus_from;
 use crate::words::asks_over_bus;
+use bus_config::BusConfig;
 use bus_port::{Sink, Source};
 use bus_programs::node_routes;
-use freshness_routes::Route;
+use key_commands::CountingStore;
 use program_edge::{DONE, Refusal, read_input, tell, tell_refusal};
 use slot_commands::check_bytes;
 use std::alloc::Global;
@@ -67,23 +68,34 @@ fn answer<S: Source, T: Source>(
     }
     let bus = node_bus_from(alloc, bus)?;
     let bytes = read_input(alloc, file)?;
-    check_over_routes(alloc, bytes.as_slice(), node_routes(&bus))
+    check_over_bus(alloc, bytes.as_slice(), &bus)
 }
 
-/// What a check of these bytes comes to, whose unit is a node with these routes.
-fn check_over_routes(
-    alloc: Global,
-    bytes: &[u8],
-    routes: &[Route],
-) -> Result<(Vec<u8>, u8), Refusal>
-    requires { length bytes.now ≤ input_limit }
-    ensures done { IfOk result (λ r. DoesBusCheck routes.now bytes.now (row_of r.1 r.0.items)) }
-    ensures refused { IfErr result (λ row. DoesBusCheck routes.now bytes.now row ⊎ (row ≡ memory_row)) }
+/// What a check of these bytes comes to, whose unit is the one node of this bus.
+fn check_over_bus(alloc: Global, bytes: &[u8], bus: &BusConfig) -> Result<(Vec<u8>, u8), Refusal>
+    requires size { length bytes.now ≤ input_limit }
+    requires one { length bus.now.nodes ≡ 1 }
+    ensures done { IfOk result (λ r. DoesBusCheck bus.now bytes.now (row_of r.1 r.0.items)) }
+    ensures refused { IfErr result (λ row. DoesBusCheck bus.now bytes.now row ⊎ (row ≡ memory_row)) }
 {
-    let (text, good) = check_bytes(alloc, bytes, Some(routes))?;
+    let routes = node_routes(bus);
+    let wanted = wanted_store(bus);
+    let (text, good) = check_bytes(alloc, bytes, Some(wanted), Some(routes))?;
     if good {
         Ok((text, DONE))
     } else {
         Ok((text, FOUND))
+    }
+}
+
+/// The store that the one node of a bus wants.
+fn wanted_store(bus: &BusConfig) -> CountingStore
+    requires { length bus.now.nodes ≡ 1 }
+    ensures { result ≡ wanted_store bus.now }
+{
+    CountingStore {
+        kind: bus.kind(),
+        version: bus.version(),
+        cells: 14 + node_routes(bus).len() as u16,
     }
 }

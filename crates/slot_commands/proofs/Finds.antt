@@ -4,6 +4,7 @@ use Rattle.std.specs.Prelude.{Option, Some, None, Bool, IsTrue, nat_eq, ◌↔�
 use Rattle.std.proofs.lemmas.Bool.Decides.{nat_tests}
 use Rattle.cut_disk.specs.State.{DiskState}
 use Rattle.key_commands.specs.declared.finding.CountingStore.{CountingStore}
+use Rattle.key_commands.specs.Opening.{layout_of}
 use Rattle.slot_commands.specs.StillDisks.{HasFound}
 use Rattle.std.proofs.lemmas.Grind.{flat_map-append}
 use Rattle.std.proofs.lemmas.List.{get_or_append_left}
@@ -13,8 +14,9 @@ use Rattle.text_lines.specs.Written.{written}
 use Rattle.freshness_routes.specs.declared.routes.Route.{Route}
 use Rattle.slot_commands.specs.Cells.{SaysCell, AddsCell}
 use Rattle.slot_commands.specs.RouteFindings.{FindsAt, lacking_lines}
-use Rattle.slot_commands.specs.Checked.{Checked, PushesFinding, PushesFindings, PushesPlaces, PushesFound}
-use Rattle.slot_commands.specs.Stores.{head_words, ListsCells, FindsFrom, at_end, a_finding, nothing, written_lines}
+use Rattle.slot_commands.specs.Checked.{Checked, PushesFinding, PushesFindings, PushesPlaces, PushesFound, PushesLayout}
+use Rattle.slot_commands.specs.Stores.{head_words, wanted_words, ListsCells, FindsFrom, at_end, a_finding, nothing, written_lines}
+use Rattle.slot_commands.specs.Stores.{none_wanted, as_wanted, another}
 
 -- the text of one line more
 lines_more : (lines : List (List (List ℕ))) (words : List (List ℕ)) → written_lines (lines ++ words ∷ []) ≡ written_lines lines ++ written words
@@ -26,6 +28,13 @@ text_more : (old text next : List ℕ) (lines : List (List (List ℕ))) (words :
 text_more old text next lines words is more =
     more ∙ ap (λ (l : List ℕ). l ++ written words) is ∙ append_assoc old (written_lines lines) (written words)
     ∙ ap (λ (l : List ℕ). old ++ l) (sym (lines_more lines words))
+
+-- the text of some lines and of some more
+lines_joined : (old text next : List ℕ) (some more : List (List (List ℕ))) → text ≡ old ++ written_lines some → next ≡ text ++ written_lines more
+    → next ≡ old ++ written_lines (some ++ more)
+lines_joined old text next some more is also =
+    also ∙ ap (λ (l : List ℕ). l ++ written_lines more) is ∙ append_assoc old (written_lines some) (written_lines more)
+    ∙ ap (λ (l : List ℕ). old ++ l) (sym (flat_map-append written some more))
 
 -- ---- a list
 
@@ -126,12 +135,23 @@ found_there routes place here there old new is finding =
 pub found_all : (routes : Option (List Route)) (x : List ℕ) (found : CountingStore) (old text next : List ℕ) → PushesPlaces routes x found old text
     → next ≡ text ++ written_lines (lacking_lines routes found.cells) → PushesFound routes x found old next
 found_all routes x found old text next (findings, finds, is) more =
-    let lacking = lacking_lines routes found.cells in (
-      findings ++ lacking,
-      record { of_places = findings; finds = finds; all = refl },
-      more ∙ ap (λ (l : List ℕ). l ++ written_lines lacking) is ∙ append_assoc old (written_lines findings) (written_lines lacking)
-          ∙ ap (λ (l : List ℕ). old ++ l) (sym (flat_map-append written findings lacking)),
-    )
+    (findings, finds, lines_joined old text next findings (lacking_lines routes found.cells) is more)
+
+-- ---- what is found of kind and version
+
+pub layout_unwanted : (found : CountingStore) (wanted : Option CountingStore) (old text : List ℕ) → wanted ≡ None → text ≡ old
+    → PushesLayout wanted found old text
+layout_unwanted found wanted old text none is =
+    subst (λ (w : Option CountingStore). PushesLayout w found old text) (sym none) ([], none_wanted, is ∙ sym (append-nil old))
+
+pub layout_as_wanted : (found wanted : CountingStore) (old text : List ℕ) → layout_of found ≡ layout_of wanted → text ≡ old
+    → PushesLayout (Some wanted) found old text
+layout_as_wanted found wanted old text same is = ([], as_wanted wanted same, is ∙ sym (append-nil old))
+
+pub layout_another : (found wanted : CountingStore) (old text : List ℕ) → ¬ (layout_of found ≡ layout_of wanted)
+    → text ≡ old ++ written (wanted_words wanted) → PushesLayout (Some wanted) found old text
+layout_another found wanted old text other is =
+    (wanted_words wanted ∷ [], another wanted other, is ∙ ap (λ (l : List ℕ). old ++ l) (sym (append-nil (written (wanted_words wanted)))))
 
 -- ---- nothing was added exactly if nothing was found
 
@@ -150,21 +170,22 @@ same_if_none old text findings is none =
     ap length is ∙ ap (λ (f : List (List (List ℕ))). length (old ++ written_lines f)) none ∙ ap length (append-nil old)
 
 -- the text of a check, and whether nothing was found
-pub checked_text : (routes : Option (List Route)) (x : List ℕ) (found : CountingStore) (disk : DiskState) (head text : List ℕ) (good : Bool)
-    → HasFound x found disk → head ≡ written (head_words found) → PushesFound routes x found head text
-    → (IsTrue good ↔ (length text ≡ length head)) → Checked routes x text good
-checked_text routes x found disk head text good has head_is (findings, finds, is) decides = (
-  findings,
-  record {
-    found = found;
-    counts = has.counts;
-    wide = has.wide;
-    room = has.room;
-    finds = finds;
-    text_is = is ∙ ap (λ (h : List ℕ). h ++ written_lines findings) head_is;
-  },
-  (λ yes_. none_if_same head text findings is (decides.0 yes_), λ none. decides.1 (same_if_none head text findings is none)),
-)
+pub checked_text : (wanted : Option CountingStore) (routes : Option (List Route)) (x : List ℕ) (found : CountingStore) (disk : DiskState)
+    (head middle text : List ℕ) (good : Bool) → HasFound x found disk → head ≡ written (head_words found) → PushesLayout wanted found head middle
+    → PushesFound routes x found middle text → (IsTrue good ↔ (length text ≡ length head)) → Checked wanted routes x text good
+checked_text wanted routes x found disk head middle text good has head_is (of_layout, laid, first) (of_places, placed, second) decides =
+    let findings = of_layout ++ (of_places ++ lacking_lines routes found.cells) in
+    let is : text ≡ head ++ written_lines findings =
+    lines_joined head middle text of_layout (of_places ++ lacking_lines routes found.cells) first second in (
+      findings,
+      record {
+        found = found;
+        has = record { counts = has.counts; wide = has.wide; room = has.room };
+        finds = record { of_layout = of_layout; of_places = of_places; finds_layout = laid; finds = placed; all = refl };
+        text_is = is ∙ ap (λ (h : List ℕ). h ++ written_lines findings) head_is;
+      },
+      (λ yes_. none_if_same head text findings is (decides.0 yes_), λ none. decides.1 (same_if_none head text findings is none)),
+    )
 
 -- a test of two lengths
 pub lengths_same : (m n : ℕ) (a b : List ℕ) → m ≡ length a → n ≡ length b → IsTrue (nat_eq m n) ↔ (length a ≡ length b)

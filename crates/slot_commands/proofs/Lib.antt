@@ -3,6 +3,7 @@ pub mod CellLaws
 pub mod Finds
 pub mod ReadingLaws
 pub mod OnceLaws
+pub mod GoodLaws
 pub mod Promises
 pub mod Phases
 pub mod TaskWords

@@ -22,6 +22,7 @@ use Rattle.slot_commands.specs.Cells.{slot_count, FindsInCell, damaged, no_slot_
 use Rattle.slot_commands.specs.RouteFindings.{FindsAt, FindsOverRoutes, as_slot, no_copy, no_route, not_its_bound, its_bound, lacking_lines}
 use Rattle.slot_commands.specs.Stores.{HoldsStore, ListsStore, ChecksStore, NoStoreIn, IsUnreadable, FindsFrom, at_end, a_finding, nothing}
 use Rattle.slot_commands.specs.Stores.{FindsInPlaces, FindsInStore, of_twin, of_log, of_damaged_log, no_header, none_counts, too_few, no_room, no_store}
+use Rattle.slot_commands.specs.Stores.{FindsLayout, none_wanted, as_wanted, another}
 use Rattle.slot_commands.specs.Stores as stores
 use Rattle.slot_commands.specs.Replies.{HasSlotCell, SlotReplies, CellReplies, RepliesFrom, empty, replied, bad_slot, of_slot, bad_pair, unreadable, of_cell}
 use Rattle.slot_commands.specs.SlotRows.{DoesSlotTask, listed, not_listed, found_nothing, not_checked}
@@ -169,23 +170,40 @@ places_once routes x found f g (of_log cells _ log stands number finds) (of_dama
     absurd (stands-whole (layout_of found) x cells found.cells place stands number first)
 places_once routes x found f g (of_damaged_log place log first) second none = cc none
 
-no_parts : (a b : List (List (List ℕ))) → a ++ b ≡ [] → (a ≡ []) × (b ≡ [])
+pub no_parts : (a b : List (List (List ℕ))) → a ++ b ≡ [] → (a ≡ []) × (b ≡ [])
 no_parts [] b is = (refl, is)
 no_parts (word ∷ a) b is = cc is
 
--- what is found in a store, if nothing is
-nothing_once : (routes : Option (List Route)) (x : List ℕ) (found : CountingStore) (f g : List (List (List ℕ))) → FindsInStore routes x found f
-    → FindsInStore routes x found g → f ≡ [] → g ≡ []
-nothing_once routes x found f g first second none =
-    let (no_place, no_route_lacks) = no_parts first.of_places (lacking_lines routes found.cells) (sym first.all ∙ none) in
-    let none_placed = places_once routes x found first.of_places second.of_places first.finds second.finds no_place in
-    second.all ∙ ap (λ (l : List (List (List ℕ))). l ++ lacking_lines routes found.cells) none_placed ∙ no_route_lacks
+-- what is found of kind and version, if nothing is
+layout_once : (found : CountingStore) (a b : Option CountingStore) (f g : List (List (List ℕ))) → FindsLayout found a f → FindsLayout found b g → a ≡ b
+    → f ≡ [] → g ≡ []
+layout_once found a b f g none_wanted none_wanted same none = refl
+layout_once found a b f g none_wanted (as_wanted wanted is) same none = refl
+layout_once found a b f g none_wanted (another wanted other) same none = cc same
+layout_once found a b f g (as_wanted wanted is) none_wanted same none = refl
+layout_once found a b f g (as_wanted wanted is) (as_wanted also at) same none = refl
+layout_once found a b f g (as_wanted wanted is) (another also other) same none =
+    let such : wanted ≡ also = cc same in
+    absurd (other (is ∙ ap layout_of such))
+layout_once found a b f g (another wanted other) second same none = cc none
 
-pub checked_once : (routes : Option (List Route)) (x text other : List ℕ) (f g : List (List (List ℕ))) → ChecksStore routes x f text
-    → ChecksStore routes x g other → f ≡ [] → g ≡ []
-checked_once routes x text other f g first second none =
-    nothing_once routes x first.found f g first.finds
-    (subst (λ (s : CountingStore). FindsInStore routes x s g) (same_found x second.found first.found second.counts first.counts) second.finds) none
+-- what is found in a store, if nothing is
+nothing_once : (wanted : Option CountingStore) (routes : Option (List Route)) (x : List ℕ) (found : CountingStore) (f g : List (List (List ℕ)))
+    → FindsInStore wanted routes x found f → FindsInStore wanted routes x found g → f ≡ [] → g ≡ []
+nothing_once wanted routes x found f g first second none =
+    let lacking = lacking_lines routes found.cells in
+    let (no_layout, rest) = no_parts first.of_layout (first.of_places ++ lacking) (sym first.all ∙ none) in
+    let (no_place, no_route_lacks) = no_parts first.of_places lacking rest in
+    let none_laid = layout_once found wanted wanted first.of_layout second.of_layout first.finds_layout second.finds_layout refl no_layout in
+    let none_placed = places_once routes x found first.of_places second.of_places first.finds second.finds no_place in
+    second.all ∙ ap (λ (l : List (List (List ℕ))). l ++ (second.of_places ++ lacking)) none_laid
+    ∙ ap (λ (l : List (List (List ℕ))). l ++ lacking) none_placed ∙ no_route_lacks
+
+pub checked_once : (wanted : Option CountingStore) (routes : Option (List Route)) (x text other : List ℕ) (f g : List (List (List ℕ)))
+    → ChecksStore wanted routes x f text → ChecksStore wanted routes x g other → f ≡ [] → g ≡ []
+checked_once wanted routes x text other f g first second none =
+    nothing_once wanted routes x first.found f g first.finds
+    (subst (λ (s : CountingStore). FindsInStore wanted routes x s g) (same_found x second.found first.found second.has.counts first.has.counts) second.finds) none
 
 -- ---- replies
 
@@ -253,9 +271,9 @@ task_status x asked row (not_checked _ none) = inr (inr (no_store_row x row none
 task_status x asked row (rows.replied a _ replies) = reply_status x a row replies
 
 -- the bytes have a store that can be checked
-pub check_clash : (routes : Option (List Route)) (x text : List ℕ) (findings : List (List (List ℕ))) (row : Row)
-    → ChecksStore routes x findings text → NoStoreIn x row → ⊥
-check_clash routes x text findings row checks none = has_store x checks.found row checks.counts checks.wide checks.room none
+pub check_clash : (wanted : Option CountingStore) (routes : Option (List Route)) (x text : List ℕ) (findings : List (List (List ℕ))) (row : Row)
+    → ChecksStore wanted routes x findings text → NoStoreIn x row → ⊥
+check_clash wanted routes x text findings row checks none = has_store x checks.found row checks.has.counts checks.has.wide checks.has.room none
 
 list_clash : (x text : List ℕ) (row : Row) → ListsStore x text → IsUnreadable x row → ⊥
 list_clash x text row lists not = held_read x lists.found lists.cells row lists.holds not
@@ -279,20 +297,20 @@ does_once x asked also row other (found_nothing text checks) (listed text' lists
 does_once x asked also row other (found_nothing text checks) (not_listed _ not) same = cc same
 does_once x asked also row other (found_nothing text checks) (found_nothing text' checks') same = refl
 does_once x asked also row other (found_nothing text checks) (rows.found findings text' some checks') same =
-    absurd (some (checked_once None x text text' [] findings checks checks' refl))
-does_once x asked also row other (found_nothing text checks) (not_checked _ none) same = absurd (check_clash None x text [] other checks none)
+    absurd (some (checked_once None None x text text' [] findings checks checks' refl))
+does_once x asked also row other (found_nothing text checks) (not_checked _ none) same = absurd (check_clash None None x text [] other checks none)
 does_once x asked also row other (found_nothing text checks) (rows.replied a _ replies) same = cc same
 does_once x asked also row other (rows.found findings text some checks) (listed text' lists) same = cc same
 does_once x asked also row other (rows.found findings text some checks) (not_listed _ not) same = cc same
 does_once x asked also row other (rows.found findings text some checks) (found_nothing text' checks') same =
-    absurd (some (checked_once None x text' text [] findings checks' checks refl))
+    absurd (some (checked_once None None x text' text [] findings checks' checks refl))
 does_once x asked also row other (rows.found findings text some checks) (rows.found findings' text' some' checks') same = refl
-does_once x asked also row other (rows.found findings text some checks) (not_checked _ none) same = absurd (check_clash None x text findings other checks none)
+does_once x asked also row other (rows.found findings text some checks) (not_checked _ none) same = absurd (check_clash None None x text findings other checks none)
 does_once x asked also row other (rows.found findings text some checks) (rows.replied a _ replies) same = cc same
 does_once x asked also row other (not_checked _ none) (listed text lists) same = cc same
 does_once x asked also row other (not_checked _ none) (not_listed _ not) same = cc same
-does_once x asked also row other (not_checked _ none) (found_nothing text checks) same = absurd (check_clash None x text [] row checks none)
-does_once x asked also row other (not_checked _ none) (rows.found findings text some checks) same = absurd (check_clash None x text findings row checks none)
+does_once x asked also row other (not_checked _ none) (found_nothing text checks) same = absurd (check_clash None None x text [] row checks none)
+does_once x asked also row other (not_checked _ none) (rows.found findings text some checks) same = absurd (check_clash None None x text findings row checks none)
 does_once x asked also row other (not_checked _ none) (not_checked _ not) same = no_store_row x row none ∙ sym (no_store_row x other not)
 does_once x asked also row other (not_checked _ none) (rows.replied a _ replies) same = cc same
 does_once x asked also row other (rows.replied a _ replies) (listed text lists) same = cc same

@@ -52,14 +52,14 @@ pub list_refused : (x : List ℕ) (asked : SlotTask) (row : Row) → asked ≡ t
 list_refused x asked row same (inl not) = inl (subst (λ (k : SlotTask). DoesSlotTask x k row) (sym same) (not_listed row not))
 list_refused x asked row same (inr memory) = inr memory
 
-pub check_good : (x : List ℕ) (asked : SlotTask) (text : List ℕ) (good : Bool) → asked ≡ task.Check → Checked None x text good → good ≡ true
+pub check_good : (x : List ℕ) (asked : SlotTask) (text : List ℕ) (good : Bool) → asked ≡ task.Check → Checked None None x text good → good ≡ true
     → DoesSlotTask x asked (row_of 0 text)
 check_good x asked text good same (findings, checks, decides) is =
     let none = decides.0 is in
     subst (λ (k : SlotTask). DoesSlotTask x k (row_of 0 text)) (sym same)
-    (found_nothing text (subst (λ (f : List (List (List ℕ))). ChecksStore None x f text) none checks))
+    (found_nothing text (subst (λ (f : List (List (List ℕ))). ChecksStore None None x f text) none checks))
 
-pub check_bad : (x : List ℕ) (asked : SlotTask) (text : List ℕ) (good : Bool) → asked ≡ task.Check → Checked None x text good → good ≡ false
+pub check_bad : (x : List ℕ) (asked : SlotTask) (text : List ℕ) (good : Bool) → asked ≡ task.Check → Checked None None x text good → good ≡ false
     → DoesSlotTask x asked (row_of 1 text)
 check_bad x asked text good same (findings, checks, decides) is =
     subst (λ (k : SlotTask). DoesSlotTask x k (row_of 1 text)) (sym same)

@@ -63,7 +63,7 @@ list_0 x asked row (rows.found findings text some checks) same is = cc same
 list_0 x asked row (not_checked _ none) same is = cc same
 list_0 x asked row (rows.replied a _ replies) same is = cc same
 
-check_0 : (x : List ℕ) (asked : SlotTask) (row : Row) → DoesSlotTask x asked row → asked ≡ task.Check → row.status ≡ 0 → ChecksStore None x [] row.text
+check_0 : (x : List ℕ) (asked : SlotTask) (row : Row) → DoesSlotTask x asked row → asked ≡ task.Check → row.status ≡ 0 → ChecksStore None None x [] row.text
 check_0 x asked row (listed text lists) same is = cc same
 check_0 x asked row (not_listed _ not) same is = cc same
 check_0 x asked row (found_nothing text checks) same is = checks
@@ -72,7 +72,7 @@ check_0 x asked row (not_checked _ none) same is = absurd (omega (arith, no_stor
 check_0 x asked row (rows.replied a _ replies) same is = cc same
 
 check_1 : (x : List ℕ) (asked : SlotTask) (row : Row) → DoesSlotTask x asked row → asked ≡ task.Check → row.status ≡ 1
-    → (findings : List (List (List ℕ))) × (findings ≢ []) × ChecksStore None x findings row.text
+    → (findings : List (List (List ℕ))) × (findings ≢ []) × ChecksStore None None x findings row.text
 check_1 x asked row (listed text lists) same is = cc same
 check_1 x asked row (not_listed _ not) same is = cc same
 check_1 x asked row (found_nothing text checks) same is = absurd (omega (arith, is))
@@ -143,13 +143,13 @@ module _ (i : SlotInputs) (e : Ending) where
       (x, over.1, (row.text, list_0 x asked row does (same_task (slots_asked i.words) asked task.List over.0 asks) is, prints))
 
   check_at : slots_asked i.words ≡ Some (Ok task.Check) → (row : Row) → ComesOfSlots i row → row.status ≡ 0 → PrintsWhole e row.text
-      → OverFile i (λ x. (text : List ℕ) × ChecksStore None x [] text × PrintsWhole e text)
+      → OverFile i (λ x. (text : List ℕ) × ChecksStore None None x [] text × PrintsWhole e text)
   check_at asks row comes is prints =
       let (asked, x, over, does) = done_at 0 (inl refl) row comes is in
       (x, over.1, (row.text, check_0 x asked row does (same_task (slots_asked i.words) asked task.Check over.0 asks) is, prints))
 
   find_at : slots_asked i.words ≡ Some (Ok task.Check) → (row : Row) → ComesOfSlots i row → row.status ≡ 1 → PrintsWhole e row.text
-      → OverFile i (λ x. (findings : List (List (List ℕ))) × (text : List ℕ) × (findings ≢ []) × ChecksStore None x findings text × PrintsWhole e text)
+      → OverFile i (λ x. (findings : List (List (List ℕ))) × (text : List ℕ) × (findings ≢ []) × ChecksStore None None x findings text × PrintsWhole e text)
   find_at asks row comes is prints =
       let (asked, x, over, does) = done_at 1 (inr (inl refl)) row comes is in
       let (findings, some, checks) = check_1 x asked row does (same_task (slots_asked i.words) asked task.Check over.0 asks) is in

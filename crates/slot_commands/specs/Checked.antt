@@ -8,14 +8,14 @@ use Rattle.key_commands.specs.Opening.{TellsStoreFault}
 use Rattle.slot_commands.specs.StoreWords.{damaged_place_words}
 use Rattle.text_lines.specs.Written.{written}
 use Rattle.freshness_routes.specs.declared.routes.Route.{Route}
-use Rattle.slot_commands.specs.RouteFindings.{FindsAt}
+use Rattle.slot_commands.specs.RouteFindings.{FindsAt, lacking_lines}
 use Rattle.key_commands.specs.declared.finding.CountingStore.{CountingStore}
-use Rattle.slot_commands.specs.Stores.{FindsFrom, FindsInPlaces, FindsInStore, ChecksStore, written_lines}
+use Rattle.slot_commands.specs.Stores.{FindsFrom, FindsInPlaces, FindsLayout, ChecksStore, written_lines}
 
 -- the text of a check over these bytes, and whether nothing was found
-abbrev pub Checked : Option (List Route) → List ℕ → List ℕ → Bool → Type 0
-Checked routes x text good =
-    (findings : List (List (List ℕ))) × ChecksStore routes x findings text × (IsTrue good ↔ (findings ≡ []))
+abbrev pub Checked : Option CountingStore → Option (List Route) → List ℕ → List ℕ → Bool → Type 0
+Checked wanted routes x text good =
+    (findings : List (List (List ℕ))) × ChecksStore wanted routes x findings text × (IsTrue good ↔ (findings ≡ []))
 
 -- the lines of what is found of places were added: `what` says what stands at each, from the first on, of n
 abbrev pub PushesFindings : Option (List Route) → (ℕ → Option (List ℕ)) → ℕ → List ℕ → List ℕ → Type 0
@@ -27,10 +27,16 @@ abbrev pub PushesPlaces : Option (List Route) → List ℕ → CountingStore →
 PushesPlaces routes x found old new =
     (findings : List (List (List ℕ))) × FindsInPlaces routes x found findings × (new ≡ old ++ written_lines findings)
 
--- the lines of all that is found in a store were added
+-- the lines of what is found in the places of a store, and of the routes that have no cell, were added
 abbrev pub PushesFound : Option (List Route) → List ℕ → CountingStore → List ℕ → List ℕ → Type 0
 PushesFound routes x found old new =
-    (findings : List (List (List ℕ))) × FindsInStore routes x found findings × (new ≡ old ++ written_lines findings)
+    (findings : List (List (List ℕ))) × FindsInPlaces routes x found findings
+    × (new ≡ old ++ written_lines (findings ++ lacking_lines routes found.cells))
+
+-- the line of what is found of the kind and the version of a store was added, if anything is
+abbrev pub PushesLayout : Option CountingStore → CountingStore → List ℕ → List ℕ → Type 0
+PushesLayout wanted found old new =
+    (findings : List (List (List ℕ))) × FindsLayout found wanted findings × (new ≡ old ++ written_lines findings)
 
 -- what stands at a place has a finding, whose line was added; or none, and nothing was
 abbrev pub PushesFinding : Option (List Route) → ℕ → Option (List ℕ) → List ℕ → List ℕ → Type 0

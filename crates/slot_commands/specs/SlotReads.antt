@@ -23,12 +23,12 @@ pub record ReadsUnitStore (i : SlotInputs) (e : Ending) : Type 0 where
       → OverFile i (λ x. (text : List ℕ) × ListsStore x text × PrintsWhole e text)
   -- `check`: 0 exactly if nothing is wrong with a cell, and 1 exactly if something is; then each is printed.
   pub checked : slots_asked i.words ≡ Some (Ok task.Check) → e.status ≡ 0
-      → OverFile i (λ x. (text : List ℕ) × ChecksStore None x [] text × PrintsWhole e text)
+      → OverFile i (λ x. (text : List ℕ) × ChecksStore None None x [] text × PrintsWhole e text)
   pub found : slots_asked i.words ≡ Some (Ok task.Check) → e.status ≡ 1
       → OverFile i (λ x. (findings : List (List (List ℕ))) × (text : List ℕ) × (findings ≢ [])
-      × ChecksStore None x findings text × PrintsWhole e text)
+      × ChecksStore None None x findings text × PrintsWhole e text)
   pub found_only : (x text : List ℕ) (findings : List (List (List ℕ))) → OffersOver i task.Check x
-      → ChecksStore None x findings text → findings ≢ [] → MayEndIn 1 e
+      → ChecksStore None None x findings text → findings ≢ [] → MayEndIn 1 e
   -- `reply`: 0 with the line that the load printed. 1: the pair or the empty slot refuses it.
   pub replied : (asked : ReplyAsked) → slots_asked i.words ≡ Some (Ok (task.Reply asked))
       → (e.status ≡ 0) ⊎ (e.status ≡ 1)

@@ -20,7 +20,7 @@ pub record SlotInputs : Type 0 where
   pub file : Reading
 
 abbrev pub slots_usage : List ℕ
-slots_usage = line (codes "usage: station slots list, check, reply")
+slots_usage = line (codes "usage: station slots list, check, reply, make, grow")
 
 -- the line for the first value that isn't of its form
 abbrev pub slot_value_text : ℕ → List ℕ
@@ -42,8 +42,8 @@ OffersOver i asked x = (slots_asked i.words ≡ Some (Ok asked)) × Offers i.fil
 pub data DoesSlotTask (x : List ℕ) : SlotTask → Row → Type 0 where
   listed : (text : List ℕ) → ListsStore x text → DoesSlotTask x task.List (row_of 0 text)
   not_listed : (row : Row) → IsUnreadable x row → DoesSlotTask x task.List row
-  found_nothing : (text : List ℕ) → ChecksStore None x [] text → DoesSlotTask x task.Check (row_of 0 text)
-  found : (findings : List (List (List ℕ))) (text : List ℕ) → findings ≢ [] → ChecksStore None x findings text
+  found_nothing : (text : List ℕ) → ChecksStore None None x [] text → DoesSlotTask x task.Check (row_of 0 text)
+  found : (findings : List (List (List ℕ))) (text : List ℕ) → findings ≢ [] → ChecksStore None None x findings text
       → DoesSlotTask x task.Check (row_of 1 text)
   not_checked : (row : Row) → NoStoreIn x row → DoesSlotTask x task.Check row
   replied : (asked : ReplyAsked) (row : Row) → RepliesFrom x asked row → DoesSlotTask x (task.Reply asked) row

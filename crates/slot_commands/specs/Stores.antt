@@ -1,6 +1,6 @@
 -- What bytes are as the store of a unit: the list of what it holds, what is wrong with it, or why they are no store
 use Rattle.std.specs.Prelude.{◌≡◌, ℕ, ◌+◌, ◌<◌, ◌≤◌, Option, Some, None, List, [], ◌∷◌}
-use Rattle.std.specs.Prelude.{length, slice_index_or, ◌++◌}
+use Rattle.std.specs.Prelude.{length, slice_index_or, ◌++◌, codes}
 use Rattle.std.specs.List.{flat_map}
 use Rattle.cell_store.specs.declared.kinds.Kind.TheVariants.{Twin, Log}
 use Rattle.cell_store.specs.declared.faults.StoreFault.TheVariants as store
@@ -13,7 +13,7 @@ use Rattle.text_lines.specs.Written.{written}
 use Rattle.key_commands.specs.declared.finding.CountingStore.{CountingStore}
 use Rattle.key_commands.specs.Counting.{StoreThatCounts}
 use Rattle.key_commands.specs.Opening.{layout_of, fault_row, few_cells_row}
-use Rattle.slot_commands.specs.StoreWords.{store_words, damaged_place_words}
+use Rattle.slot_commands.specs.StoreWords.{store_words, store_line_words, damaged_place_words}
 use Rattle.slot_commands.specs.Cells.{slot_count, SaysCell}
 use Rattle.slot_commands.specs.RouteFindings.{FindsAt, lacking_lines}
 
@@ -66,7 +66,19 @@ pub data IsUnreadable (x : List ℕ) : Row → Type 0 where
       → store_size (layout_of found) found.cells ≤ length x
       → FirstDamaged (layout_of found) x found.cells place → IsUnreadable x (fault_row (store.Damaged place))
 
--- ---- a check, by itself or over the routes of the unit's node
+-- ---- a check, by itself or over what the bus file of the unit's node says of its store: kind, version and routes
+
+-- the line of the store that the node wants: `wanted KIND VERSION CELLS`
+abbrev pub wanted_words : CountingStore → List (List ℕ)
+wanted_words wanted = store_line_words (codes "wanted") wanted.kind wanted.version wanted.cells
+
+-- what is wrong with the kind and the version of the store that counts: they are those of the store that is wanted, if
+-- one is, or that one's line is the finding
+pub data FindsLayout (found : CountingStore) : Option CountingStore → List (List (List ℕ)) → Type 0 where
+  none_wanted : FindsLayout found None []
+  as_wanted : (wanted : CountingStore) → layout_of found ≡ layout_of wanted → FindsLayout found (Some wanted) []
+  another : (wanted : CountingStore) → ¬ (layout_of found ≡ layout_of wanted)
+      → FindsLayout found (Some wanted) (wanted_words wanted ∷ [])
 
 -- the findings of the places from one on, in their order: `what` says what stands at a place
 pub data FindsFrom (routes : Option (List Route)) (what : ℕ → Option (List ℕ))
@@ -94,19 +106,25 @@ pub data FindsInPlaces (routes : Option (List Route)) (x : List ℕ) (found : Co
   of_damaged_log : (place : ℕ) → found.kind ≡ Log → FirstDamaged (layout_of found) x found.cells place
       → FindsInPlaces routes x found (damaged_place_words place ∷ [])
 
--- all that it finds: of each place, and then each route that has no cell
-pub record FindsInStore (routes : Option (List Route)) (x : List ℕ) (found : CountingStore)
-    (findings : List (List (List ℕ))) : Type 0 where
+-- all that it finds: of kind and version, of each place, and then each route that has no cell
+pub record FindsInStore (wanted : Option CountingStore) (routes : Option (List Route)) (x : List ℕ)
+    (found : CountingStore) (findings : List (List (List ℕ))) : Type 0 where
+  pub of_layout : List (List (List ℕ))
   pub of_places : List (List (List ℕ))
+  pub finds_layout : FindsLayout found wanted of_layout
   pub finds : FindsInPlaces routes x found of_places
-  pub all : findings ≡ of_places ++ lacking_lines routes found.cells
+  pub all : findings ≡ of_layout ++ (of_places ++ lacking_lines routes found.cells)
 
--- the text of `slots check` over these bytes, and what it finds
-pub record ChecksStore (routes : Option (List Route)) (x : List ℕ) (findings : List (List (List ℕ)))
-    (text : List ℕ) : Type 0 where
-  pub found : CountingStore
+-- this store counts in the bytes, it has the fourteen slots, and the bytes have room for it
+pub record HasStoreToCheck (x : List ℕ) (found : CountingStore) : Type 0 where
   pub counts : StoreThatCounts x (Some found)
   pub wide : slot_count ≤ found.cells
   pub room : store_size (layout_of found) found.cells ≤ length x
-  pub finds : FindsInStore routes x found findings
+
+-- the text of `slots check` over these bytes, and what it finds
+pub record ChecksStore (wanted : Option CountingStore) (routes : Option (List Route)) (x : List ℕ)
+    (findings : List (List (List ℕ))) (text : List ℕ) : Type 0 where
+  pub found : CountingStore
+  pub has : HasStoreToCheck x found
+  pub finds : FindsInStore wanted routes x found findings
   pub text_is : text ≡ written_lines (head_words found ∷ findings)

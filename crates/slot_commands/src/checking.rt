@@ -1,21 +1,22 @@
-//! Which cells of a store are damaged or another's.
+//! What is wrong with a store: its kind and version, and which of its cells are damaged or another's.
 ghost use Rattle.std.specs.Prelude.{◌≡◌, ◌<◌, ◌≤◌, ◌⊎◌, ◌+◌, ◌^◌, [], length, slice_index_or, Some, None, OnOk, IfOk};
-ghost use Rattle.std.specs.Prelude.{IfErr, option_map};
+ghost use Rattle.std.specs.Prelude.{IfErr, IsTrue, ◌↔◌, option_map};
 ghost use Rattle.any_cells.specs.Either.{any_state};
 ghost use Rattle.cell_store.specs.declared.kinds.Kind.TheVariants.{Twin, Log};
 ghost use Rattle.cell_store.specs.Layout.{from_base};
 ghost use Rattle.cell_store.specs.Twin.{twin_size, cell_at};
 ghost use Rattle.cut_disk.specs.Memory.{disk_of};
 ghost use Rattle.cut_disk.specs.MemDisk.{contents};
+ghost use Rattle.key_commands.specs.Opening.{layout_of};
 ghost use Rattle.program_edge.specs.Rows.{memory_row};
 ghost use Rattle.slot_commands.specs.Checked.{Checked, PushesDamage, PushesFinding, PushesFindings, PushesFound};
-ghost use Rattle.slot_commands.specs.Checked.{PushesPlaces};
+ghost use Rattle.slot_commands.specs.Checked.{PushesPlaces, PushesLayout};
 ghost use Rattle.slot_commands.specs.StillDisks.{HasFound};
 ghost use Rattle.slot_commands.specs.Stores.{NoStoreIn, head_words};
 ghost use Rattle.text_lines.specs.Written.{written};
 
 use crate::cells::{Meaning, meaning_of, push_bad, push_damaged_place};
-use crate::listing::push_head;
+use crate::listing::{push_head, push_store_line};
 use crate::over_routes::{push_lacking, push_over_routes};
 use crate::reading::store_in;
 use crate::refusals::store_refusal;
@@ -28,22 +29,24 @@ use program_edge::Refusal;
 use std::alloc::{AllocError, Global};
 use store_plan::cell_in;
 
-/// The text of what is wrong with the cells of the store in these bytes, and whether nothing is. The first line is that
-/// of a list. If the routes of the unit's node are given, each cell after the slots is to hold the bound of its route,
-/// and each route is to have one. Errors: 9 and the first cause why no store counts there, or 7 if memory is out.
+/// The text of what is wrong with the store in these bytes, and whether nothing is. The first line is that of a list.
+/// If the store that the unit's node wants is given, the one that counts is to have its kind and version. If the node's
+/// routes are given, each cell after the slots is to hold the bound of its route, and each route is to have one.
+/// Errors: 9 and the first cause why no store counts there, or 7 if memory is out.
 pub fn check_bytes(
     alloc: Global,
     bytes: &[u8],
+    wanted: Option<CountingStore>,
     routes: Option<&[Route]>,
 ) -> Result<(Vec<u8>, bool), Refusal>
     requires { length bytes.now ≤ 2 ^ 24 }
-    ensures checked { IfOk result (λ r. Checked (option_map (λ r. r.now) routes.entry) bytes.now r.0.items r.1) }
+    ensures checked { IfOk result (λ r. Checked wanted (option_map (λ r. r.now) routes.entry) bytes.now r.0.items r.1) }
     ensures refused { IfErr result (λ row. NoStoreIn bytes.now row ⊎ (row ≡ memory_row)) }
 {
     let (found, disk) = store_in(alloc, bytes)?;
     let mut text = Vec::new(alloc);
     match push_head(&mut text, found) {
-        Ok(()) => findings_text(alloc, text, bytes, found, disk, routes),
+        Ok(()) => findings_text(alloc, text, bytes, found, disk, wanted, routes),
         Err(AllocError) => Err(Refusal::no_memory()),
     }
 }
@@ -55,20 +58,63 @@ fn findings_text(
     bytes: &[u8],
     found: CountingStore,
     disk: MemDisk,
+    wanted: Option<CountingStore>,
     routes: Option<&[Route]>,
 ) -> Result<(Vec<u8>, bool), Refusal>
     requires found { HasFound bytes.now found (disk_of (contents disk)) }
     requires head { text.items ≡ written (head_words found) }
-    ensures checked { IfOk result (λ r. Checked (option_map (λ r. r.now) routes.entry) bytes.now r.0.items r.1) }
+    ensures checked { IfOk result (λ r. Checked wanted (option_map (λ r. r.now) routes.entry) bytes.now r.0.items r.1) }
     ensures refused { IfErr result (λ row. row ≡ memory_row) }
 {
     let head = text.len();
+    push_layout(&mut text, found, wanted)?;
     push_findings(alloc, &mut text, bytes, found, disk, routes)?;
     let good = text.len() == head;
     Ok((text, good))
 }
 
-/// Adds a line for each thing that is wrong with the store that counts in these bytes. The disk has the same bytes.
+/// Adds the line of the store that is wanted, if one is, and the one that counts is of another kind or version.
+fn push_layout(
+    text: &mut Vec<u8>,
+    found: CountingStore,
+    wanted: Option<CountingStore>,
+) -> Result<(), Refusal>
+    ensures pushed { OnOk result (PushesLayout wanted found text.old.items text.new.items) }
+    ensures refused { IfErr result (λ row. row ≡ memory_row) }
+{
+    match wanted {
+        Some(wanted) => push_if_another(text, found, wanted),
+        None => Ok(()),
+    }
+}
+
+/// Adds the line of the store that is wanted, if the one that counts is of another kind or version.
+fn push_if_another(
+    text: &mut Vec<u8>,
+    found: CountingStore,
+    wanted: CountingStore,
+) -> Result<(), Refusal>
+    ensures pushed { OnOk result (PushesLayout (Some wanted) found text.old.items text.new.items) }
+    ensures refused { IfErr result (λ row. row ≡ memory_row) }
+{
+    if have_one_layout(found, wanted) {
+        return Ok(());
+    }
+    match push_store_line(text, b"wanted", wanted.kind, wanted.version, wanted.cells) {
+        Ok(()) => Ok(()),
+        Err(AllocError) => Err(Refusal::no_memory()),
+    }
+}
+
+/// Whether two stores are of one kind and one version.
+fn have_one_layout(one: CountingStore, other: CountingStore) -> bool
+    ensures { IsTrue result ↔ (layout_of one ≡ layout_of other) }
+{
+    one.kind == other.kind && one.version == other.version
+}
+
+/// Adds a line for each thing that is wrong with the cells of the store that counts in these bytes, and for each route
+/// that has none. The disk has the same bytes.
 fn push_findings(
     alloc: Global,
     text: &mut Vec<u8>,

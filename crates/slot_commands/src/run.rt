@@ -72,7 +72,7 @@ fn do_task(alloc: Global, task: &SlotTask, bytes: &[u8]) -> Result<(Vec<u8>, u8)
             Ok((text, DONE))
         }
         SlotTask::Check => {
-            let (text, good) = check_bytes(alloc, bytes, None)?;
+            let (text, good) = check_bytes(alloc, bytes, None, None)?;
             if good {
                 Ok((text, DONE))
             } else {

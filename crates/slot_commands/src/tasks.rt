@@ -29,7 +29,7 @@ pub enum SlotTask {
     Reply(ReplyAsked),
 }
 
-const USAGE: &str = "usage: station slots list, check, reply\n";
+const USAGE: &str = "usage: station slots list, check, reply, make, grow\n";
 
 /// The task of these words, or the first refusal: 2 if they are malformed, 3 with the first value that isn't of its
 /// form. The file is value 1.

@@ -14,6 +14,7 @@ use Rattle.slot_commands.specs.SlotReads.{ReadsUnitStore}
 use Rattle.bus_store_commands.specs.BusWords.{asks_over_bus, file_over_bus}
 use Rattle.bus_store_commands.specs.ChecksOverBus.{ChecksOverBus}
 use Rattle.bus_store_commands.specs.GrowsOverBus.{GrowsOverBus}
+use Rattle.bus_store_commands.specs.MakesUnitStore.{MakesUnitStore}
 use Rattle.ledger_commands.specs.LedgerRows.{words_named}
 use Rattle.ledger_commands.specs.LedgerReads.{ReadsLedgerFiles}
 use Rattle.ledger_commands.specs.Named.{OverAllNamed}
@@ -21,9 +22,9 @@ use Rattle.adopt_commands.specs.AdoptsOver.{AdoptsOver}
 use Rattle.keyfile_commands.specs.Calls.{first_file, second_file}
 use Rattle.keyfile_commands.specs.KeyFilesRuns.{KeyFilesRuns}
 use Rattle.station_commands.specs.declared.run.StationPart.{StationPart}
-use Rattle.station_commands.specs.declared.run.StationPart.TheVariants.{Slots, BusCheck, Growth, Ledger, Adoption, Key}
+use Rattle.station_commands.specs.declared.run.StationPart.TheVariants.{Slots, BusCheck, Making, Growth, Ledger, Adoption, Key}
 use Rattle.station_commands.specs.declared.run.StationFiles.{StationFiles}
-use Rattle.station_commands.specs.declared.run.StationFiles.TheVariants.{Store, StoreAndBus, Grown, Ledgers, Adopted, Keys}
+use Rattle.station_commands.specs.declared.run.StationFiles.TheVariants.{Store, StoreAndBus, Made, Grown, Ledgers, Adopted, Keys}
 use Rattle.station_commands.specs.declared.run.StationFiles.TheVariants.{Nothing}
 
 -- the line that is printed if the first argument is none of the program's
@@ -33,7 +34,8 @@ station_usage = line (codes "usage: station slots, ledger, key")
 -- what arguments name after `slots`, of which this is the first
 abbrev pub slot_part : List ℕ → Bool → StationPart
 slot_part word checks_over_bus =
-    if bytes_eq word (codes "grow") then Growth else if checks_over_bus then BusCheck else Slots
+    if bytes_eq word (codes "make") then Making else if bytes_eq word (codes "grow") then Growth
+    else if checks_over_bus then BusCheck else Slots
 
 -- what a second argument names after `ledger`
 abbrev pub ledger_part : List ℕ → StationPart
@@ -67,6 +69,17 @@ RunsPart opens disk_opens state disk words o (Some BusCheck) (StoreAndBus file b
     (state file) (state bus)
     (λ store wanted. ChecksOverBus (record { words = words; file = store; bus = wanted }) e)
     × (o.disks_after ≡ o.disks_before)
+RunsPart opens disk_opens state disk words o (Some Making) (Made bus left) e =
+    OverNamed opens o.before o.after (file_over_bus (codes "make") words 2) (state bus)
+    (λ it. (opened : Option DiskState) × MakesUnitStore disk_opens
+    (record {
+      words = words;
+      bus = it;
+      disks_before = o.disks_before;
+      disks_after = o.disks_after;
+      opened = opened;
+      left = option_map disk left;
+    }) e)
 RunsPart opens disk_opens state disk words o (Some Growth) (Grown bus left) e =
     OverNamed opens o.before o.after (file_over_bus (codes "grow") words 2) (state bus)
     (λ it. GrowsOverBus disk_opens o.disks_before o.disks_after (record { words = words; bus = it }) (option_map disk left) e)

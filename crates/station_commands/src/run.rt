@@ -7,7 +7,7 @@ ghost use Rattle.station_commands.specs.Station.{station_usage};
 
 use adopt_commands::adopts_words;
 use bus_port::{Sink, Source};
-use bus_store_commands::{asks_over_bus, bus_check_words, grow_words};
+use bus_store_commands::{asks_over_bus, bus_check_words, grow_words, make_words};
 use cut_disk::CutDisk;
 use file_disk::DiskOpener;
 use keyfile_commands::keyfile_words;
@@ -23,6 +23,8 @@ pub enum StationPart {
     Slots,
     /// `slots check FILE BUS`: what is wrong with a store over the routes of its node.
     BusCheck,
+    /// `slots make`: a store for the routes of a node's bus.
+    Making,
     /// `slots grow`: cells for the routes that a node's bus has more.
     Growth,
     /// `ledger`: what ledgers hold.
@@ -40,6 +42,8 @@ pub enum StationFiles<O: Source, I: Source, D: CutDisk> {
     Store(WordSource<O, I>),
     /// That of a unit's store, and that of a bus file.
     StoreAndBus(WordSource<O, I>, WordSource<O, I>),
+    /// That of a bus file, and the disk of a store that was to be made, if it was opened.
+    Made(WordSource<O, I>, Option<D>),
     /// That of a bus file, and the disk of a store that was to grow, if it was opened.
     Grown(WordSource<O, I>, Option<D>),
     /// Those of the ledgers that were opened.
@@ -87,6 +91,10 @@ pub fn station_words<O: Opener, P: DiskOpener, I: Source + Drop, K: Sink>(
         StationPart::BusCheck => {
             let (status, file, bus) = bus_check_words(alloc, opener, input, rest, sink);
             (status, StationFiles::StoreAndBus(file, bus))
+        }
+        StationPart::Making => {
+            let (status, bus, disk) = make_words(alloc, opener, disk_opener, input, rest, sink);
+            (status, StationFiles::Made(bus, disk))
         }
         StationPart::Growth => {
             let (status, bus, disk) = grow_words(alloc, opener, disk_opener, input, rest, sink);
@@ -153,7 +161,9 @@ fn part_named(name: &str, next: &str, checks_over_bus: bool) -> Option<StationPa
 fn slot_part(name: &str, checks_over_bus: bool) -> StationPart
     ensures { result ≡ slot_part name.now checks_over_bus }
 {
-    if name == "grow" {
+    if name == "make" {
+        StationPart::Making
+    } else if name == "grow" {
         StationPart::Growth
     } else if checks_over_bus {
         StationPart::BusCheck

@@ -18,5 +18,5 @@ returns-in_err-bytes g c =
 
 pub returns : goal.returns
 returns g c =
-    check_done _ _ _ _ _ c.check_over_routes.result (sym c.asks_over_bus.ensures ∙ c.if-not-asks_over_bus.false) c.in_ok-bus.ensures c.in_ok-bytes.ensures.ok c.as_slice.ensures.value c.node_routes.ensures
-    c.check_over_routes.ensures.done c.check_over_routes.ensures.refused
+    check_done _ _ _ _ c.check_over_bus.result (sym c.asks_over_bus.ensures ∙ c.if-not-asks_over_bus.false) c.in_ok-bus.ensures c.in_ok-bytes.ensures.ok
+    c.as_slice.ensures.value c.check_over_bus.ensures.done c.check_over_bus.ensures.refused

@@ -1,4 +1,3 @@
--- Not checked yet
 use Rattle.bus_store_commands.proofs.MakePhases.{line_made}
 use Rattle.bus_store_commands.proofs.make.made_line.Goals as goal
 

@@ -1,4 +1,3 @@
--- Not checked yet: the form is grow_named's
 use Rattle.std.proofs.Common.{refl}
 use Rattle.bus_store_commands.specs.MakeSteps.{no_disk, over_disk}
 use Rattle.bus_store_commands.proofs.make.make_named.Goals as goal

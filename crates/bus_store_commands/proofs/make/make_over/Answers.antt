@@ -1,4 +1,3 @@
--- Not checked yet
 use Rattle.bus_store_commands.proofs.MakePhases.{row_made, row_unmade}
 use Rattle.bus_store_commands.proofs.make.make_over.Goals as goal
 

@@ -1,4 +1,3 @@
--- Not checked yet: the form is grow_words'
 use Rattle.std.proofs.Common.{refl}
 use Rattle.program_edge.specs.NamedSources.{word_source}
 use Rattle.bus_store_commands.proofs.MakePhases.{job_lacking, job_done}

@@ -1,4 +1,3 @@
--- Not checked yet: the form is bus_programs' node_routes
 use Rattle.bus_store_commands.proofs.MakePhases.{one_config, one_is_config}
 use Rattle.bus_store_commands.proofs.make.node_config.Goals as goal
 

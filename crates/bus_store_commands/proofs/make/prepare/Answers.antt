@@ -1,4 +1,3 @@
--- Not checked yet
 use Rattle.std.proofs.Common.{refl, sym, ◌∙◌}
 use Rattle.std.proofs.lemmas.Result.{err_from_is_err_and}
 use Rattle.bus_store_commands.proofs.MakePhases.{make_words_refused, make_node_lacking, make_room_lacking}

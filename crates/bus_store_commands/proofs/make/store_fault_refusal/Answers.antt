@@ -1,4 +1,3 @@
--- Not checked yet
 use Rattle.bus_store_commands.proofs.MakePhases.{told_fault_row}
 use Rattle.bus_store_commands.proofs.make.store_fault_refusal.Goals as goal
 

@@ -1,8 +1,8 @@
 use Rattle.std.proofs.Common.{◌≡◌, Some, None, map, refl, rules}
 use Rattle.std.specs.Prelude.{string_bytes, option_map}
 use Rattle.program_edge.specs.NamedSources.{word_source, openings}
-use Rattle.station_commands.specs.declared.run.StationPart.TheVariants.{Slots, BusCheck, Growth, Ledger, Adoption, Key}
-use Rattle.station_commands.specs.declared.run.StationFiles.TheVariants.{Store, StoreAndBus, Grown, Ledgers, Adopted, Keys, Nothing}
+use Rattle.station_commands.specs.declared.run.StationPart.TheVariants.{Slots, BusCheck, Making, Growth, Ledger, Adoption, Key}
+use Rattle.station_commands.specs.declared.run.StationFiles.TheVariants.{Store, StoreAndBus, Made, Grown, Ledgers, Adopted, Keys, Nothing}
 use Rattle.station_commands.specs.Station.{part_of}
 use Rattle.station_commands.proofs.Parts.{of_part}
 use Rattle.station_commands.proofs.run.station_words.Goals as goal
@@ -51,6 +51,21 @@ returns-in-BusCheck g c =
     (Some BusCheck) (StoreAndBus c.bus_check_words-status.result.1 c.bus_check_words-status.result.2)
     (record { before = g.K.Sink.state c.args.sink.now; after = g.K.Sink.state c.bus_check_words-status.new.sink; status = c.bus_check_words-status.result.0 })
     part_is c.after_part-rest.ensures (c.bus_check_words-status.ensures, refl)
+
+pub returns-in-Making : goal.returns-in-Making
+returns-in-Making g c =
+    let part_is : Some Making ≡ part_of (map string_bytes c.args.words.now) = cc (c.in-Some.ensures, c.in-Making.is) in
+    of_part (g.O.Opener.opens c.args.opener.now) (g.P.DiskOpener.opens c.args.disk_opener.now) (word_source g.O.Opened.Source.state g.I.Source.state)
+    g.P.Opened.Disk.state (map string_bytes c.args.words.now) (map string_bytes c.after_part-rest.result.now)
+    (record {
+      before = openings (g.O.Opener.opened c.args.opener.now) (option_map g.I.Source.state c.args.input.now);
+      after = openings (g.O.Opener.opened c.make_words-status.new.opener) (option_map g.I.Source.state c.make_words-status.new.input);
+      disks_before = g.P.DiskOpener.opened c.args.disk_opener.now;
+      disks_after = g.P.DiskOpener.opened c.make_words-status.new.disk_opener;
+    })
+    (Some Making) (Made c.make_words-status.result.1 c.make_words-status.result.2)
+    (record { before = g.K.Sink.state c.args.sink.now; after = g.K.Sink.state c.make_words-status.new.sink; status = c.make_words-status.result.0 })
+    part_is c.after_part-rest.ensures c.make_words-status.ensures
 
 pub returns-in-Growth : goal.returns-in-Growth
 returns-in-Growth g c =
