@@ -91,13 +91,6 @@ pub check_refused : (bus : NamedBus) (x : List ℕ) (row : Row) → NoStoreIn x 
 check_refused bus x row (inl none) = inl (not_checked row none)
 check_refused bus x row (inr memory) = inr memory
 
--- the store that a bus wants
-pub is_wanted : (bus : NamedBus) (cells : ℕ) (routes : List Route) → cells ≡ length routes + 14 → routes ≡ routes_of bus
-    → counting_store bus.kind bus.version cells ≡ wanted_store bus
-is_wanted bus cells routes is are =
-    let number : cells ≡ slot_count + length (routes_of bus) = omega (arith, is, ap (λ (r : List Route). length r) are) in
-    ap (counting_store bus.kind bus.version) number
-
 -- ---- a run
 
 -- what was told of a text that comes

@@ -5,6 +5,8 @@ ghost use Rattle.program_edge.specs.Rows.{row_of, memory_row};
 ghost use Rattle.bus_store_commands.specs.CheckRows.{wanted_store, DoesBusCheck, AnswersBusCheck};
 ghost use Rattle.bus_store_commands.specs.ChecksOverBus.{ChecksOverBus};
 
+use crate::make::node_config;
+use crate::making::cells_of;
 use crate::node_buses::node_bus_from;
 use crate::words::asks_over_bus;
 use bus_config::BusConfig;
@@ -96,6 +98,6 @@ fn wanted_store(bus: &BusConfig) -> CountingStore
     CountingStore {
         kind: bus.kind(),
         version: bus.version(),
-        cells: 14 + node_routes(bus).len() as u16,
+        cells: cells_of(node_config(bus)),
     }
 }

@@ -103,7 +103,7 @@ fn made_line(alloc: Global, bus: &BusConfig) -> Result<Vec<u8>, AllocError>
 }
 
 /// The configuration of the one node of a bus.
-fn node_config(bus: &BusConfig) -> &NodeConfig
+pub(crate) fn node_config(bus: &BusConfig) -> &NodeConfig
     requires { length bus.now.nodes ≡ 1 }
     ensures config { result.now ≡ config_named bus.now }
     ensures good { IsConfig result.now }
