@@ -35,11 +35,13 @@ pub fn chart_words<O: Opener, I: Source + Drop, K: Sink>(
         (record { before = K.state sink.old; after = K.state sink.new; status = result.0 }) }
 {
     if words.is_empty() {
-        let Ok((words, mut disks)) = example_inputs(alloc, &WORDS, 8) else {
+        let Ok(example) = example_inputs(alloc, &WORDS, 8) else {
             return unopened(NO_MEMORY);
         };
-        let (mut config, mut script) = (TextSource::new(BUS), TextSource::new(SCRIPT));
-        let status = run_chart(alloc, words.as_slice(), &mut config, &mut script, sink, &mut disks);
+        let (given, mut disks) = example;
+        let mut config = TextSource::new(BUS);
+        let mut script = TextSource::new(SCRIPT);
+        let status = run_chart(alloc, given.as_slice(), &mut config, &mut script, sink, &mut disks);
         return unopened(status);
     }
     let Ok(mut disks) = disks_if(alloc, words.len() == 2, 8) else {

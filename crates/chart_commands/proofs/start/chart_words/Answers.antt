@@ -30,7 +30,7 @@ returns-then-is_empty g c =
         config = Offers-clean i.config BUS.now (ap told c.new-config.ensures) (omega (arith, bus_size)) refl;
         script = Offers-clean i.script SCRIPT.now (ap told c.new-script.ensures) (omega (arith, script_size)) refl;
       };
-      ran = record { made = c.in-Ok.disks; left = c.run_chart-status.new.disks; given = λ asks. c.in-Ok.ensures.disks; runs = c.run_chart-status.ensures };
+      ran = record { made = c.in-Ok.example.1; left = c.run_chart-status.new.disks; given = λ asks. c.in-Ok.ensures.disks; runs = c.run_chart-status.ensures };
     })))
 
 pub returns-in_default-2 : goal.returns-in_default-2
@@ -52,6 +52,6 @@ returns g c =
         opened_once = c.open_two-config.ensures.left;
         one_left = refl;
         other_left = refl;
-        has = record { made = c.in-Ok.disks; left = c.run_chart-status.new.disks; given = λ asks. c.in-Ok.ensures.given (two_asked string_bytes c.args.words.now asks); runs = c.run_chart-status.ensures };
+        has = record { made = c.in-Ok.example.1; left = c.run_chart-status.new.disks; given = λ asks. c.in-Ok.ensures.given (two_asked string_bytes c.args.words.now asks); runs = c.run_chart-status.ensures };
       };
     }))

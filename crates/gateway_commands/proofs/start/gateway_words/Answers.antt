@@ -30,7 +30,7 @@ returns-then-is_empty g c =
         config = Offers-clean i.config BUS.now (ap told c.new-config.ensures) (omega (arith, bus_size)) refl;
         script = Offers-clean i.script SCRIPT.now (ap told c.new-script.ensures) (omega (arith, script_size)) refl;
       };
-      ran = record { made = c.in-Ok.disks; left = c.run_gateway-status.new.disks; given = λ asks. c.in-Ok.ensures.disks; runs = c.run_gateway-status.ensures };
+      ran = record { made = c.in-Ok.example.1; left = c.run_gateway-status.new.disks; given = λ asks. c.in-Ok.ensures.disks; runs = c.run_gateway-status.ensures };
     })))
 
 pub returns-in_default-2 : goal.returns-in_default-2
