@@ -10,9 +10,9 @@ use file_disk::{DiskOpener, open_disks};
 use program_edge::{MissingSource, NO_MEMORY, Opener, WordSource, open_word, two_words};
 use std::alloc::Global;
 
-/// Runs the script that the first of two arguments names over the disk that the second opens, as [`run_campaign`] does;
-/// without an argument the example. It gives the status that the program ends with, and the script's source and the disk
-/// as the campaign left them.
+/// Runs the script that the first of two arguments names over the disk that the second opens, as [`run_campaign`]
+/// does; without an argument the example. It gives the status that the program ends with, and the script's source and
+/// the disk as the campaign left them.
 pub fn campaign_words<O: Opener, P: DiskOpener, I: Source + Drop, K: Sink>(
     alloc: Global,
     opener: &mut O,

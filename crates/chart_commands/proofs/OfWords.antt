@@ -1,6 +1,6 @@
 -- What comes of the words of a chart, and that the disks that are made for it are enough
 use Rattle.std.specs.Prelude.{◌≡◌, ℕ, ◌==◌, true, List, length, map}
-use Rattle.std.proofs.Common.{refl, arith, ap, sym, ◌∙◌}
+use Rattle.std.proofs.Common.{arith, ap, sym, ◌∙◌}
 use Rattle.std.proofs.lemmas.List.{length-map}
 use Rattle.bus_port.specs.Source.{SourceState}
 use Rattle.program_edge.specs.Endings.{Ending}

@@ -1,7 +1,6 @@
 //! The arguments of the command line, without the program's name.
 ghost use Rattle.std.specs.Prelude.{◌≡◌, ◌⊎◌, ◌<◌, ◌≤◌, [], length, map as each, option_map, string_bytes};
 ghost use Rattle.std.specs.Prelude.{IfOk, OnErr};
-ghost use Rattle.file_disk.specs.NamedDisks.{DisksAreNamed};
 ghost use Rattle.key_commands.specs.declared.example.TheConstants.{EXAMPLE};
 ghost use Rattle.key_commands.specs.declared.subcommands.Subcommand.TheVariants.{Load};
 ghost use Rattle.key_commands.specs.Subcommands.{NamesSubcommand};
@@ -16,8 +15,8 @@ use file_disk::{DiskOpener, open_disks};
 use program_edge::NO_MEMORY;
 use std::alloc::{AllocError, Global};
 
-/// Runs the subcommand that the arguments ask for, as [`run_key`](crate::run_key) does, over the disk that the FILE of a
-/// load opens; without an argument the example. It gives the status that the program ends with, and that disk as the
+/// Runs the subcommand that the arguments ask for, as [`run_key`](crate::run_key) does, over the disk that the FILE of
+/// a load opens; without an argument the example. It gives the status that the program ends with, and that disk as the
 /// command left it. If there is no memory for the disk, nothing is read, written or opened.
 pub fn key_words<P: DiskOpener, S: Source, K: Sink>(
     alloc: Global,

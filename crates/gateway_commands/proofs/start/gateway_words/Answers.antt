@@ -1,4 +1,4 @@
-use Rattle.std.proofs.Common.{◌≡◌, ◌∙◌, [], length, map, ap, refl, sym, arith, inl, inr}
+use Rattle.std.proofs.Common.{◌≡◌, ◌∙◌, length, map, ap, refl, sym, arith, inl, inr}
 use Rattle.std.specs.Prelude.{string_bytes, Some}
 use Rattle.bus_port.specs.MemSource.{CleanSourceState, clean_source}
 use Rattle.program_edge.specs.NamedSources.{word_source}
