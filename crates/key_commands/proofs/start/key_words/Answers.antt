@@ -1,7 +1,6 @@
 use Rattle.std.proofs.Common.{◌∙◌, map, ap, refl, inl, inr}
 use Rattle.std.specs.Prelude.{string_bytes}
 use Rattle.program_edge.proofs.CallerLemmas.{EndsInRow-memory}
-
 use Rattle.key_commands.specs.declared.subcommands.Subcommand.TheVariants.{Make}
 use Rattle.key_commands.specs.Rows.{ComesOfWords, no_memory}
 use Rattle.key_commands.proofs.LoadAlone.{load_alone, example_alone}
