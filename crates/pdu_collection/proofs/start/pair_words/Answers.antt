@@ -21,9 +21,9 @@ returns-then-is_empty-clause-example g c none =
 pub returns-clause-named : goal.returns-clause-named
 returns-clause-named g c some =
     let state = word_source g.O.Opened.Source.state g.I.Source.state in record {
-      source = record { before = state c.open_one-script.result; after = state c.run_pairs-status.new.script };
+      source = record { before = state c.open_one-script.result; after = state c.run_pairs-status-2.new.script };
       named = c.open_one-script.ensures.named;
       opened_once = c.open_one-script.ensures.left;
       left_is = refl;
-      has = c.run_pairs-status.ensures;
+      has = c.run_pairs-status-2.ensures;
     }
