@@ -23,7 +23,7 @@ returns-in_default g c =
       status_is = refl;
       unopened = record { sources = refl; disks = c.in_default.ensures.unopened };
       script_unopened = ap missing_source c.new-missing.ensures;
-      disk_unopened = ap (map g.P.Opened.Disk.state) c.new.ensures.items;
+      disk_unopened = ap (map g.P.Opened.Disk.state) c.new-in_default.ensures.items;
       runs = wants_memory words (missing_source 0) [] (g.K.Sink.state c.args.sink.now) two;
     })
 

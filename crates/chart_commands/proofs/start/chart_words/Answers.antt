@@ -12,7 +12,7 @@ use Rattle.chart_commands.proofs.start.chart_words.Goals as goal
 
 pub returns-in_default : goal.returns-in_default
 returns-in_default g c =
-    let none = c.unopened-in_default.ensures in
+    let none = c.unopened.ensures in
     let empty = no_words string_bytes c.args.words.now (sym c.is_empty.ensures ∙ c.if-is_empty.true) in
     chart_told (ran_nothing (inr empty) (unopened_wants none.status none.config none.script))
 
@@ -23,7 +23,7 @@ returns-then-is_empty g c =
     let told = λ (s : CleanSourceState). Some s.left in
     let i : BusInputs = inputs_of (map string_bytes c.as_slice.result.now) (clean_source c.new-config.result) (clean_source c.run_chart-status.new.config)
     (clean_source c.new-script.result) (clean_source c.run_chart-status.new.script) in
-    chart_told (ran_example (no_words string_bytes c.args.words.now (sym c.is_empty.ensures ∙ c.if-is_empty.true)) refl (rw c.unopened.ensures.status (record {
+    chart_told (ran_example (no_words string_bytes c.args.words.now (sym c.is_empty.ensures ∙ c.if-is_empty.true)) refl (rw c.unopened-in-Ok.ensures.status (record {
       inputs = i;
       is = record {
         words_are = ap (map string_bytes) c.as_slice.ensures.value ∙ c.in-Ok.ensures.words;
@@ -33,9 +33,9 @@ returns-then-is_empty g c =
       ran = record { made = c.in-Ok.example.1; left = c.run_chart-status.new.disks; given = λ asks. c.in-Ok.ensures.disks; runs = c.run_chart-status.ensures };
     })))
 
-pub returns-in_default-2 : goal.returns-in_default-2
-returns-in_default-2 g c = 
-    let none = c.unopened-in_default-2.ensures in
+pub returns-in_default-disks_if : goal.returns-in_default-disks_if
+returns-in_default-disks_if g c =
+    let none = c.unopened-in_default-disks_if.ensures in
     chart_told (ran_nothing (inl _) (unopened_wants none.status none.config none.script))
 
 pub returns : goal.returns
@@ -46,12 +46,12 @@ returns g c =
       script = _;
       names = (refl, refl);
       over = record {
-        one = record { before = state c.open_two-config.result.0; after = state c.run_chart-status.new.config };
-        other = record { before = state c.open_two-config.result.1; after = state c.run_chart-status.new.script };
+        one = record { before = state c.open_two-config.result.0; after = state c.run_chart-status-in-Ok-disks_if.new.config };
+        other = record { before = state c.open_two-config.result.1; after = state c.run_chart-status-in-Ok-disks_if.new.script };
         named = c.open_two-config.ensures.named;
         opened_once = c.open_two-config.ensures.left;
         one_left = refl;
         other_left = refl;
-        has = record { made = c.in-Ok.example.1; left = c.run_chart-status.new.disks; given = λ asks. c.in-Ok.ensures.given (two_asked string_bytes c.args.words.now asks); runs = c.run_chart-status.ensures };
+        has = record { made = c.in-Ok-disks_if.example.1; left = c.run_chart-status-in-Ok-disks_if.new.disks; given = λ asks. c.in-Ok-disks_if.ensures.given (two_asked string_bytes c.args.words.now asks); runs = c.run_chart-status-in-Ok-disks_if.ensures };
       };
     }))

@@ -12,7 +12,7 @@ use Rattle.gateway_commands.proofs.start.gateway_words.Goals as goal
 
 pub returns-in_default : goal.returns-in_default
 returns-in_default g c =
-    let none = c.unopened-in_default.ensures in
+    let none = c.unopened.ensures in
     let empty = no_words string_bytes c.args.words.now (sym c.is_empty.ensures ∙ c.if-is_empty.true) in
     gateway_told (ran_nothing (inr empty) (unopened_wants none.status none.config none.script))
 
@@ -23,7 +23,7 @@ returns-then-is_empty g c =
     let told = λ (s : CleanSourceState). Some s.left in
     let i : BusInputs = inputs_of (map string_bytes c.as_slice.result.now) (clean_source c.new-config.result) (clean_source c.run_gateway-status.new.config)
     (clean_source c.new-script.result) (clean_source c.run_gateway-status.new.script) in
-    gateway_told (ran_example (no_words string_bytes c.args.words.now (sym c.is_empty.ensures ∙ c.if-is_empty.true)) refl (rw c.unopened.ensures.status (record {
+    gateway_told (ran_example (no_words string_bytes c.args.words.now (sym c.is_empty.ensures ∙ c.if-is_empty.true)) refl (rw c.unopened-in-Ok.ensures.status (record {
       inputs = i;
       is = record {
         words_are = ap (map string_bytes) c.as_slice.ensures.value ∙ c.in-Ok.ensures.words;
@@ -33,15 +33,15 @@ returns-then-is_empty g c =
       ran = record { made = c.in-Ok.example.1; left = c.run_gateway-status.new.disks; given = λ asks. c.in-Ok.ensures.disks; runs = c.run_gateway-status.ensures };
     })))
 
-pub returns-in_default-2 : goal.returns-in_default-2
-returns-in_default-2 g c =
-    let none = c.unopened-in_default-2.ensures in
-    gateway_told (ran_nothing (inl c.in_default.ensures.wanted) (unopened_wants none.status none.config none.script))
+pub returns-in_default-asked_pairs : goal.returns-in_default-asked_pairs
+returns-in_default-asked_pairs g c =
+    let none = c.unopened-in_default-asked_pairs.ensures in
+    gateway_told (ran_nothing (inl c.in_default-asked_pairs.ensures.wanted) (unopened_wants none.status none.config none.script))
 
 pub returns-in_default-disks_if : goal.returns-in_default-disks_if
 returns-in_default-disks_if g c =
     let none = c.unopened-in_default-disks_if.ensures in
-    let asks = asks_from_is_some (map string_bytes c.args.words.now) c.in-Ok.asked c.in-Ok.ensures.asked (sym c.is_some-2.ensures ∙ c.in_default-disks_if.ensures.wanted) in
+    let asks = asks_from_is_some (map string_bytes c.args.words.now) c.in-Ok-asked_pairs.asked c.in-Ok-asked_pairs.ensures.asked (sym c.is_some-2.ensures ∙ c.in_default-disks_if.ensures.wanted) in
     gateway_told (ran_nothing (inl asks) (unopened_wants none.status none.config none.script))
 
 pub returns : goal.returns
@@ -62,8 +62,8 @@ returns g c =
         has = record {
           made = c.in-Ok-disks_if.disks;
           left = c.run_asked-status.new.disks;
-          given = λ asks. c.in-Ok-disks_if.ensures.given (c.is_some-2.ensures ∙ is_some_from_asks words c.in-Ok.asked c.in-Ok.ensures.asked asks);
-          runs = c.run_asked-status.ensures words c.in-Ok.ensures.asked;
+          given = λ asks. c.in-Ok-disks_if.ensures.given (c.is_some-2.ensures ∙ is_some_from_asks words c.in-Ok-asked_pairs.asked c.in-Ok-asked_pairs.ensures.asked asks);
+          runs = c.run_asked-status.ensures words c.in-Ok-asked_pairs.ensures.asked;
         };
       };
     }))

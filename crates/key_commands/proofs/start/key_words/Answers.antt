@@ -23,20 +23,20 @@ returns-then-is_empty-clause-load_alone g c high =
 
 pub returns-clause-named : goal.returns-clause-named
 returns-clause-named g c some = inl (record {
-  disks = c.in-Ok.disks.items;
-  named = c.in-Ok.ensures.named;
-  runs = c.run_asked-status.ensures;
+  disks = c.in-Ok-open_named.disks.items;
+  named = c.in-Ok-open_named.ensures.named;
+  runs = c.run_asked-status-in-Ok-open_named.ensures;
 })
 
 pub returns-clause-load_alone : goal.returns-clause-load_alone
-returns-clause-load_alone g c high = load_alone _ _ c.run_asked-status.ensures high
+returns-clause-load_alone g c high = load_alone _ _ c.run_asked-status-in-Ok-open_named.ensures high
 
-pub returns-in_default-2-clause-named : goal.returns-in_default-2-clause-named
-returns-in_default-2-clause-named g c some = inr (record {
-  asks = c.in_default.ensures.asks;
+pub returns-in_default-open_named-clause-named : goal.returns-in_default-open_named-clause-named
+returns-in_default-open_named-clause-named g c some = inr (record {
+  asks = c.in_default-open_named.ensures.asks;
   status_is = refl;
   unwritten = refl;
   unread = refl;
-  no_disk = ap (map g.P.Opened.Disk.state) c.new.ensures.items;
-  unopened = c.in_default.ensures.unopened;
+  no_disk = ap (map g.P.Opened.Disk.state) c.new-in_default-open_named.ensures.items;
+  unopened = c.in_default-open_named.ensures.unopened;
 })
