@@ -276,8 +276,8 @@ pub words_told : {Asks Malformed : List (List ℕ) → Type 0}
     → {back : SourcesBack} → {words : List (List ℕ)} → {e : Ending} → Malformed [] → (Asks words → ¬ Malformed words)
     → ((i : BusInputs) → Runs i e → StatusesOf Malformed i.words e.status)
     → RunOfWords Asks Names Example Runs opens before after back words e → StatusesOf Malformed words e.status
-words_told {Malformed = Malformed} none apart each (ran_example empty same ran) = record {
-  usage = λ two. subst Malformed (sym empty) none;
+words_told none apart each (ran_example empty same ran) = record {
+  usage = λ two. rw empty none;
   usage_only = λ some malformed. absurd (some empty);
   starts = (each ran.inputs ran.ran).starts;
 }
