@@ -23,7 +23,7 @@ returns-then-is_empty g c =
     let told = λ (s : CleanSourceState). Some s.left in
     let i : BusInputs = inputs_of (map string_bytes c.as_slice.result.now) (clean_source c.new-config.result) (clean_source c.run_chart-status.new.config)
     (clean_source c.new-script.result) (clean_source c.run_chart-status.new.script) in
-    chart_told (ran_example (no_words string_bytes c.args.words.now (sym c.is_empty.ensures ∙ c.if-is_empty.true)) refl (rw c.unopened-in-Ok.ensures.status (record {
+    chart_told (ran_example (no_words string_bytes c.args.words.now (sym c.is_empty.ensures ∙ c.if-is_empty.true)) refl (rw c.unopened-then-is_empty.ensures.status (record {
       inputs = i;
       is = record {
         words_are = ap (map string_bytes) c.as_slice.ensures.value ∙ c.in-Ok.ensures.words;
@@ -46,12 +46,12 @@ returns g c =
       script = _;
       names = (refl, refl);
       over = record {
-        one = record { before = state c.open_two-config.result.0; after = state c.run_chart-status-in-Ok-disks_if.new.config };
-        other = record { before = state c.open_two-config.result.1; after = state c.run_chart-status-in-Ok-disks_if.new.script };
+        one = record { before = state c.open_two-config.result.0; after = state c.run_chart-status-2.new.config };
+        other = record { before = state c.open_two-config.result.1; after = state c.run_chart-status-2.new.script };
         named = c.open_two-config.ensures.named;
         opened_once = c.open_two-config.ensures.left;
         one_left = refl;
         other_left = refl;
-        has = record { made = c.in-Ok-disks_if.example.1; left = c.run_chart-status-in-Ok-disks_if.new.disks; given = λ asks. c.in-Ok-disks_if.ensures.given (two_asked string_bytes c.args.words.now asks); runs = c.run_chart-status-in-Ok-disks_if.ensures };
+        has = record { made = c.in-Ok-disks_if.example.1; left = c.run_chart-status-2.new.disks; given = λ asks. c.in-Ok-disks_if.ensures.given (two_asked string_bytes c.args.words.now asks); runs = c.run_chart-status-2.ensures };
       };
     }))

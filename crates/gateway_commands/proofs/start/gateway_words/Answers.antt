@@ -23,7 +23,7 @@ returns-then-is_empty g c =
     let told = λ (s : CleanSourceState). Some s.left in
     let i : BusInputs = inputs_of (map string_bytes c.as_slice.result.now) (clean_source c.new-config.result) (clean_source c.run_gateway-status.new.config)
     (clean_source c.new-script.result) (clean_source c.run_gateway-status.new.script) in
-    gateway_told (ran_example (no_words string_bytes c.args.words.now (sym c.is_empty.ensures ∙ c.if-is_empty.true)) refl (rw c.unopened-in-Ok.ensures.status (record {
+    gateway_told (ran_example (no_words string_bytes c.args.words.now (sym c.is_empty.ensures ∙ c.if-is_empty.true)) refl (rw c.unopened-then-is_empty.ensures.status (record {
       inputs = i;
       is = record {
         words_are = ap (map string_bytes) c.as_slice.ensures.value ∙ c.in-Ok.ensures.words;

@@ -25,11 +25,11 @@ pub returns-clause-named : goal.returns-clause-named
 returns-clause-named g c some = inl (record {
   disks = c.in-Ok-open_named.disks.items;
   named = c.in-Ok-open_named.ensures.named;
-  runs = c.run_asked-status-in-Ok-open_named.ensures;
+  runs = c.run_asked-status-2.ensures;
 })
 
 pub returns-clause-load_alone : goal.returns-clause-load_alone
-returns-clause-load_alone g c high = load_alone _ _ c.run_asked-status-in-Ok-open_named.ensures high
+returns-clause-load_alone g c high = load_alone _ _ c.run_asked-status-2.ensures high
 
 pub returns-in_default-open_named-clause-named : goal.returns-in_default-open_named-clause-named
 returns-in_default-open_named-clause-named g c some = inr (record {
