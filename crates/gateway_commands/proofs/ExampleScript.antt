@@ -1,6 +1,6 @@
 -- The events of the worked example, computed
-use Rattle.std.specs.Prelude.{◌≡◌, ℕ, true, false, List, [], ◌∷◌, Option, None, Some, Result, Ok, codes, replicate}
-use Rattle.std.proofs.Common.{refl, sym, ◌∙◌, subst}
+use Rattle.std.specs.Prelude.{◌≡◌, ℕ, List, [], ◌∷◌, Option, None, Some, Result, Ok, codes}
+use Rattle.std.proofs.Common.{sym, subst}
 use Rattle.basics.specs.Numbers.{number_of}
 use Rattle.hex.specs.Hex.{decode_pairs}
 use Rattle.program_edge.proofs.CallerLemmas.{Offers-whole}
@@ -12,10 +12,9 @@ use Rattle.secoc_words.specs.Forms.{key_form, data_id_form}
 use Rattle.secoc_words.specs.KeyForms.{uid_form, flags_form}
 use Rattle.bus_machine.specs.declared.events.Event.{Event}
 use Rattle.bus_machine.specs.declared.events.Event.TheVariants.{Key, Inject}
-use Rattle.bus_config.specs.declared.node_lines.NodeLine.{NodeLine}
 use Rattle.bus_config.specs.Buses.{place_named}
 use Rattle.bus_script.specs.EventKinds.{kind_of}
-use Rattle.bus_script.specs.EventForms.{own_events_of, uid_at, events_among, event_among, inject_of, key_event_of, event_uid_form}
+use Rattle.bus_script.specs.EventForms.{own_events_of, events_among, event_among, inject_of, key_event_of, event_uid_form}
 use Rattle.gateway_commands.specs.declared.example.TheConstants.{SCRIPT}
 use Rattle.gateway_commands.specs.ExampleEvents.{AreReplay, ExampleReplays}
 
