@@ -11,7 +11,7 @@ use Rattle.key_commands.specs.Tasks.{task_of}
 use Rattle.key_commands.specs.Rows.{AsksFor, IsRefused}
 
 -- their first letters tell the subcommands apart
-lettered : ℕ → Subcommand
+abbrev lettered : ℕ → Subcommand
 lettered first =
     if first == 109 then Make else if first == 114 then Read else
     if first == 99 then Confirm else if first == 98 then Bootmac else Load

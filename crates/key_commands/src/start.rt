@@ -80,18 +80,26 @@ fn open_named<P: DiskOpener>(
     open_disks(alloc, disk_opener, file)
 }
 
-/// The value FILE of a load, if clap takes its arguments; none of other arguments.
+/// The file that the words name.
 fn file_word<'a>(alloc: Global, words: &'a [String]) -> Result<Option<&'a str>, AllocError>
     ensures names { IfOk result (λ file. NamesFile (each string_bytes words.entry.now)
         (option_map (λ w. w.now) file)) }
     ensures asks { OnErr result (NamesSubcommand (each string_bytes words.entry.now) Load) }
 {
     match subcommand_of(words) {
-        Some(Subcommand::Load) => match parse(alloc, Subcommand::Load, words) {
-            Ok(matches) => Ok(matches.get_str("FILE")),
-            Err(refusal) if refusal.status() == NO_MEMORY => Err(AllocError),
-            Err(_) => Ok(None),
-        },
+        Some(Subcommand::Load) => load_file(alloc, words),
         _ => Ok(None),
+    }
+}
+
+/// The value FILE of a load, if clap takes its arguments.
+fn load_file<'a>(alloc: Global, words: &'a [String]) -> Result<Option<&'a str>, AllocError>
+    ensures names { NamesSubcommand (each string_bytes words.entry.now) Load
+        → IfOk result (λ file. NamesFile (each string_bytes words.entry.now) (option_map (λ w. w.now) file)) }
+{
+    match parse(alloc, Subcommand::Load, words) {
+        Ok(matches) => Ok(matches.get_str("FILE")),
+        Err(refusal) if refusal.status() == NO_MEMORY => Err(AllocError),
+        Err(_) => Ok(None),
     }
 }
