@@ -1,6 +1,7 @@
 -- What comes of the words of a chart, and that the disks that are made for it are enough
 use Rattle.std.specs.Prelude.{◌≡◌, ℕ, ◌==◌, true, List, length, map}
 use Rattle.std.proofs.Common.{arith, ap, sym, ◌∙◌}
+use Rattle.std.proofs.lemmas.Bool.Decides.{nat_tests}
 use Rattle.std.proofs.lemmas.List.{length-map}
 use Rattle.bus_port.specs.Source.{SourceState}
 use Rattle.program_edge.specs.Endings.{Ending}
@@ -36,6 +37,9 @@ pub chart_told : {opens : List ℕ → SourceState → Type 0} → {before after
     → ChartOfWords opens before after back words e
 chart_told {e = e} ran = (ran, words_told (λ two. cc) (λ asks other. other asks) (λ i charts. over_told i e charts) ran)
 
--- words that ask for a chart are counted as two
+-- words that ask for a chart are counted as two, and only these
 pub two_asked : {A : Type 0} (f : A → List ℕ) (words : List A) → AsksChart (map f words) → (length words == 2) ≡ true
 two_asked f words asks = ap (λ (n : ℕ). n == 2) (sym (length-map words f) ∙ asks)
+
+pub asked_two : {A : Type 0} (f : A → List ℕ) (words : List A) → (length words == 2) ≡ true → AsksChart (map f words)
+asked_two f words two = let is : length words ≡ 2 = grind (arith, nat_tests) in length-map words f ∙ is

@@ -7,7 +7,7 @@ use Rattle.bus_programs.specs.Inputs.{BusInputs, inputs_of}
 use Rattle.bus_programs.specs.Named.{ran_example, ran_words, ran_nothing}
 use Rattle.bus_programs.proofs.CallerLemmas.{no_words, some_words, unopened_wants}
 use Rattle.chart_commands.specs.declared.example.TheConstants.{BUS, SCRIPT}
-use Rattle.chart_commands.proofs.OfWords.{chart_told, two_asked}
+use Rattle.chart_commands.proofs.OfWords.{chart_told, two_asked, asked_two}
 use Rattle.chart_commands.proofs.start.chart_words.Goals as goal
 
 pub returns-in_default : goal.returns-in_default
@@ -36,7 +36,8 @@ returns-then-is_empty g c =
 pub returns-in_default-disks_if : goal.returns-in_default-disks_if
 returns-in_default-disks_if g c =
     let none = c.unopened-in_default-disks_if.ensures in
-    chart_told (ran_nothing (inl _) (unopened_wants none.status none.config none.script))
+    let two = asked_two string_bytes c.args.words.now c.in_default-disks_if.ensures.wanted in
+    chart_told (ran_nothing (inl two) (unopened_wants none.status none.config none.script))
 
 pub returns : goal.returns
 returns g c =
@@ -52,6 +53,6 @@ returns g c =
         opened_once = c.open_two-config.ensures.left;
         one_left = refl;
         other_left = refl;
-        has = record { made = c.in-Ok-disks_if.example.1; left = c.run_chart-status-2.new.disks; given = λ asks. c.in-Ok-disks_if.ensures.given (two_asked string_bytes c.args.words.now asks); runs = c.run_chart-status-2.ensures };
+        has = record { made = c.in-Ok-disks_if.disks; left = c.run_chart-status-2.new.disks; given = λ asks. c.in-Ok-disks_if.ensures.given (two_asked string_bytes c.args.words.now asks); runs = c.run_chart-status-2.ensures };
       };
     }))
