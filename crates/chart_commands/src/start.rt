@@ -39,9 +39,10 @@ pub fn chart_words<O: Opener, I: Source + Drop, K: Sink>(
             return unopened(NO_MEMORY);
         };
         let (given, mut disks) = example;
+        let texts = given.as_slice();
         let mut config = TextSource::new(BUS);
         let mut script = TextSource::new(SCRIPT);
-        let status = run_chart(alloc, given.as_slice(), &mut config, &mut script, sink, &mut disks);
+        let status = run_chart(alloc, texts, &mut config, &mut script, sink, &mut disks);
         return unopened(status);
     }
     let Ok(mut disks) = disks_if(alloc, words.len() == 2, 8) else {

@@ -54,9 +54,10 @@ pub fn gateway_words<O: Opener, I: Source + Drop, K: Sink>(
             return unopened(NO_MEMORY);
         };
         let (given, mut disks) = example;
+        let texts = given.as_slice();
         let mut config = TextSource::new(BUS);
         let mut script = TextSource::new(SCRIPT);
-        let status = run_gateway(alloc, given.as_slice(), &mut config, &mut script, sink, &mut disks);
+        let status = run_gateway(alloc, texts, &mut config, &mut script, sink, &mut disks);
         return unopened(status);
     }
     let Ok(asked) = asked_pairs(alloc, words) else {

@@ -21,12 +21,12 @@ returns-then-is_empty g c =
     let bus_size : length BUS.now ≡ 620 = refl in
     let script_size : length SCRIPT.now ≡ 568 = refl in
     let told = λ (s : CleanSourceState). Some s.left in
-    let i : BusInputs = inputs_of (map string_bytes c.as_slice.result.now) (clean_source c.new-config.result) (clean_source c.run_chart-status.new.config)
+    let i : BusInputs = inputs_of (map string_bytes c.as_slice-texts.result.now) (clean_source c.new-config.result) (clean_source c.run_chart-status.new.config)
     (clean_source c.new-script.result) (clean_source c.run_chart-status.new.script) in
     chart_told (ran_example (no_words string_bytes c.args.words.now (sym c.is_empty.ensures ∙ c.if-is_empty.true)) refl (rw c.unopened-then-is_empty.ensures.status (record {
       inputs = i;
       is = record {
-        words_are = ap (map string_bytes) c.as_slice.ensures.value ∙ c.in-Ok.ensures.words;
+        words_are = ap (map string_bytes) c.as_slice-texts.ensures.value ∙ c.in-Ok.ensures.words;
         config = Offers-clean i.config BUS.now (ap told c.new-config.ensures) (omega (arith, bus_size)) refl;
         script = Offers-clean i.script SCRIPT.now (ap told c.new-script.ensures) (omega (arith, script_size)) refl;
       };
