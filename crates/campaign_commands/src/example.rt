@@ -25,7 +25,7 @@ pub fn run_example<K: Sink>(alloc: Global, sink: &mut K) -> u8
     ensures { (i : CampaignInputs) × (d : CampaignDisks) × IsExampleCampaign i d
         × Campaigns i d (record { before = K.state sink.old; after = K.state sink.new; status = result }) }
 {
-    let Ok(mut disks) = one_disk(alloc) else {
+    let Ok(mut disks) = one_disk(alloc, 65_536) else {
         return NO_MEMORY;
     };
     let words = [String::new(alloc), String::new(alloc)];
@@ -33,15 +33,16 @@ pub fn run_example<K: Sink>(alloc: Global, sink: &mut K) -> u8
     run_campaign(alloc, &words, &mut script, sink, &mut disks)
 }
 
-/// One disk of 65,536 zero bytes.
+/// One disk of so many zero bytes.
 #[tactic(auto, unfolding(crate::specs::Examples::zero_disk))]
-fn one_disk(alloc: Global) -> Result<Vec<MemDisk>, AllocError>
-    ensures { IfOk result (λ disks. map (λ disk. disk_of (contents disk)) disks.items ≡ zero_disk 65536 ∷ []) }
+fn one_disk(alloc: Global, size: usize) -> Result<Vec<MemDisk>, AllocError>
+    requires { size ≤ 2 ^ 24 }
+    ensures { IfOk result (λ disks. map (λ disk. disk_of (contents disk)) disks.items ≡ zero_disk size ∷ []) }
 {
+    let Ok(disk) = MemDisk::new(alloc, size) else {
+        return Err(AllocError);
+    };
     let mut disks = Vec::new(alloc);
-    match MemDisk::new(alloc, 65_536) {
-        Ok(disk) => disks.push(disk)?,
-        Err(_) => return Err(AllocError),
-    }
+    disks.push(disk)?;
     Ok(disks)
 }
