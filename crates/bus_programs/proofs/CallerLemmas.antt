@@ -1,6 +1,6 @@
 -- The lemmas that crates above cite.
 use Rattle.std.specs.Prelude.{◌≡◌, ℕ, zero, suc, ◌-◌, ◌≤◌, List, [], ◌∷◌, length, get_or, replicate, All, ◌⊎◌, ◌+◌, ◌<◌}
-use Rattle.std.specs.Prelude.{Result, Ok, Err, ◌≢◌, ◌==◌, false, map}
+use Rattle.std.specs.Prelude.{Result, Ok, Err, ◌≢◌, ◌==◌, true, false, map, Option}
 use Rattle.std.proofs.Common.{refl, ap, subst, arith, sym, ◌∙◌, inl, inr}
 use Rattle.std.proofs.lemmas.Bool.{true≢false}
 use Rattle.std.proofs.lemmas.List.{length-map, length-replicate}
@@ -20,6 +20,7 @@ use Rattle.bus_world.specs.StartRows.{StoreCause}
 use Rattle.bus_world.proofs.CallerLemmas.{no_line, size_of_any}
 use Rattle.bus_programs.specs.Blank.{AreBlank, blank_state, disk_states}
 use Rattle.bus_port.specs.Fault.{last_count}
+use Rattle.bus_port.specs.Sink.{SinkState}
 use Rattle.bus_port.specs.Source.{SourceState}
 use Rattle.bus_port.specs.Whole.{CameWithin}
 use Rattle.program_edge.specs.Input.{input_limit, input_fault_status}
@@ -27,6 +28,7 @@ use Rattle.program_edge.specs.declared.input.InputFault.{InputFault}
 use Rattle.program_edge.specs.Rows.{Row}
 use Rattle.program_edge.specs.Inputs.{Reading, IsUnread, ReadsWhole, Lacks, Offers, CountsFault, CountsTooMuch}
 use Rattle.program_edge.specs.Endings.{Ending}
+use Rattle.program_edge.specs.NamedSources.{Openings, missing_source}
 use Rattle.program_edge.proofs.CallerLemmas.{Lacks-whole, Offers-whole, Offers-is}
 use Rattle.bus_config.specs.declared.fault.ConfigFault.{ConfigFault}
 use Rattle.bus_config.specs.BusFile.{bus_of}
@@ -34,7 +36,8 @@ use Rattle.text_lines.specs.LineRows.{NoLines}
 use Rattle.text_lines.specs.Readings.{Fault}
 use Rattle.bus_programs.specs.BusFiles.{ReadsBus, IsConfigFault, OffersBus}
 use Rattle.bus_programs.specs.Inputs.{BusInputs}
-use Rattle.bus_programs.specs.Named.{RunsExample}
+use Rattle.bus_programs.specs.Named.{SourcesBack, inputs_had, WantsMemory, RunOfWords, ran_example, ran_words, ran_nothing}
+use Rattle.bus_programs.specs.Named.{StatusesOf}
 use Rattle.bus_programs.specs.Scripts.{LacksLines, no_lines, lines_refused}
 use Rattle.bus_machine.specs.declared.events.Event.{Event}
 use Rattle.bus_config.specs.declared.node_lines.NodeLine.{NodeLine}
@@ -249,19 +252,38 @@ all_can_be_done nodes events are k d inside = can_be_done (get_or events k d) (a
 
 -- ---- what comes of the words of a program that has an example
 
--- some words are some texts
+-- no words are no texts, and some are some
+pub no_words : {A : Type 0} (f : A → List ℕ) (words : List A) → (length words == 0) ≡ true → map f words ≡ []
+no_words f [] none = refl
+no_words f (word ∷ words) none = absurd (let empty : length (word ∷ words) ≡ 0 = grind arith in omega arith)
+
 pub some_words : {A : Type 0} (f : A → List ℕ) (words : List A) → (length words == 0) ≡ false → map f words ≢ []
 some_words f [] some none = absurd (true≢false some)
 some_words f (w ∷ words) some none =
     absurd (let empty : length (map f (w ∷ words)) ≡ 0 = ap length none in omega (arith, empty))
 
--- the disks were enough, and didn't fail as the bus started
-abbrev pub DisksServe : Ending → Type 0
-DisksServe e = (e.status ≢ 9) × (e.status ≢ 10)
+-- nothing was opened or written for want of memory
+pub unopened_wants : {o : Openings} → {back : SourcesBack} → {sink : SinkState} → {status : ℕ} → status ≡ 7
+    → back.config ≡ missing_source 0 → back.script ≡ missing_source 0
+    → WantsMemory o o back (record { before = sink; after = sink; status = status })
+unopened_wants seven config script =
+    record { status_is = seven; unwritten = refl; unopened = refl; config_missing = config; script_missing = script }
 
-pub example_starts : {Example : BusInputs → Type 0} {Runs : BusInputs → Ending → Type 0} {e : Ending}
-    → ((i : BusInputs) → Runs i e → DisksServe e)
-    → RunsExample Example Runs e ⊎ ((e.status ≡ 7) × (e.after ≡ e.before)) → DisksServe e
-example_starts each (inl example) = each example.inputs example.ran
-example_starts each (inr (seven, same)) =
-    (λ nine. let no : ⊥ = omega (arith, seven, nine) in no, λ ten. let no : ⊥ = omega (arith, seven, ten) in no)
+-- what the statuses of each run say they say of the words
+pub words_told : {Asks Malformed : List (List ℕ) → Type 0}
+    → {Names : List (List ℕ) → Option (List ℕ) → Option (List ℕ) → Type 0} → {Example : BusInputs → Type 0}
+    → {Runs : BusInputs → Ending → Type 0} → {opens : List ℕ → SourceState → Type 0} → {before after : Openings}
+    → {back : SourcesBack} → {words : List (List ℕ)} → {e : Ending} → Malformed [] → (Asks words → ¬ Malformed words)
+    → ((i : BusInputs) → Runs i e → StatusesOf Malformed i.words e.status)
+    → RunOfWords Asks Names Example Runs opens before after back words e → StatusesOf Malformed words e.status
+words_told none apart each (ran_example empty same ran) = record {
+  usage = λ two. rw empty none;
+  usage_only = λ some malformed. absurd (some empty);
+  starts = (each ran.inputs ran.ran).starts;
+}
+words_told none apart each (ran_words some had) = each (inputs_had had) had.over.has
+words_told none apart each (ran_nothing why wants) = record {
+  usage = λ two. absurd (omega (arith, wants.status_is, two));
+  usage_only = λ some malformed. elim why [ inl asks ↦ absurd (apart asks malformed) | inr empty ↦ absurd (some empty) ];
+  starts = (λ nine. omega (arith, wants.status_is, nine), λ ten. omega (arith, wants.status_is, ten));
+}

@@ -77,3 +77,10 @@ pub data RunOfWords (Asks : List (List ℕ) → Type 0)
   -- there was no memory for the disks of a run, or for the example
   ran_nothing : Asks words ⊎ (words ≡ []) → WantsMemory before after back e
       → RunOfWords Asks Names Example Runs opens before after back words e
+
+-- what the statuses say of the words, if these words are malformed: 2 comes of malformed words alone; of such words it
+-- comes, or 6; and 9 and 10 never come, as the disks that are made are enough, and don't fail as the bus starts
+pub record StatusesOf (Malformed : List (List ℕ) → Type 0) (words : List (List ℕ)) (status : ℕ) : Type 0 where
+  pub usage : status ≡ 2 → Malformed words
+  pub usage_only : words ≢ [] → Malformed words → (status ≡ 2) ⊎ (status ≡ 6)
+  pub starts : (status ≢ 9) × (status ≢ 10)

@@ -3,7 +3,7 @@
 //! [`bus_from`] gives the bus of a source that was read whole, and [`script_from`] the events of a script over it.
 //! Or they give the row of why there is none: that of the input, or 3 or 4 with the text of the first fault. Both are
 //! exact, except out of memory. [`check_bus`] and [`node_routes`] are for a bus of one node. [`blank_disks`] and
-//! [`disks_if`] give so many blank disks in memory, and [`example_inputs`] all that a worked example runs over. Over no
+//! [`disks_if`] give so many blank disks in memory, and [`example_inputs`] those of a worked example. Over no
 //! fewer such disks than nodes every bus that a bus file can have finds room, and no disk fails as the stores are made
 //! (proofs/CallerLemmas.antt). [`unopened`] gives sources of which nothing was opened.
 #![tactic(auto)]

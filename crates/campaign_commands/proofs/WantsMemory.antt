@@ -1,6 +1,6 @@
 -- A campaign for whose disk or example there is no memory
-use Rattle.std.specs.Prelude.{◌≡◌, ◌≢◌, ℕ, List, [], ◌∷◌, None, length}
-use Rattle.std.proofs.Common.{refl, subst, sym}
+use Rattle.std.specs.Prelude.{◌≡◌, ◌≢◌, ℕ, List, [], ◌∷◌, None}
+use Rattle.std.proofs.Common.{refl}
 use Rattle.bus_port.specs.Sink.{SinkState}
 use Rattle.bus_port.specs.Source.{SourceState}
 use Rattle.cut_disk.specs.State.{DiskState}

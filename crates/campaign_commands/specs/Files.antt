@@ -1,12 +1,12 @@
 -- What the words of a campaign name
-use Rattle.std.specs.Prelude.{◌≡◌, ℕ, List, []}
+use Rattle.std.specs.Prelude.{◌≡◌, ◌<◌, ℕ, List, [], length}
 use Rattle.bus_port.specs.Source.{SourceState}
 use Rattle.cut_disk.specs.State.{DiskState}
 use Rattle.program_edge.specs.NamedSources.{missing_source, first_of_two, second_of_two, OverNamed}
 use Rattle.program_edge.specs.Endings.{Ending}
 use Rattle.file_disk.specs.NamedDisks.{DisksAreNamed, OpenedByWords, OpensNothing}
-use Rattle.campaign_commands.specs.Rows.{AreTwo}
-use Rattle.campaign_commands.specs.Examples.{Campaigns}
+use Rattle.campaign_commands.specs.Rows.{CampaignInputs, CampaignDisks, AreTwo}
+use Rattle.campaign_commands.specs.Examples.{Campaigns, IsExampleCampaign}
 
 -- All that a campaign promises was had over the script that the first of two words names, and the one disk that the
 -- second opens, which tells its bytes, none of them loose: all that is promised over such a disk, too. Of other words
@@ -32,3 +32,16 @@ pub record WantsLedgerDisk (o : OpenedByWords) (words : List (List ℕ)) (script
   pub runs : Campaigns
       (record { words = words; script = record { before = missing_source 0; after = missing_source 0 } })
       (record { before = []; after = [] }) e
+
+-- what comes of the arguments
+pub data CampaignOfWords (opens : List ℕ → SourceState → Type 0) (opens_disk : List ℕ → DiskState → Type 0)
+    (o : OpenedByWords) (words : List (List ℕ)) (script_after : SourceState) (disks_after : List DiskState)
+    (e : Ending) : Type 0 where
+  -- there are none: all that a campaign promises, over the example's script and a blank disk, and nothing is opened
+  ran_example : length words ≡ 0 → OpensNothing o
+      → (i : CampaignInputs) × (d : CampaignDisks) × IsExampleCampaign i d × Campaigns i d e
+      → CampaignOfWords opens opens_disk o words script_after disks_after e
+  ran_words : 0 < length words → CampaignsOver opens opens_disk o words script_after disks_after e
+      → CampaignOfWords opens opens_disk o words script_after disks_after e
+  wanted_disk : WantsLedgerDisk o words script_after disks_after e
+      → CampaignOfWords opens opens_disk o words script_after disks_after e

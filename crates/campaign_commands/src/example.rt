@@ -25,13 +25,12 @@ pub fn run_example<K: Sink>(alloc: Global, sink: &mut K) -> u8
     ensures { (i : CampaignInputs) × (d : CampaignDisks) × IsExampleCampaign i d
         × Campaigns i d (record { before = K.state sink.old; after = K.state sink.new; status = result }) }
 {
-    let Ok(disks) = one_disk(alloc, 65_536) else {
+    let Ok(mut disks) = one_disk(alloc, 65_536) else {
         return NO_MEMORY;
     };
-    let mut used = disks;
     let words = [String::new(alloc), String::new(alloc)];
     let mut script = TextSource::new(EXAMPLE);
-    run_campaign(alloc, &words, &mut script, sink, &mut used)
+    run_campaign(alloc, &words, &mut script, sink, &mut disks)
 }
 
 /// One disk of so many zero bytes.

@@ -4,7 +4,7 @@ use Rattle.bus_port.specs.Source.{SourceState}
 use Rattle.program_edge.specs.NamedSources.{Openings, first_of_two, second_of_two}
 use Rattle.program_edge.specs.Endings.{Ending}
 use Rattle.bus_programs.specs.Inputs.{BusInputs}
-use Rattle.bus_programs.specs.Named.{SourcesBack, RunsOverMade, IsExample, RunsExample, RunOfWords}
+use Rattle.bus_programs.specs.Named.{SourcesBack, RunsOverMade, IsExample, RunOfWords, StatusesOf}
 use Rattle.chart_commands.specs.declared.example.TheConstants.{WORDS, BUS, SCRIPT}
 use Rattle.chart_commands.specs.Inputs.{AsksChart}
 use Rattle.chart_commands.specs.Promises.{RunsChart}
@@ -21,11 +21,9 @@ ChartsOverMade i e = RunsOverMade AsksChart 8 RunsChart i e
 abbrev pub IsExampleChart : BusInputs → Type 0
 IsExampleChart i = IsExample (map (λ text. text.now) WORDS) BUS.now SCRIPT.now i
 
-abbrev pub ChartsExample : Ending → Type 0
-ChartsExample e = RunsExample IsExampleChart ChartsOverMade e
-
--- what comes of the words
+-- what comes of the words, and what the statuses say of them
 abbrev pub ChartOfWords : (List ℕ → SourceState → Type 0) → Openings → Openings → SourcesBack → List (List ℕ) → Ending
     → Type 0
 ChartOfWords opens before after back words e =
     RunOfWords AsksChart NamesBoth IsExampleChart ChartsOverMade opens before after back words e
+    × StatusesOf (λ words. ¬ AsksChart words) words e.status

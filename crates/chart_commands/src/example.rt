@@ -1,19 +1,11 @@
 //! The worked example.
-ghost use Rattle.std.specs.Prelude.{◌≡◌, ◌⊎◌};
-ghost use Rattle.chart_commands.specs.Named.{ChartsExample};
-
-use crate::run::run_chart;
-use bus_port::Sink;
-use bus_programs::example_inputs;
-use program_edge::NO_MEMORY;
-use std::alloc::Global;
 
 /// The arguments of the example.
-const WORDS: [&str; 2] = ["-", "-"];
+pub const WORDS: [&str; 2] = ["-", "-"];
 
 /// Its bus file: three nodes. The pedal sends its position to the brake and the cluster; the brake sends its state to
 /// the cluster.
-const BUS: &[u8] = b"store = \"twin\"
+pub const BUS: &[u8] = b"store = \"twin\"
 version = 1
 [[node]]
 name = \"pedal\"
@@ -53,7 +45,7 @@ slot = 5
 ";
 
 /// Its script, a lost update: the brake's disk stops within the write of a new key, and the power is cut.
-const SCRIPT: &[u8] =
+pub const SCRIPT: &[u8] =
     b"key pedal - 4 4 ffffffffffffffffffffffffffffffff 1 00010 2b7e151628aed2a6abf7158809cf4f3c
 key brake - 4 4 ffffffffffffffffffffffffffffffff 1 00010 2b7e151628aed2a6abf7158809cf4f3c
 stop brake 3
@@ -66,23 +58,3 @@ key pedal - 4 4 2b7e151628aed2a6abf7158809cf4f3c 2 00010 000102030405060708090a0
 send pedal 6bc1 bee22e409f96
 deliver brake 10
 ";
-
-/// Draws the example as [`run_chart`] does, over eight blank disks, and gives the status that the program ends with.
-/// It is 7, with nothing written, if there is no memory for it.
-pub fn run_example<K: Sink>(alloc: Global, sink: &mut K) -> u8
-    ensures { ChartsExample (record { before = K.state sink.old; after = K.state sink.new; status = result })
-        ⊎ ((result ≡ 7) × (K.state sink.new ≡ K.state sink.old)) }
-{
-    let Ok(example) = example_inputs(alloc, &WORDS, BUS, SCRIPT, 8) else {
-        return NO_MEMORY;
-    };
-    let (words, mut config, mut script, mut disks) = example;
-    run_chart(
-        alloc,
-        words.as_slice(),
-        &mut config,
-        &mut script,
-        sink,
-        &mut disks,
-    )
-}

@@ -4,7 +4,7 @@ use Rattle.bus_port.specs.Source.{SourceState}
 use Rattle.program_edge.specs.NamedSources.{Openings, first_of_two, second_of_two}
 use Rattle.program_edge.specs.Endings.{Ending}
 use Rattle.bus_programs.specs.Inputs.{BusInputs}
-use Rattle.bus_programs.specs.Named.{SourcesBack, RunsOverMade, IsExample, RunsExample, RunOfWords}
+use Rattle.bus_programs.specs.Named.{SourcesBack, RunsOverMade, IsExample, RunOfWords, StatusesOf}
 use Rattle.gateway_commands.specs.Words.{AsksNoGateway, AsksSomeGateway}
 use Rattle.gateway_commands.specs.Promises.{RunsGateway}
 use Rattle.gateway_commands.specs.declared.example.TheConstants.{WORDS, BUS, SCRIPT}
@@ -23,11 +23,9 @@ IsExampleGateway i = IsExample (map (λ text. text.now) WORDS) BUS.now SCRIPT.no
 abbrev pub GatewayOverMade : BusInputs → Ending → Type 0
 GatewayOverMade i e = RunsOverMade AsksSomeGateway 1 RunsGateway i e
 
-abbrev pub RunsExampleGateway : Ending → Type 0
-RunsExampleGateway e = RunsExample IsExampleGateway GatewayOverMade e
-
--- what comes of the words
+-- what comes of the words, and what the statuses say of them
 abbrev pub GatewayOfWords : (List ℕ → SourceState → Type 0) → Openings → Openings → SourcesBack → List (List ℕ) → Ending
     → Type 0
 GatewayOfWords opens before after back words e =
     RunOfWords AsksSomeGateway NamesFirstTwo IsExampleGateway GatewayOverMade opens before after back words e
+    × StatusesOf AsksNoGateway words e.status

@@ -1,15 +1,14 @@
-//! The arguments of the command line, the program's name left out: a gateway runs over the sources that two of them
-//! name, and without a word the example.
-ghost use Rattle.std.specs.Prelude.{◌≡◌, ◌≢◌, ◌⊎◌, [], map, string_bytes, option_map, IsTrue};
+//! The arguments of the command line, without the program's name.
+ghost use Rattle.std.specs.Prelude.{map, string_bytes, option_map, IsTrue};
 ghost use Rattle.program_edge.specs.NamedSources.{word_source, openings};
 ghost use Rattle.gateway_commands.specs.Words.{AsksNoGateway, AsksSomeGateway};
 ghost use Rattle.gateway_commands.specs.Named.{NamesFirstTwo, GatewayOfWords};
 
-use crate::example::run_example;
-use crate::run::run_asked;
+use crate::example::{BUS, SCRIPT, WORDS};
+use crate::run::{run_asked, run_gateway};
 use crate::words::asked_pairs;
-use bus_port::{Sink, Source};
-use bus_programs::{disks_if, unopened};
+use bus_port::{Sink, Source, TextSource};
+use bus_programs::{disks_if, example_inputs, unopened};
 use program_edge::{NO_MEMORY, Opener, WordSource, open_both, two_words};
 use std::alloc::Global;
 
@@ -26,11 +25,9 @@ fn source_words(words: &[String], is_asked: bool) -> (Option<&str>, Option<&str>
     (None, None)
 }
 
-/// Runs a gateway over the bus file and the script that the first two words name, as [`run_gateway`] does, over a blank
-/// disk of 65,536 bytes, and gives the status that the program ends with, and the sources of the bus file and of the
-/// script as the gateway left them; without a word it runs the example, and both sources are missing. `-` names the
-/// input, which is taken then; where both words are `-`, the bus file has it, and the script is missing. Of words of
-/// another form nothing is opened, and both sources are missing. The disk is made before anything is opened.
+/// Runs a gateway over the bus file and the script that the first two arguments name, as [`run_gateway`] does, over a
+/// blank disk of 65,536 bytes; without an argument the example. It gives the status that the program ends with, and the
+/// sources of the bus file and of the script as the gateway left them. The disk is made before anything is opened.
 pub fn gateway_words<O: Opener, I: Source + Drop, K: Sink>(
     alloc: Global,
     opener: &mut O,
@@ -40,8 +37,9 @@ pub fn gateway_words<O: Opener, I: Source + Drop, K: Sink>(
 ) -> (u8, WordSource<O::Opened, I>, WordSource<O::Opened, I>)
     // All that a gateway promises, of these words, over the sources that they name, which are those handed back, or of
     // the example; or there was no memory for it, and nothing was opened or written. Each word that names a source is
-    // opened once, and no other.
-    ensures words { GatewayOfWords (O.opens opener.old)
+    // opened once, and no other. 2 comes of words of another form alone, and of these always, or 6. The disk that it
+    // makes is enough, and doesn't fail as the gateway starts.
+    ensures { GatewayOfWords (O.opens opener.old)
         (openings (O.opened opener.old) (option_map I.state input.old))
         (openings (O.opened opener.new) (option_map I.state input.new))
         (record {
@@ -50,15 +48,17 @@ pub fn gateway_words<O: Opener, I: Source + Drop, K: Sink>(
         })
         (map string_bytes words.now)
         (record { before = K.state sink.old; after = K.state sink.new; status = result.0 }) }
-    ensures usage { result.0 ≡ 2 → AsksNoGateway (map string_bytes words.now) }
-    ensures usage_only { map string_bytes words.now ≢ [] → AsksNoGateway (map string_bytes words.now)
-        → (result.0 ≡ 2) ⊎ (result.0 ≡ 6) }
-
-    // The disk that it makes is enough, and doesn't fail as the gateway starts.
-    ensures starts { (result.0 ≢ 9) × (result.0 ≢ 10) }
 {
     if words.is_empty() {
-        return unopened(run_example(alloc, sink));
+        let Ok(example) = example_inputs(alloc, &WORDS, 1) else {
+            return unopened(NO_MEMORY);
+        };
+        let (given, mut disks) = example;
+        let texts = given.as_slice();
+        let mut config = TextSource::new(BUS);
+        let mut script = TextSource::new(SCRIPT);
+        let status = run_gateway(alloc, texts, &mut config, &mut script, sink, &mut disks);
+        return unopened(status);
     }
     let Ok(asked) = asked_pairs(alloc, words) else {
         return unopened(NO_MEMORY);

@@ -1,6 +1,6 @@
 -- The arguments name one subcommand at most, and ask it for one thing
-use Rattle.std.proofs.Common.{◌≡◌, ◌∙◌, ℕ, List, [], ◌∷◌, ap, sym, refl, get_or, inl, inr, arith}
-use Rattle.std.specs.Prelude.{Result}
+use Rattle.std.proofs.Common.{◌≡◌, ◌∙◌, ℕ, List, [], ◌∷◌, ap, sym, refl, get_or, inl, inr}
+use Rattle.std.specs.Prelude.{◌==◌, if◌then◌else◌, Result}
 use Rattle.key_commands.specs.declared.subcommands.Subcommand.{Subcommand}
 use Rattle.key_commands.specs.declared.subcommands.Subcommand.TheVariants.{Make, Read, Confirm, Bootmac, Load}
 use Rattle.key_commands.specs.declared.tasks.Task.{Task}
@@ -10,41 +10,24 @@ use Rattle.key_commands.specs.Parsing.{given, refusals}
 use Rattle.key_commands.specs.Tasks.{task_of}
 use Rattle.key_commands.specs.Rows.{AsksFor, IsRefused}
 
--- no two subcommands have one name
-first_letters : (r s : Subcommand) → get_or (name_of r) 0 0 ≡ get_or (name_of s) 0 0 → r ≡ s
-first_letters Make Make e = refl
-first_letters Make Read e = absurd (omega (arith, e))
-first_letters Make Confirm e = absurd (omega (arith, e))
-first_letters Make Bootmac e = absurd (omega (arith, e))
-first_letters Make Load e = absurd (omega (arith, e))
-first_letters Read Make e = absurd (omega (arith, e))
-first_letters Read Read e = refl
-first_letters Read Confirm e = absurd (omega (arith, e))
-first_letters Read Bootmac e = absurd (omega (arith, e))
-first_letters Read Load e = absurd (omega (arith, e))
-first_letters Confirm Make e = absurd (omega (arith, e))
-first_letters Confirm Read e = absurd (omega (arith, e))
-first_letters Confirm Confirm e = refl
-first_letters Confirm Bootmac e = absurd (omega (arith, e))
-first_letters Confirm Load e = absurd (omega (arith, e))
-first_letters Bootmac Make e = absurd (omega (arith, e))
-first_letters Bootmac Read e = absurd (omega (arith, e))
-first_letters Bootmac Confirm e = absurd (omega (arith, e))
-first_letters Bootmac Bootmac e = refl
-first_letters Bootmac Load e = absurd (omega (arith, e))
-first_letters Load Make e = absurd (omega (arith, e))
-first_letters Load Read e = absurd (omega (arith, e))
-first_letters Load Confirm e = absurd (omega (arith, e))
-first_letters Load Bootmac e = absurd (omega (arith, e))
-first_letters Load Load e = refl
+-- their first letters tell the subcommands apart
+abbrev lettered : ℕ → Subcommand
+lettered first =
+    if first == 109 then Make else if first == 114 then Read else
+    if first == 99 then Confirm else if first == 98 then Bootmac else Load
 
-one_name : (r s : Subcommand) → name_of r ≡ name_of s → r ≡ s
-one_name r s e = first_letters r s (ap (λ (name : List ℕ). get_or name 0 0) e)
+by_letter : (s : Subcommand) → lettered (get_or (name_of s) 0 0) ≡ s
+by_letter Make = refl
+by_letter Read = refl
+by_letter Confirm = refl
+by_letter Bootmac = refl
+by_letter Load = refl
 
 -- so the arguments name one subcommand at most
 pub names_one : (words : List (List ℕ)) (r s : Subcommand) → NamesSubcommand words r → NamesSubcommand words s → r ≡ s
 names_one [] r s left right = absurd left
-names_one (word ∷ words) r s left right = one_name r s (sym left ∙ right)
+names_one (word ∷ words) r s left right =
+    sym (by_letter r) ∙ ap (λ (name : List ℕ). lettered (get_or name 0 0)) (sym left ∙ right) ∙ by_letter s
 
 -- and ask it for one thing
 pub asks_one : (words : List (List ℕ)) (a b : Result Task BadValue) → AsksFor words a → AsksFor words b → a ≡ b

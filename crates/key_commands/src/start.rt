@@ -1,14 +1,12 @@
-//! The arguments of the command line, without the program's name: the subcommand that they ask for runs over the disk
-//! that they name, and without one the example.
+//! The arguments of the command line, without the program's name.
 ghost use Rattle.std.specs.Prelude.{◌≡◌, ◌⊎◌, ◌<◌, ◌≤◌, [], length, map as each, option_map, string_bytes};
 ghost use Rattle.std.specs.Prelude.{IfOk, OnErr};
-ghost use Rattle.file_disk.specs.NamedDisks.{DisksAreNamed};
 ghost use Rattle.key_commands.specs.declared.example.TheConstants.{EXAMPLE};
 ghost use Rattle.key_commands.specs.declared.subcommands.Subcommand.TheVariants.{Load};
 ghost use Rattle.key_commands.specs.Subcommands.{NamesSubcommand};
 ghost use Rattle.key_commands.specs.Files.{NamesFile, NamesLoadDisk, RunsWords, RunsWithFile, WantsFile};
 
-use crate::example::run_example;
+use crate::example::{EXAMPLE, texts_of};
 use crate::parsing::parse;
 use crate::run::run_asked;
 use crate::subcommands::{Subcommand, subcommand_of};
@@ -17,10 +15,9 @@ use file_disk::{DiskOpener, open_disks};
 use program_edge::NO_MEMORY;
 use std::alloc::{AllocError, Global};
 
-/// Runs the subcommand that the words ask for, as [`run_key`](crate::run_key) does, over the disk that the FILE of a
-/// load opens, and gives the status that the program ends with, and that disk as the command left it; without a word
-/// it runs the example. Other words, and words that aren't of a load's form, open no disk. If there is no memory for
-/// the disk nothing is read, written or opened.
+/// Runs the subcommand that the arguments ask for, as [`run_key`](crate::run_key) does, over the disk that the FILE of
+/// a load opens; without an argument the example. It gives the status that the program ends with, and that disk as the
+/// command left it. If there is no memory for the disk, nothing is read, written or opened.
 pub fn key_words<P: DiskOpener, S: Source, K: Sink>(
     alloc: Global,
     disk_opener: &mut P,
@@ -54,21 +51,18 @@ pub fn key_words<P: DiskOpener, S: Source, K: Sink>(
         → NamesSubcommand (each string_bytes words.now) Load }
 {
     if words.is_empty() {
+        let Ok(example) = texts_of(alloc, &EXAMPLE) else {
+            return (NO_MEMORY, Vec::new(alloc));
+        };
         let mut none = Vec::new(alloc);
-        let status = run_example(alloc, request, sink, &mut none);
+        let status = run_asked(alloc, example.as_slice(), request, sink, &mut none);
         return (status, none);
     }
-    match open_named(alloc, disk_opener, words) {
-        Ok(opened) => {
-            let mut disks = opened;
-            let status = run_asked(alloc, words, request, sink, &mut disks);
-            (status, disks)
-        }
-        Err(AllocError) => {
-            let unopened = Vec::new(alloc);
-            (NO_MEMORY, unopened)
-        }
-    }
+    let Ok(mut disks) = open_named(alloc, disk_opener, words) else {
+        return (NO_MEMORY, Vec::new(alloc));
+    };
+    let status = run_asked(alloc, words, request, sink, &mut disks);
+    (status, disks)
 }
 
 /// The disk that the words name, opened once; none of words that name no file.

@@ -1,5 +1,4 @@
-//! The words of the command line, the program's name left out: the script that one names is answered, and without a
-//! word the example.
+//! The arguments of the command line, without the program's name.
 ghost use Rattle.std.specs.Prelude.{◌≡◌, ◌<◌, length, map, string_bytes, option_map};
 ghost use Rattle.program_edge.specs.NamedSources.{word_source, openings, only_word, OverNamed};
 ghost use Rattle.pdu_collection.specs.Rows.{PairingInputs, IsExampleScript};
@@ -17,9 +16,8 @@ c 2a070a16bee2
 c 2a070a16bee2
 ";
 
-/// Answers the script that one argument names. Without an argument it answers the example, and the source is missing.
-/// It gives the status that the program ends with, and the source of the script as the run left it. `-` names the
-/// input, which is taken then. Of any other number of arguments nothing is opened, and the source is missing.
+/// Answers the script that one argument names, as [`run_pairs`] does; without an argument that of the example, which
+/// takes no memory. It gives the status that the program ends with, and the script's source as the run left it.
 pub fn pair_words<O: Opener, I: Source + Drop, K: Sink>(
     alloc: Global,
     opener: &mut O,
@@ -44,20 +42,12 @@ pub fn pair_words<O: Opener, I: Source + Drop, K: Sink>(
         (record { before = K.state sink.old; after = K.state sink.new; status = result.0 })) }
 {
     if words.is_empty() {
-        let script = WordSource::Missing(MissingSource::new());
-        return (pair_example(alloc, sink), script);
+        let one_word = [String::new(alloc)];
+        let mut script = TextSource::new(EXAMPLE);
+        let status = run_pairs(alloc, &one_word, &mut script, sink);
+        return (status, WordSource::Missing(MissingSource::new()));
     }
     let mut script = open_one(opener, input, words);
     let status = run_pairs(alloc, words, &mut script, sink);
     (status, script)
-}
-
-/// Answers the example, whose one word and source take no memory.
-fn pair_example<K: Sink>(alloc: Global, sink: &mut K) -> u8
-    ensures { (i : PairingInputs) × IsExampleScript i
-        × RunsPairs i (record { before = K.state sink.old; after = K.state sink.new; status = result }) }
-{
-    let words = [String::new(alloc)];
-    let mut script = TextSource::new(EXAMPLE);
-    run_pairs(alloc, &words, &mut script, sink)
 }

@@ -1,37 +1,58 @@
-use Rattle.std.proofs.Common.{◌≢◌, ℕ, map, string_bytes, refl, sym, subst, ◌∙◌}
+use Rattle.std.proofs.Common.{◌≡◌, ◌∙◌, length, map, ap, refl, sym, arith, inl, inr}
+use Rattle.std.specs.Prelude.{string_bytes, Some}
+use Rattle.bus_port.specs.MemSource.{CleanSourceState, clean_source}
 use Rattle.program_edge.specs.NamedSources.{word_source}
-use Rattle.bus_programs.specs.Named.{ran_words}
-use Rattle.bus_programs.proofs.CallerLemmas.{example_starts, some_words}
-use Rattle.chart_commands.proofs.OfWords.{over_starts, two_asked, no_words, without_words}
+use Rattle.program_edge.proofs.CallerLemmas.{Offers-clean}
+use Rattle.bus_programs.specs.Inputs.{BusInputs, inputs_of}
+use Rattle.bus_programs.specs.Named.{ran_example, ran_words, ran_nothing}
+use Rattle.bus_programs.proofs.CallerLemmas.{no_words, some_words, unopened_wants}
+use Rattle.chart_commands.specs.declared.example.TheConstants.{BUS, SCRIPT}
+use Rattle.chart_commands.proofs.OfWords.{chart_told, two_asked, asked_two}
 use Rattle.chart_commands.proofs.start.chart_words.Goals as goal
 
-pub returns-then-is_empty-clause-words : goal.returns-then-is_empty-clause-words
-returns-then-is_empty-clause-words g c =
-    without_words _ _ _ _ _ _ _ _ (no_words string_bytes c.args.words.now (sym c.is_empty.ensures ∙ c.if-is_empty.true)) c.unopened.ensures.status
-    c.unopened.ensures.config c.unopened.ensures.script c.run_example.ensures
+pub returns-in_default : goal.returns-in_default
+returns-in_default g c =
+    let none = c.unopened.ensures in
+    let empty = no_words string_bytes c.args.words.now (sym c.is_empty.ensures ∙ c.if-is_empty.true) in
+    chart_told (ran_nothing (inr empty) (unopened_wants none.status none.config none.script))
 
-pub returns-then-is_empty-clause-starts : goal.returns-then-is_empty-clause-starts
-returns-then-is_empty-clause-starts g c =
-    subst (λ (n : ℕ). (n ≢ 9) × (n ≢ 10)) (sym c.unopened.ensures.status) (example_starts (λ i. over_starts i _) c.run_example.ensures)
+pub returns-then-is_empty : goal.returns-then-is_empty
+returns-then-is_empty g c =
+    let bus_size : length BUS.now ≡ 620 = refl in
+    let script_size : length SCRIPT.now ≡ 568 = refl in
+    let told = λ (s : CleanSourceState). Some s.left in
+    let i : BusInputs = inputs_of (map string_bytes c.as_slice-texts.result.now) (clean_source c.new-config.result) (clean_source c.run_chart-status.new.config)
+    (clean_source c.new-script.result) (clean_source c.run_chart-status.new.script) in
+    chart_told (ran_example (no_words string_bytes c.args.words.now (sym c.is_empty.ensures ∙ c.if-is_empty.true)) refl (rw c.unopened-then-is_empty.ensures.status (record {
+      inputs = i;
+      is = record {
+        words_are = ap (map string_bytes) c.as_slice-texts.ensures.value ∙ c.in-Ok.ensures.words;
+        config = Offers-clean i.config BUS.now (ap told c.new-config.ensures) (omega (arith, bus_size)) refl;
+        script = Offers-clean i.script SCRIPT.now (ap told c.new-script.ensures) (omega (arith, script_size)) refl;
+      };
+      ran = record { made = c.in-Ok.example.1; left = c.run_chart-status.new.disks; given = λ asks. c.in-Ok.ensures.disks; runs = c.run_chart-status.ensures };
+    })))
 
-pub returns-clause-words : goal.returns-clause-words
-returns-clause-words g c =
+pub returns-in_default-disks_if : goal.returns-in_default-disks_if
+returns-in_default-disks_if g c =
+    let none = c.unopened-in_default-disks_if.ensures in
+    let two = asked_two string_bytes c.args.words.now c.in_default-disks_if.ensures.wanted in
+    chart_told (ran_nothing (inl two) (unopened_wants none.status none.config none.script))
+
+pub returns : goal.returns
+returns g c =
     let state = word_source g.O.Opened.Source.state g.I.Source.state in
-    ran_words (some_words string_bytes c.args.words.now (sym c.is_empty.ensures ∙ c.if-is_empty.false)) (record {
+    chart_told (ran_words (some_words string_bytes c.args.words.now (sym c.is_empty.ensures ∙ c.if-is_empty.false)) (record {
       config = _;
       script = _;
       names = (refl, refl);
       over = record {
-        one = record { before = state c.open_two-config.result.0; after = state c.run_chart-status.new.config };
-        other = record { before = state c.open_two-config.result.1; after = state c.run_chart-status.new.script };
+        one = record { before = state c.open_two-config.result.0; after = state c.run_chart-status-2.new.config };
+        other = record { before = state c.open_two-config.result.1; after = state c.run_chart-status-2.new.script };
         named = c.open_two-config.ensures.named;
         opened_once = c.open_two-config.ensures.left;
         one_left = refl;
         other_left = refl;
-        has = record { made = c.in-Ok.disks; left = c.run_chart-status.new.disks; given = λ asks. c.in-Ok.ensures.given (two_asked string_bytes c.args.words.now asks); runs = c.run_chart-status.ensures };
+        has = record { made = c.in-Ok-disks_if.disks; left = c.run_chart-status-2.new.disks; given = λ asks. c.in-Ok-disks_if.ensures.given (two_asked string_bytes c.args.words.now asks); runs = c.run_chart-status-2.ensures };
       };
-    })
-
-pub returns-clause-starts : goal.returns-clause-starts
-returns-clause-starts g c =
-    over_starts _ _ (record { made = c.in-Ok.disks; left = c.run_chart-status.new.disks; given = λ asks. c.in-Ok.ensures.given (two_asked string_bytes c.args.words.now asks); runs = c.run_chart-status.ensures })
+    }))
