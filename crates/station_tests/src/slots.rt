@@ -72,7 +72,11 @@ const ROWS: &[Row] = &[
         3,
         "value 3\n",
     ),
-    Row(&["list"], 2, "usage: station slots list, check, reply, make, grow\n"),
+    Row(
+        &["list"],
+        2,
+        "usage: station slots list, check, reply, make, grow\n",
+    ),
     Row(
         &["lists", "f"],
         2,
