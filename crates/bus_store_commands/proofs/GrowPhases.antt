@@ -40,28 +40,31 @@ text_shows routes old new cells text cells_are is could grows faults =
 
 -- no memory for a disk
 pub not_over : (opens : List ℕ → DiskState → Type 0) (before after : List (List ℕ)) (word : List ℕ) (routes : List Route) (row : Row) → row ≡ memory_row
-    → after ≡ before → ComesNamed opens before after word routes None row
-not_over opens before after word routes row is once = subst (ComesNamed opens before after word routes None) (sym is) (not_opened once refl)
+    → after ≡ before → ComesNamed opens before after word routes None None row
+not_over opens before after word routes row is once =
+    subst (ComesNamed opens before after word routes None None) (sym is) (not_opened once refl refl)
 
 -- a run over a disk that an argument opened
 pub over_opened : (opens : List ℕ → DiskState → Type 0) (before after : List (List ℕ)) (word : List ℕ) (routes : List Route) (old new : DiskState)
     (e : Ending) → opens word old → TellsFirmBytes old → after ≡ before ++ word ∷ [] → EndsInRow (GrowsOnDisk routes old new) e
-    → EndsInRow (ComesNamed opens before after word routes (Some new)) e
+    → EndsInRow (ComesNamed opens before after word routes (Some old) (Some new)) e
 over_opened opens before after word routes old new e opened tells once ends =
-    EndsInRow-more (over_disk (record { old = old; new = new; opened = opened; tells = tells; once = once; left_is = refl })) ends
+    EndsInRow-more
+    (over_disk (record { old = old; new = new; opened = opened; tells = tells; once = once; was_is = refl; left_is = refl })) ends
 
 -- a run over a bus file that gives a bus of one node, and over one that doesn't
 module _ (opens : List ℕ → DiskState → Type 0) (before after : List (List ℕ)) (i : GrowInputs) (left : Option DiskState) (e : Ending) where
   pub with_routes : (bus : NamedBus) (word : List ℕ) (routes : List Route) → IsNamedBus bus → AsksGrowth i.words → ReadsNodeBus i.bus bus → word ≡ file_of i
-      → routes ≡ routes_of bus → EndsInRow (ComesNamed opens before after word routes left) e → GrowsOverBus opens before after i left e
-  with_routes bus word routes named asks reads word_is are ends =
-      grows_row opens before after i left e
+      → routes ≡ routes_of bus → (was : Option DiskState) × EndsInRow (ComesNamed opens before after word routes was left) e
+      → GrowsOverBus opens before after i left e
+  with_routes bus word routes named asks reads word_is are (was, ends) =
+      grows_row opens before after i was left e
       (EndsInRow-more (λ row comes. with_bus bus row named asks reads
-      (subst (λ (w : List ℕ). ComesNamed opens before after w (routes_of bus) left row) word_is
-      (subst (λ (rs : List Route). ComesNamed opens before after word rs left row) are comes))) ends)
+      (subst (λ (w : List ℕ). ComesNamed opens before after w (routes_of bus) was left row) word_is
+      (subst (λ (rs : List Route). ComesNamed opens before after word rs was left row) are comes))) ends)
 
   pub without_routes : (row : Row) → LacksGrowth i row → after ≡ before → left ≡ None → EndsInRow (λ shown. shown ≡ row) e
       → GrowsOverBus opens before after i left e
   without_routes row lacks once none ends =
-      grows_row opens before after i left e
-      (EndsInRow-more (λ shown is. subst (ComesOfGrowth opens before after i left) (sym is) (lacks_bus row lacks once none)) ends)
+      grows_row opens before after i None left e
+      (EndsInRow-more (λ shown is. subst (ComesOfGrowth opens before after i None left) (sym is) (lacks_bus row lacks once refl none)) ends)

@@ -31,7 +31,7 @@ use Rattle.bus_store_commands.specs.NodeBuses.{OffersNodeBus, LacksNodeBus, no_b
 use Rattle.bus_store_commands.specs.BusWords.{asks_over_bus}
 use Rattle.bus_store_commands.specs.GrowRows.{GrowsOnDisk, no_text, grown, not_grown, grown_row, IsGrowRow}
 use Rattle.bus_store_commands.specs.GrowsOverBus.{GrowInputs, AsksGrowth, grow_usage, LacksGrowth, asks_none, without_bus, ComesNamed, not_opened, over_disk}
-use Rattle.bus_store_commands.specs.GrowsOverBus.{OpensGrownDisk, ComesOfGrowth, lacks_bus, with_bus, file_of, OverStore, CountsStoreFault, GrowsOverBus}
+use Rattle.bus_store_commands.specs.GrowsOverBus.{OpensGrownDisk, ComesOfGrowth, lacks_bus, with_bus, file_of, OverStore, GrowsOverBus}
 use Rattle.bus_store_commands.proofs.CheckTells.{asks_or_not}
 
 -- ---- what comes over a disk, by its status
@@ -238,174 +238,177 @@ lacks_tells i row (without_bus _ asks (no_bus _ (file_refused cause text (read, 
 lacks_tells i row (without_bus _ asks (other_nodes bus (read, whole, is) others)) =
     inr (inr (calm_whole i.bus read whole, calm_so i.bus))
 
-module _ (opens : List ℕ → DiskState → Type 0) (before after : List (List ℕ)) (i : GrowInputs) (left : Option DiskState) (e : Ending) where
+module _ (opens : List ℕ → DiskState → Type 0) (before after : List (List ℕ)) (i : GrowInputs) (was left : Option DiskState) (e : Ending) where
   abbrev Comes : Row → Type 0
-  Comes = ComesOfGrowth opens before after i left
+  Comes = ComesOfGrowth opens before after i was left
 
   abbrev Over : (List Route → DiskState → DiskState → Type 0) → Type 0
-  Over = OverStore opens before after i left
+  Over = OverStore opens before after i left was
 
   row_tells : (row : Row) → Comes row → RowTells row i.bus (left_so i.bus)
-  row_tells row (lacks_bus _ lacks once none) = lacks_tells i row lacks
+  row_tells row (lacks_bus _ lacks once unopened none) = lacks_tells i row lacks
   row_tells row (with_bus bus _ named asks ((read, whole, is), one) comes) = inr (inr (calm_whole i.bus read whole, calm_so i.bus))
 
   grown_at : (row : Row) → Comes row → row.status ≡ 0 → PrintsWhole e row.text
       → Over (λ routes old new. GrowsStore routes old new × (new.faults ≡ old.faults) × PrintsWhole e (grown_row (route_cell (length routes))).text)
-  grown_at row (lacks_bus _ lacks once none) is prints = absurd (lacks_0 i row lacks (inl is))
-  grown_at row (with_bus bus _ named asks reads (not_opened once none)) is prints = absurd (omega (arith, is))
+  grown_at row (lacks_bus _ lacks once unopened none) is prints = absurd (lacks_0 i row lacks (inl is))
+  grown_at row (with_bus bus _ named asks reads (not_opened once unopened none)) is prints = absurd (omega (arith, is))
   grown_at row (with_bus bus _ named asks reads (over_disk disk _ comes)) is prints =
       let (grows, faults, row_is) = disk_0 _ _ _ row comes is in
       (bus, named, asks, reads, disk, (grows, faults, subst (λ (r : Row). PrintsWhole e r.text) row_is prints))
 
   no_memory_at : (row : Row) → Comes row → row.status ≡ 7 → PrintsWhole e row.text
       → PrintsWhole e [] × ((left ≡ None) ⊎ Over (λ routes old new. new.told ≡ old.told))
-  no_memory_at row (lacks_bus _ (asks_none none unread) once opened) is prints = absurd (omega (arith, is))
-  no_memory_at row (lacks_bus _ (without_bus _ asks (no_bus _ (no_file input.ReadFault lacks))) once opened) is prints = absurd (omega (arith, is))
-  no_memory_at row (lacks_bus _ (without_bus _ asks (no_bus _ (no_file input.TooLong lacks))) once opened) is prints = absurd (omega (arith, is))
-  no_memory_at row (lacks_bus _ (without_bus _ asks (no_bus _ (no_file input.Memory lacks))) once opened) is prints = (prints, inl opened)
-  no_memory_at row (lacks_bus _ (without_bus _ asks (no_bus _ (file_refused cause text is_fault says))) once opened) is prints = absurd (omega (arith, is))
-  no_memory_at row (lacks_bus _ (without_bus _ asks (other_nodes bus reads others)) once opened) is prints = absurd (omega (arith, is))
-  no_memory_at row (with_bus bus _ named asks reads (not_opened once none)) is prints = (prints, inl none)
+  no_memory_at row (lacks_bus _ (asks_none none unread) once unopened opened) is prints = absurd (omega (arith, is))
+  no_memory_at row (lacks_bus _ (without_bus _ asks (no_bus _ (no_file input.ReadFault lacks))) once unopened opened) is prints = absurd (omega (arith, is))
+  no_memory_at row (lacks_bus _ (without_bus _ asks (no_bus _ (no_file input.TooLong lacks))) once unopened opened) is prints = absurd (omega (arith, is))
+  no_memory_at row (lacks_bus _ (without_bus _ asks (no_bus _ (no_file input.Memory lacks))) once unopened opened) is prints = (prints, inl opened)
+  no_memory_at row (lacks_bus _ (without_bus _ asks (no_bus _ (file_refused cause text is_fault says))) once unopened opened) is prints = absurd (omega (arith, is))
+  no_memory_at row (lacks_bus _ (without_bus _ asks (other_nodes bus reads others)) once unopened opened) is prints = absurd (omega (arith, is))
+  no_memory_at row (with_bus bus _ named asks reads (not_opened once unopened none)) is prints = (prints, inl none)
   no_memory_at row (with_bus bus _ named asks reads (over_disk disk _ comes)) is prints =
       let (told, row_is) = disk_7 _ _ _ row comes is in
       (subst (λ (r : Row). PrintsWhole e r.text) row_is prints, inr (bus, named, asks, reads, disk, told))
 
   no_store_at : (row : Row) → Comes row → row.status ≡ 9 → PrintsWhole e row.text
       → Over (λ routes old new. AsBefore 2 old new × ((f : GrowFault) × (shown : Row) × CannotBeGrown routes old f × IsGrowRow f shown × (shown.status ≡ 9) × PrintsWhole e shown.text))
-  no_store_at row (lacks_bus _ lacks once none) is prints = absurd (lacks_0 i row lacks (inr (inl is)))
-  no_store_at row (with_bus bus _ named asks reads (not_opened once none)) is prints = absurd (omega (arith, is))
+  no_store_at row (lacks_bus _ lacks once unopened none) is prints = absurd (lacks_0 i row lacks (inr (inl is)))
+  no_store_at row (with_bus bus _ named asks reads (not_opened once unopened none)) is prints = absurd (omega (arith, is))
   no_store_at row (with_bus bus _ named asks reads (over_disk disk _ comes)) is prints =
       let (before_is, (f, why, says)) = disk_9 _ _ _ row disk.tells comes is in
       (bus, named, asks, reads, disk, (before_is, (f, row, why, says, is, prints)))
 
   disk_failed_at : (row : Row) → Comes row → row.status ≡ 10 → PrintsWhole e row.text
       → Over (λ routes old new. NotGrown routes old new fault.DiskFailed × PrintsWhole e (codes "store: DiskFailed\n"))
-  disk_failed_at row (lacks_bus _ lacks once none) is prints = absurd (lacks_0 i row lacks (inr (inr (inl is))))
-  disk_failed_at row (with_bus bus _ named asks reads (not_opened once none)) is prints = absurd (omega (arith, is))
+  disk_failed_at row (lacks_bus _ lacks once unopened none) is prints = absurd (lacks_0 i row lacks (inr (inr (inl is))))
+  disk_failed_at row (with_bus bus _ named asks reads (not_opened once unopened none)) is prints = absurd (omega (arith, is))
   disk_failed_at row (with_bus bus _ named asks reads (over_disk disk _ comes)) is prints =
       let (why, says) = disk_10 _ _ _ row comes is in
       (bus, named, asks, reads, disk, (why, subst (λ (r : Row). PrintsWhole e r.text) says prints))
 
-  over_isnt : (n : ℕ) (bus : NamedBus) (row : Row) → AsksGrowth i.words → ComesNamed opens before after (file_of i) (routes_of bus) left row
+  over_isnt : (n : ℕ) (bus : NamedBus) (row : Row) → AsksGrowth i.words → ComesNamed opens before after (file_of i) (routes_of bus) was left row
       → row.status ≡ n → ¬ IsGrowStatus n → ⊥
-  over_isnt n bus row asks (not_opened once none) is other = other (subst IsGrowStatus is (inr (inl refl)))
+  over_isnt n bus row asks (not_opened once unopened none) is other = other (subst IsGrowStatus is (inr (inl refl)))
   over_isnt n bus row asks (over_disk disk _ comes) is other = isnt n row.status (disk_status _ _ _ row comes) is other
 
   at_2 : (row : Row) → Comes row → row.status ≡ 2 → PrintsWhole e row.text
       → (asks_over_bus (codes "grow") i.words ≡ false) × IsUnread i.bus × (after ≡ before) × PrintsWhole e grow_usage
-  at_2 row (lacks_bus _ (asks_none none unread) once opened) is prints = (none, unread, once, prints)
-  at_2 row (lacks_bus _ (without_bus _ asks (no_bus _ (no_file input.ReadFault lacks))) once opened) is prints = absurd (omega (arith, is))
-  at_2 row (lacks_bus _ (without_bus _ asks (no_bus _ (no_file input.TooLong lacks))) once opened) is prints = absurd (omega (arith, is))
-  at_2 row (lacks_bus _ (without_bus _ asks (no_bus _ (no_file input.Memory lacks))) once opened) is prints = absurd (omega (arith, is))
-  at_2 row (lacks_bus _ (without_bus _ asks (no_bus _ (file_refused cause text is_fault says))) once opened) is prints = absurd (omega (arith, is))
-  at_2 row (lacks_bus _ (without_bus _ asks (other_nodes bus reads others)) once opened) is prints = absurd (omega (arith, is))
+  at_2 row (lacks_bus _ (asks_none none unread) once unopened opened) is prints = (none, unread, once, prints)
+  at_2 row (lacks_bus _ (without_bus _ asks (no_bus _ (no_file input.ReadFault lacks))) once unopened opened) is prints = absurd (omega (arith, is))
+  at_2 row (lacks_bus _ (without_bus _ asks (no_bus _ (no_file input.TooLong lacks))) once unopened opened) is prints = absurd (omega (arith, is))
+  at_2 row (lacks_bus _ (without_bus _ asks (no_bus _ (no_file input.Memory lacks))) once unopened opened) is prints = absurd (omega (arith, is))
+  at_2 row (lacks_bus _ (without_bus _ asks (no_bus _ (file_refused cause text is_fault says))) once unopened opened) is prints = absurd (omega (arith, is))
+  at_2 row (lacks_bus _ (without_bus _ asks (other_nodes bus reads others)) once unopened opened) is prints = absurd (omega (arith, is))
   at_2 row (with_bus bus _ named asks reads comes) is prints = absurd (over_isnt 2 bus row asks comes is not_2)
 
   at_3 : (row : Row) → Comes row → row.status ≡ 3 → PrintsWhole e row.text
       → AsksGrowth i.words × (after ≡ before) × ((row : Row) × LacksNodeBus i.bus row × (row.status ≡ 3) × PrintsWhole e row.text)
-  at_3 row (lacks_bus _ (asks_none none unread) once opened) is prints = absurd (omega (arith, is))
-  at_3 row (lacks_bus _ (without_bus _ asks (no_bus _ (no_file input.ReadFault lacks))) once opened) is prints = absurd (omega (arith, is))
-  at_3 row (lacks_bus _ (without_bus _ asks (no_bus _ (no_file input.TooLong lacks))) once opened) is prints = absurd (omega (arith, is))
-  at_3 row (lacks_bus _ (without_bus _ asks (no_bus _ (no_file input.Memory lacks))) once opened) is prints = absurd (omega (arith, is))
-  at_3 row (lacks_bus _ (without_bus _ asks (no_bus _ (file_refused cause text is_fault says))) once opened) is prints =
+  at_3 row (lacks_bus _ (asks_none none unread) once unopened opened) is prints = absurd (omega (arith, is))
+  at_3 row (lacks_bus _ (without_bus _ asks (no_bus _ (no_file input.ReadFault lacks))) once unopened opened) is prints = absurd (omega (arith, is))
+  at_3 row (lacks_bus _ (without_bus _ asks (no_bus _ (no_file input.TooLong lacks))) once unopened opened) is prints = absurd (omega (arith, is))
+  at_3 row (lacks_bus _ (without_bus _ asks (no_bus _ (no_file input.Memory lacks))) once unopened opened) is prints = absurd (omega (arith, is))
+  at_3 row (lacks_bus _ (without_bus _ asks (no_bus _ (file_refused cause text is_fault says))) once unopened opened) is prints =
       (asks, once, (row, no_bus row (file_refused cause text is_fault says), is, prints))
-  at_3 row (lacks_bus _ (without_bus _ asks (other_nodes bus reads others)) once opened) is prints = (asks, once, (row, other_nodes bus reads others, is, prints))
+  at_3 row (lacks_bus _ (without_bus _ asks (other_nodes bus reads others)) once unopened opened) is prints = (asks, once, (row, other_nodes bus reads others, is, prints))
   at_3 row (with_bus bus _ named asks reads comes) is prints = absurd (over_isnt 3 bus row asks comes is not_3)
 
   at_5 : (row : Row) → Comes row → row.status ≡ 5 → PrintsWhole e row.text
       → SourceFailed i.bus × (after ≡ before) × PrintsWhole e (codes "read fault\n")
-  at_5 row (lacks_bus _ (asks_none none unread) once opened) is prints = absurd (omega (arith, is))
-  at_5 row (lacks_bus _ (without_bus _ asks (no_bus _ (no_file input.ReadFault lacks))) once opened) is prints = (lacks.0, once, prints)
-  at_5 row (lacks_bus _ (without_bus _ asks (no_bus _ (no_file input.TooLong lacks))) once opened) is prints = absurd (omega (arith, is))
-  at_5 row (lacks_bus _ (without_bus _ asks (no_bus _ (no_file input.Memory lacks))) once opened) is prints = absurd (omega (arith, is))
-  at_5 row (lacks_bus _ (without_bus _ asks (no_bus _ (file_refused cause text is_fault says))) once opened) is prints = absurd (omega (arith, is))
-  at_5 row (lacks_bus _ (without_bus _ asks (other_nodes bus reads others)) once opened) is prints = absurd (omega (arith, is))
+  at_5 row (lacks_bus _ (asks_none none unread) once unopened opened) is prints = absurd (omega (arith, is))
+  at_5 row (lacks_bus _ (without_bus _ asks (no_bus _ (no_file input.ReadFault lacks))) once unopened opened) is prints = (lacks.0, once, prints)
+  at_5 row (lacks_bus _ (without_bus _ asks (no_bus _ (no_file input.TooLong lacks))) once unopened opened) is prints = absurd (omega (arith, is))
+  at_5 row (lacks_bus _ (without_bus _ asks (no_bus _ (no_file input.Memory lacks))) once unopened opened) is prints = absurd (omega (arith, is))
+  at_5 row (lacks_bus _ (without_bus _ asks (no_bus _ (file_refused cause text is_fault says))) once unopened opened) is prints = absurd (omega (arith, is))
+  at_5 row (lacks_bus _ (without_bus _ asks (other_nodes bus reads others)) once unopened opened) is prints = absurd (omega (arith, is))
   at_5 row (with_bus bus _ named asks reads comes) is prints = absurd (over_isnt 5 bus row asks comes is not_5)
 
   at_8 : (row : Row) → Comes row → row.status ≡ 8 → PrintsWhole e row.text
       → GivesTooMuch i.bus × (after ≡ before) × PrintsWhole e (codes "input too long\n")
-  at_8 row (lacks_bus _ (asks_none none unread) once opened) is prints = absurd (omega (arith, is))
-  at_8 row (lacks_bus _ (without_bus _ asks (no_bus _ (no_file input.ReadFault lacks))) once opened) is prints = absurd (omega (arith, is))
-  at_8 row (lacks_bus _ (without_bus _ asks (no_bus _ (no_file input.TooLong lacks))) once opened) is prints = (lacks.1, once, prints)
-  at_8 row (lacks_bus _ (without_bus _ asks (no_bus _ (no_file input.Memory lacks))) once opened) is prints = absurd (omega (arith, is))
-  at_8 row (lacks_bus _ (without_bus _ asks (no_bus _ (file_refused cause text is_fault says))) once opened) is prints = absurd (omega (arith, is))
-  at_8 row (lacks_bus _ (without_bus _ asks (other_nodes bus reads others)) once opened) is prints = absurd (omega (arith, is))
+  at_8 row (lacks_bus _ (asks_none none unread) once unopened opened) is prints = absurd (omega (arith, is))
+  at_8 row (lacks_bus _ (without_bus _ asks (no_bus _ (no_file input.ReadFault lacks))) once unopened opened) is prints = absurd (omega (arith, is))
+  at_8 row (lacks_bus _ (without_bus _ asks (no_bus _ (no_file input.TooLong lacks))) once unopened opened) is prints = (lacks.1, once, prints)
+  at_8 row (lacks_bus _ (without_bus _ asks (no_bus _ (no_file input.Memory lacks))) once unopened opened) is prints = absurd (omega (arith, is))
+  at_8 row (lacks_bus _ (without_bus _ asks (no_bus _ (file_refused cause text is_fault says))) once unopened opened) is prints = absurd (omega (arith, is))
+  at_8 row (lacks_bus _ (without_bus _ asks (other_nodes bus reads others)) once unopened opened) is prints = absurd (omega (arith, is))
   at_8 row (with_bus bus _ named asks reads comes) is prints = absurd (over_isnt 8 bus row asks comes is not_8)
 
   never_6 : (row : Row) → Comes row → ¬ (row.status ≡ 6)
-  never_6 row (lacks_bus _ lacks once opened) is = lacks_0 i row lacks (inr (inr (inr is)))
+  never_6 row (lacks_bus _ lacks once unopened opened) is = lacks_0 i row lacks (inr (inr (inr is)))
   never_6 row (with_bus bus _ named asks reads comes) is = over_isnt 6 bus row asks comes is not_6
 
   -- ---- which rows come
 
   only_2 : asks_over_bus (codes "grow") i.words ≡ false → (row : Row) → Comes row → row.status ≡ 2
-  only_2 none row (lacks_bus _ (asks_none also unread) once opened) = refl
-  only_2 none row (lacks_bus _ (without_bus _ asks lacks) once opened) = absurd (asks_or_not (asks_over_bus (codes "grow") i.words) none asks)
+  only_2 none row (lacks_bus _ (asks_none also unread) once unopened opened) = refl
+  only_2 none row (lacks_bus _ (without_bus _ asks lacks) once unopened opened) = absurd (asks_or_not (asks_over_bus (codes "grow") i.words) none asks)
   only_2 none row (with_bus bus _ named asks reads comes) = absurd (asks_or_not (asks_over_bus (codes "grow") i.words) none asks)
 
   only_config : (config : List ℕ) (cause : ConfigFault) → AsksGrowth i.words → Offers i.bus config → bus_of config ≡ Err cause
       → (row : Row) → Comes row → (row.status ≡ 3) ⊎ (row.status ≡ 7)
-  only_config config cause asks offers err row (lacks_bus _ (asks_none none unread) once opened) =
+  only_config config cause asks offers err row (lacks_bus _ (asks_none none unread) once unopened opened) =
       absurd (asks_or_not (asks_over_bus (codes "grow") i.words) none asks)
-  only_config config cause asks offers err row (lacks_bus _ (without_bus _ also (no_bus _ (no_file why lacks))) once opened) =
+  only_config config cause asks offers err row (lacks_bus _ (without_bus _ also (no_bus _ (no_file why lacks))) once unopened opened) =
       inr (memory_status i.bus config why offers lacks)
-  only_config config cause asks offers err row (lacks_bus _ (without_bus _ also (no_bus _ (file_refused why text is_fault says))) once opened) = inl refl
-  only_config config cause asks offers err row (lacks_bus _ (without_bus _ also (other_nodes bus reads others)) once opened) = inl refl
+  only_config config cause asks offers err row (lacks_bus _ (without_bus _ also (no_bus _ (file_refused why text is_fault says))) once unopened opened) = inl refl
+  only_config config cause asks offers err row (lacks_bus _ (without_bus _ also (other_nodes bus reads others)) once unopened opened) = inl refl
   only_config config cause asks offers err row (with_bus bus _ named also reads comes) = absurd (bus_or_fault i.bus bus config cause reads.0 offers err)
 
   only_nodes : (bus : NamedBus) → AsksGrowth i.words → OffersBus i.bus bus → length bus.nodes ≢ 1
       → (row : Row) → Comes row → (row.status ≡ 3) ⊎ (row.status ≡ 7)
-  only_nodes bus asks offers others row (lacks_bus _ (asks_none none unread) once opened) =
+  only_nodes bus asks offers others row (lacks_bus _ (asks_none none unread) once unopened opened) =
       absurd (asks_or_not (asks_over_bus (codes "grow") i.words) none asks)
-  only_nodes bus asks (file, offers, is) others row (lacks_bus _ (without_bus _ also (no_bus _ (no_file why lacks))) once opened) =
+  only_nodes bus asks (file, offers, is) others row (lacks_bus _ (without_bus _ also (no_bus _ (no_file why lacks))) once unopened opened) =
       inr (memory_status i.bus file why offers lacks)
-  only_nodes bus asks offers others row (lacks_bus _ (without_bus _ also (no_bus _ (file_refused why text is_fault says))) once opened) = inl refl
-  only_nodes bus asks offers others row (lacks_bus _ (without_bus _ also (other_nodes that reads more)) once opened) = inl refl
+  only_nodes bus asks offers others row (lacks_bus _ (without_bus _ also (no_bus _ (file_refused why text is_fault says))) once unopened opened) = inl refl
+  only_nodes bus asks offers others row (lacks_bus _ (without_bus _ also (other_nodes that reads more)) once unopened opened) = inl refl
   only_nodes bus asks offers others row (with_bus that _ named also reads comes) =
       absurd (others (sym (ap (λ (b : NamedBus). length b.nodes) (same_bus i.bus that bus reads.0 offers)) ∙ reads.1))
 
   -- a bus file that is offered gives its bus, or memory is out
   offered : (bus : NamedBus) (n : ℕ) → AsksGrowth i.words → OffersNodeBus i.bus bus
-      → ((disk : OpensGrownDisk opens before after (file_of i) left) (row : Row) → IsNamedBus bus → GrowsOnDisk (routes_of bus) disk.old disk.new row
+      → ((disk : OpensGrownDisk opens before after (file_of i) was left) (row : Row) → IsNamedBus bus → GrowsOnDisk (routes_of bus) disk.old disk.new row
       → (row.status ≡ n) ⊎ (row.status ≡ 7))
       → (row : Row) → Comes row → (row.status ≡ n) ⊎ (row.status ≡ 7)
-  offered bus n asks offers each row (lacks_bus _ (asks_none none unread) once opened) =
+  offered bus n asks offers each row (lacks_bus _ (asks_none none unread) once unopened opened) =
       absurd (asks_or_not (asks_over_bus (codes "grow") i.words) none asks)
-  offered bus n asks ((file, offers, is), one) each row (lacks_bus _ (without_bus _ also (no_bus _ (no_file why lacks))) once opened) =
+  offered bus n asks ((file, offers, is), one) each row (lacks_bus _ (without_bus _ also (no_bus _ (no_file why lacks))) once unopened opened) =
       inr (memory_status i.bus file why offers lacks)
-  offered bus n asks offers each row (lacks_bus _ (without_bus _ also (no_bus _ (file_refused why text is_fault says))) once opened) =
+  offered bus n asks offers each row (lacks_bus _ (without_bus _ also (no_bus _ (file_refused why text is_fault says))) once unopened opened) =
       absurd (offered_no_fault i.bus bus why offers.0 is_fault)
-  offered bus n asks offers each row (lacks_bus _ (without_bus _ also (other_nodes that reads more)) once opened) =
+  offered bus n asks offers each row (lacks_bus _ (without_bus _ also (other_nodes that reads more)) once unopened opened) =
       absurd (more (ap (λ (b : NamedBus). length b.nodes) (same_bus i.bus that bus reads offers.0) ∙ offers.1))
-  offered bus n asks offers each row (with_bus that _ named also reads (not_opened once none)) = inr refl
+  offered bus n asks offers each row (with_bus that _ named also reads (not_opened once unopened none)) = inr refl
   offered bus n asks offers each row (with_bus that _ named also reads (over_disk disk _ comes)) =
       let same : that ≡ bus = same_bus i.bus that bus reads.0 offers.0 in
       each disk row (subst IsNamedBus same named) (subst (λ (b : NamedBus). GrowsOnDisk (routes_of b) disk.old disk.new row) same comes)
 
   only_cause : (bus : NamedBus) (f : GrowFault) → AsksGrowth i.words → OffersNodeBus i.bus bus
-      → ((disk : OpensGrownDisk opens before after (file_of i) left) → CannotBeGrown (routes_of bus) disk.old f × (¬ Rose disk.old.faults disk.new.faults))
+      → ((old new : DiskState) → was ≡ Some old → left ≡ Some new → CannotBeGrown (routes_of bus) old f × (¬ Rose old.faults new.faults))
       → (row : Row) → Comes row → (row.status ≡ 9) ⊎ (row.status ≡ 7)
   only_cause bus f asks offers has =
       offered bus 9 asks offers (λ disk row named comes.
-      disk_cause (routes_of bus) disk.old disk.new row f (few_routes bus named) disk.tells comes (has disk).0 (has disk).1)
+      let of = has disk.old disk.new disk.was_is disk.left_is in
+      disk_cause (routes_of bus) disk.old disk.new row f (few_routes bus named) disk.tells comes of.0 of.1)
 
   only_can : (bus : NamedBus) → AsksGrowth i.words → OffersNodeBus i.bus bus
-      → ((disk : OpensGrownDisk opens before after (file_of i) left) → CanBeGrown (routes_of bus) disk.old × (¬ Rose disk.old.faults disk.new.faults))
+      → ((old new : DiskState) → was ≡ Some old → left ≡ Some new → CanBeGrown (routes_of bus) old × (¬ Rose old.faults new.faults))
       → (row : Row) → Comes row → (row.status ≡ 0) ⊎ (row.status ≡ 7)
   only_can bus asks offers has =
       offered bus 0 asks offers (λ disk row named comes.
-      disk_can (routes_of bus) disk.old disk.new row (few_routes bus named) disk.tells comes (has disk).0 (has disk).1)
+      let of = has disk.old disk.new disk.was_is disk.left_is in
+      disk_can (routes_of bus) disk.old disk.new row (few_routes bus named) disk.tells comes of.0 of.1)
 
-  only_rose : CountsStoreFault opens before after i left → (row : Row) → Comes row → row.status ≡ 10
-  only_rose (new, there, rose) row (lacks_bus _ lacks once opened) = absurd (none_left new there opened)
-  only_rose (new, there, rose) row (with_bus bus _ named asks reads (not_opened once none)) = absurd (none_left new there none)
-  only_rose (new, there, rose) row (with_bus bus _ named asks reads (over_disk disk _ comes)) =
+  only_rose : (old new : DiskState) → was ≡ Some old → left ≡ Some new → old.faults < new.faults → (row : Row) → Comes row → row.status ≡ 10
+  only_rose old new is there rose row (lacks_bus _ lacks once unopened opened) = absurd (none_left new there opened)
+  only_rose old new is there rose row (with_bus bus _ named asks reads (not_opened once unopened none)) = absurd (none_left new there none)
+  only_rose old new is there rose row (with_bus bus _ named asks reads (over_disk disk _ comes)) =
       disk_rose (routes_of bus) disk.old disk.new row comes
-      (subst (λ (d : DiskState). disk.old.faults < d.faults) (one_left new disk.new there disk.left_is) (rose disk.old disk.opened))
+      (subst (λ (d : DiskState). d.faults < disk.new.faults) (one_left old disk.old is disk.was_is)
+      (subst (λ (d : DiskState). old.faults < d.faults) (one_left new disk.new there disk.left_is) rose))
 
   row_status : (row : Row) → Comes row → IsRunStatus row.status
-  row_status row (lacks_bus _ lacks once opened) = lacks_status i row lacks
-  row_status row (with_bus bus _ named asks reads (not_opened once none)) = inr (inr (inr (omega arith, omega arith)))
+  row_status row (lacks_bus _ lacks once unopened opened) = lacks_status i row lacks
+  row_status row (with_bus bus _ named asks reads (not_opened once unopened none)) = inr (inr (inr (omega arith, omega arith)))
   row_status row (with_bus bus _ named asks reads (over_disk disk _ comes)) = grow_status row.status (disk_status _ _ _ row comes)
 
   run_status : EndsInRow Comes e → IsRunStatus e.status
@@ -416,6 +419,7 @@ module _ (opens : List ℕ → DiskState → Type 0) (before after : List (List 
 
   pub grows_row : EndsInRow Comes e → GrowsOverBus opens before after i left e
   grows_row ends = record {
+    was = was;
     ends = ends;
     grown = EndsInRow-at ends 0 refl grown_at;
     usage = EndsInRow-at ends 2 refl at_2;
@@ -433,7 +437,7 @@ module _ (opens : List ℕ → DiskState → Type 0) (before after : List (List 
     no_store = EndsInRow-at ends 9 refl no_store_at;
     no_store_only = λ bus f asks offers has. EndsInRow-may ends 9 (only_cause bus f asks offers has);
     disk_failed = EndsInRow-at ends 10 refl disk_failed_at;
-    disk_failed_only = λ rose. EndsInRow-only ends 10 (only_rose rose);
+    disk_failed_only = λ old new is there rose. EndsInRow-only ends 10 (only_rose old new is there rose);
     complete = λ bus asks offers has well. EndsInRow-done ends well 0 (only_can bus asks offers has);
     statuses = run_status ends;
   }

@@ -1,5 +1,7 @@
 //! `grow FILE BUS`: cells at the end of a unit's store.
 ghost use Rattle.std.specs.Prelude.{◌≡◌, ◌≤◌, length, IfOk, IfErr, string_bytes, option_map, map as each};
+ghost use Rattle.std.specs.Prelude.{Option};
+ghost use Rattle.cut_disk.specs.State.{DiskState};
 ghost use Rattle.program_edge.specs.Rows.{row_of};
 ghost use Rattle.program_edge.specs.Endings.{EndsInRow};
 ghost use Rattle.text_lines.specs.Written.{written};
@@ -48,8 +50,8 @@ pub fn grow_named<P: DiskOpener, K: Sink>(
     sink: &mut K,
 ) -> (u8, Option<P::Opened>)
     requires { length routes.now ≤ 256 }
-    ensures { EndsInRow (ComesNamed (P.opens disk_opener.old) (P.opened disk_opener.old) (P.opened disk_opener.new)
-        word.now routes.now (option_map P.Opened.state result.1))
+    ensures { (was : Option DiskState) × EndsInRow (ComesNamed (P.opens disk_opener.old) (P.opened disk_opener.old)
+        (P.opened disk_opener.new) word.now routes.now was (option_map P.Opened.state result.1))
         (record { before = K.state sink.old; after = K.state sink.new; status = result.0 }) }
 {
     match disk_opener.open(alloc, word) {
