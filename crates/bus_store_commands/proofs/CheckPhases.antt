@@ -14,12 +14,10 @@ use Rattle.bus_config.specs.Buses.{NamedBus}
 use Rattle.bus_programs.specs.BusFiles.{ReadsBus}
 use Rattle.bus_programs.specs.BusRoutes.{routes_of, HasOneNode}
 use Rattle.slot_commands.specs.Checked.{Checked}
-use Rattle.slot_commands.specs.Cells.{slot_count}
 use Rattle.slot_commands.specs.Stores.{NoStoreIn}
 use Rattle.bus_store_commands.specs.NodeBuses.{ReadsNodeBus, LacksNodeBus, other_nodes}
 use Rattle.bus_store_commands.specs.BusWords.{asks_over_bus}
 use Rattle.key_commands.specs.declared.finding.CountingStore.{CountingStore}
-use Rattle.key_commands.specs.Counting.{counting_store}
 use Rattle.bus_store_commands.specs.CheckRows.{BusCheckInputs, AsksBusCheck, wanted_store, ChecksNodeStore, DoesBusCheck, found_nothing, found, not_checked, bus_check_usage}
 use Rattle.bus_store_commands.specs.CheckRows.{ComesOfBusCheck, no_form, no_node, done, AnswersBusCheck}
 use Rattle.bus_store_commands.specs.CheckRows as rows

@@ -1,6 +1,6 @@
 -- What a run of `slots check FILE BUS` that ends in a row of the table promises
 use Rattle.std.proofs.Common.{◌≡◌, ◌⊎◌, ◌∙◌, ℕ, List, [], inl, inr, ⊎_elim, refl, sym, ap, subst, arith}
-use Rattle.std.specs.Prelude.{◌≢◌, false, Some, Err, length, codes}
+use Rattle.std.specs.Prelude.{◌≢◌, false, Err, length, codes}
 use Rattle.program_edge.specs.declared.input.InputFault.TheVariants as input
 use Rattle.program_edge.specs.Rows.{Row}
 use Rattle.program_edge.specs.Inputs.{IsUnread, Offers, SourceFailed, GivesTooMuch}
@@ -15,7 +15,6 @@ use Rattle.bus_config.specs.declared.fault.ConfigFault.{ConfigFault}
 use Rattle.bus_config.specs.BusFile.{bus_of}
 use Rattle.bus_config.specs.Buses.{NamedBus}
 use Rattle.bus_programs.specs.BusFiles.{OffersBus, no_file, file_refused}
-use Rattle.bus_programs.specs.BusRoutes.{routes_of}
 use Rattle.bus_programs.proofs.CallerLemmas.{same_bus, bus_or_fault, offered_no_fault, memory_status, told_fault, told_too_much}
 use Rattle.slot_commands.specs.Stores.{HasStoreToCheck, NoStoreIn}
 use Rattle.slot_commands.proofs.CallerLemmas.{no_store_row}

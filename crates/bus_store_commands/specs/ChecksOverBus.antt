@@ -1,5 +1,5 @@
 -- What `slots check FILE BUS` promises
-use Rattle.std.specs.Prelude.{◌≡◌, ◌≢◌, ◌⊎◌, ℕ, false, List, [], Some, Err, length, codes}
+use Rattle.std.specs.Prelude.{◌≡◌, ◌≢◌, ◌⊎◌, ℕ, false, List, [], Err, length, codes}
 use Rattle.program_edge.specs.Inputs.{IsUnread, Offers, SourceFailed, CountsFault, GivesTooMuch, CountsTooMuch}
 use Rattle.program_edge.specs.Rows.{Row}
 use Rattle.program_edge.specs.Endings.{Ending, EndsInRow, EndsIn, MayEndIn, PrintsWhole, PrintsFront}
