@@ -1,5 +1,5 @@
 -- What a power cut leaves of a disk of zeros on which a node's store is made
-use Rattle.std.proofs.Common.{◌≡◌, ◌⊎◌, ℕ, zero, suc, ◌+◌, ◌*◌, ◌-◌, ◌<◌, ◌≤◌, Bool, true, false, ◌==◌, Option, Some, None, List, [], ◌∷◌}
+use Rattle.std.proofs.Common.{◌≡◌, ◌⊎◌, ℕ, zero, suc, ◌+◌, ◌-◌, ◌<◌, ◌≤◌, true, false, ◌==◌, Some, None, List, [], ◌∷◌}
 use Rattle.std.proofs.Common.{◌++◌, length, take, drop, map, get_or, replicate, refl, sym, ap, subst, ◌∙◌, inl, inr, arith}
 use Rattle.std.proofs.Common.{length-take, length-drop, length-append}
 use Rattle.std.proofs.lemmas.Bool.{cases_lt, cases_Bool, false≢true}
@@ -9,8 +9,8 @@ use Rattle.std.proofs.lemmas.Option.{same_Some}
 use Rattle.std.proofs.lemmas.List.{take_at, drop_at, length-replicate, get_or-replicate, get_or_past, get_or-take, get_or-drop, ext_get_or}
 use Rattle.std.proofs.lemmas.List.{length-take-le, get_or_append_left, get_or-append-add, append_assoc}
 use Rattle.basics.specs.Numbers.{bytes_of}
-use Rattle.cut_disk.specs.State.{DiskState, Told}
-use Rattle.cut_disk.specs.Images.{EachImage, Image, firm, splice}
+use Rattle.cut_disk.specs.State.{DiskState}
+use Rattle.cut_disk.specs.Images.{EachImage, firm, splice}
 use Rattle.cell_store.specs.declared.kinds.Kind.{Kind}
 use Rattle.cell_store.specs.declared.kinds.Kind.TheVariants.{Twin, Log}
 use Rattle.cell_store.specs.declared.kinds.Version.{Version}
@@ -21,10 +21,10 @@ use Rattle.cell_store.specs.declared.copies.Side.TheVariants.{First, Second}
 use Rattle.cell_store.specs.Copies.{other}
 use Rattle.cell_store.specs.Layout.{SameOutside, part, base, from_base, header}
 use Rattle.cell_store.specs.Twin.{is_live, counts, cell_of, cell_at, first_at, second_at}
-use Rattle.cell_store.specs.Log.{LogHolds, bank_at, bank_head}
-use Rattle.cell_store.specs.Store.{HasHeader, HoldsCells, Stands, IsDamaged, FirstDamaged, Fresh, fresh_store, fresh_cells, size_from_base, store_size}
+use Rattle.cell_store.specs.Log.{bank_at, bank_head}
+use Rattle.cell_store.specs.Store.{HasHeader, HoldsCells, IsDamaged, FirstDamaged, Fresh, fresh_store, fresh_cells, size_from_base, store_size}
 use Rattle.cell_store.specs.Formats.{FreshOn, Unformed, FreshButHeader}
-use Rattle.cell_store.proofs.CallerLemmas.{SameOutside-refl, SameOutside-splice, header-not_blank, length-header, length-fresh_cells, length-fresh_log, Sized}
+use Rattle.cell_store.proofs.CallerLemmas.{SameOutside-splice, header-not_blank, length-header, length-fresh_cells, length-fresh_log, Sized}
 use Rattle.any_cells.specs.declared.looking.Found.TheVariants.{Blank, Standing, Foreign}
 use Rattle.any_cells.specs.Either.{layout}
 use Rattle.any_cells.specs.Looking.{IsBlank, IsFound}
@@ -36,12 +36,11 @@ use Rattle.freshness_routes.specs.declared.routes.Route.{Route}
 use Rattle.freshness_routes.specs.Config.{Config, IsConfig}
 use Rattle.bus_machine.specs.Node.{first_node}
 use Rattle.secoc_node.specs.Cells.{CellsOf, bound_cells}
-use Rattle.secoc_node.proofs.CallerLemmas.{length-CellsOf, first_is_kept}
 use Rattle.bus_world.specs.TakingUp.{cells_in, new_cells}
 use Rattle.bus_store_commands.specs.declared.making.MakeFault.{MakeFault}
 use Rattle.bus_store_commands.specs.declared.making.MakeFault.TheVariants as fault
 use Rattle.bus_store_commands.specs.NodeStores.{made, stood, MadeOrFound, StoreMade, StoreUnmade}
-use Rattle.bus_store_commands.specs.CutMakes.{whole, blank, torn, NewStore, TornHeader, CutMake}
+use Rattle.bus_store_commands.specs.CutMakes.{whole, blank, torn, NewStore, CutMake}
 use Rattle.bus_store_commands.proofs.MakingStores.{standing_header, new_length}
 
 -- ---- zeros

@@ -1,5 +1,5 @@
 -- What a power cut may leave of a disk of zeros on which a node's store is made
-use Rattle.std.specs.Prelude.{◌≡◌, ◌⊎◌, ℕ, List, replicate}
+use Rattle.std.specs.Prelude.{◌⊎◌, ℕ, List, replicate}
 use Rattle.cell_store.specs.declared.kinds.Kind.{Kind}
 use Rattle.cell_store.specs.declared.kinds.Version.{Version}
 use Rattle.cell_store.specs.Layout.{SameOutside, base}
