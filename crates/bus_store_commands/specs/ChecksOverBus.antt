@@ -16,7 +16,8 @@ use Rattle.key_commands.specs.Opening.{layout_of}
 use Rattle.slot_commands.specs.Stores.{HasStoreToCheck, NoStoreIn}
 use Rattle.bus_store_commands.specs.NodeBuses.{OffersNodeBus, LacksNodeBus}
 use Rattle.bus_store_commands.specs.BusWords.{asks_over_bus}
-use Rattle.bus_store_commands.specs.CheckRows.{BusCheckInputs, AsksBusCheck, OverStoreAndBus, wanted_store, ChecksNodeStore, DoesBusCheck}
+use Rattle.bus_store_commands.specs.CheckRows.{BusCheckInputs, AsksBusCheck, OverStoreAndBus, wanted_store}
+use Rattle.bus_store_commands.specs.CheckRows.{ChecksNodeStore, DoesBusCheck}
 use Rattle.bus_store_commands.specs.CheckRows.{ComesOfBusCheck, bus_check_usage}
 
 -- what is promised of these inputs that ends so, in the order of the table of answers

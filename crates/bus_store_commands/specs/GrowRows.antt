@@ -9,7 +9,8 @@ use Rattle.cell_store.specs.declared.kinds.Version.TheVariants.{One}
 use Rattle.program_edge.specs.Rows.{Row, row_of, memory_row}
 use Rattle.freshness_routes.specs.declared.routes.Route.{Route}
 use Rattle.store_growing.specs.declared.faults.GrowFault.{GrowFault}
-use Rattle.store_growing.specs.declared.faults.GrowFault.TheVariants.{DiskFailed, NotFormatted, TooSmall, BadBound, Memory}
+use Rattle.store_growing.specs.declared.faults.GrowFault.TheVariants.{DiskFailed, NotFormatted, TooSmall, BadBound}
+use Rattle.store_growing.specs.declared.faults.GrowFault.TheVariants.{Memory}
 use Rattle.store_growing.specs.RouteCells.{route_cell}
 use Rattle.store_growing.specs.GrowingStores.{OfBytes, CanBeGrown, GrowsStore, NotGrown}
 use Rattle.slot_commands.specs.StoreWords.{store_line_words}

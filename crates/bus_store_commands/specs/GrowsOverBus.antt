@@ -1,6 +1,6 @@
 -- What `slots grow FILE BUS` promises
-use Rattle.std.specs.Prelude.{◌≡◌, ◌≢◌, ◌⊎◌, ℕ, ◌<◌, ◌≤◌, false, true, List, [], ◌∷◌, ◌++◌, Option, Some, None, Result, Ok, Err, length}
-use Rattle.std.specs.Prelude.{codes, slice_index_or}
+use Rattle.std.specs.Prelude.{◌≡◌, ◌≢◌, ◌⊎◌, ℕ, ◌<◌, ◌≤◌, false, true, List, [], ◌∷◌, ◌++◌, Option, Some, None}
+use Rattle.std.specs.Prelude.{Result, Ok, Err, length, codes, slice_index_or}
 use Rattle.cut_disk.specs.State.{DiskState}
 use Rattle.cut_disk.specs.Calls.{Rose, AsBefore}
 use Rattle.file_disk.specs.NamedDisks.{TellsFirmBytes}
@@ -76,7 +76,8 @@ pub data ComesOfGrowth (opens : List ℕ → DiskState → Type 0) (before after
       → ComesNamed opens before after (file_of i) (routes_of bus) was left row
       → ComesOfGrowth opens before after i was left row
 
-module _ (opens : List ℕ → DiskState → Type 0) (before after : List (List ℕ)) (i : GrowInputs) (left : Option DiskState) where
+module _ (opens : List ℕ → DiskState → Type 0) (before after : List (List ℕ)) (i : GrowInputs)
+    (left : Option DiskState) where
   -- the bus file was read whole, and the disk of FILE was opened once, as it was then
   abbrev pub OverStore : Option DiskState → (List Route → DiskState → DiskState → Type 0) → Type 0
   OverStore was Has = (bus : NamedBus) × IsNamedBus bus × AsksGrowth i.words × ReadsNodeBus i.bus bus
@@ -113,7 +114,8 @@ module _ (opens : List ℕ → DiskState → Type 0) (before after : List (List 
     pub write_fault : e.status ≡ 6 → SinkFailed e × PrintsFront (ComesOfGrowth opens before after i was left) e
     pub write_fault_only : CountsWriteFault e → e.status ≡ 6
     -- 7: nothing was printed, and nothing was written to a disk.
-    pub no_memory : e.status ≡ 7 → PrintsWhole e [] × ((left ≡ None) ⊎ OverStore was (λ routes old new. new.told ≡ old.told))
+    pub no_memory : e.status ≡ 7
+        → PrintsWhole e [] × ((left ≡ None) ⊎ OverStore was (λ routes old new. new.told ≡ old.told))
     -- 8: exactly if one byte more than an input may have came from the bus file's source.
     pub too_long : e.status ≡ 8 → GivesTooMuch i.bus × (after ≡ before) × PrintsWhole e (codes "input too long\n")
     pub too_long_only : CountsTooMuch i.bus → EndsIn 8 e
@@ -123,7 +125,8 @@ module _ (opens : List ℕ → DiskState → Type 0) (before after : List (List 
         × ((fault : GrowFault) × (row : Row) × CannotBeGrown routes old fault × IsGrowRow fault row × (row.status ≡ 9)
         × PrintsWhole e row.text))
     pub no_store_only : (bus : NamedBus) (fault : GrowFault) → AsksGrowth i.words → OffersNodeBus i.bus bus
-        → OfStore was (λ old new. CannotBeGrown (routes_of bus) old fault × (¬ Rose old.faults new.faults)) → MayEndIn 9 e
+        → OfStore was (λ old new. CannotBeGrown (routes_of bus) old fault × (¬ Rose old.faults new.faults))
+        → MayEndIn 9 e
     -- 10: exactly if the disk's count of faults rose; whatever the power leaves has the cells that the store had, or
     -- more.
     pub disk_failed : e.status ≡ 10 → OverStore was (λ routes old new. NotGrown routes old new DiskFailed

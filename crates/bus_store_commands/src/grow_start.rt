@@ -25,8 +25,8 @@ pub fn grow_words<O: Opener, P: DiskOpener, I: Source + Drop, K: Sink>(
     words: &[String],
     sink: &mut K,
 ) -> (u8, WordSource<O::Opened, I>, Option<P::Opened>)
-    // All that a growth promises, over the bus file and the disk that the arguments name, which are handed back. Each is
-    // opened once, and no other.
+    // All that a growth promises, over the bus file and the disk that the arguments name, which are handed back. Each
+    // is opened once, and no other.
     ensures { OverNamed (O.opens opener.old)
         (openings (O.opened opener.old) (option_map I.state input.old))
         (openings (O.opened opener.new) (option_map I.state input.new))

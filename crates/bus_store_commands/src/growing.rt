@@ -31,7 +31,10 @@ pub fn grow_asked<S: Source>(
     bus: &mut S,
 ) -> Result<BusConfig, Refusal>
     ensures { TakesGrowth
-        (record { words = each string_bytes words.now; bus = record { before = S.state bus.old; after = S.state bus.new } })
+        (record {
+          words = each string_bytes words.now;
+          bus = record { before = S.state bus.old; after = S.state bus.new };
+        })
         result }
 {
     if !asks_over_bus("grow", words) {
@@ -68,8 +71,8 @@ pub fn grow_named<P: DiskOpener, K: Sink>(
 }
 
 /// Grows the store on a disk to a cell for each of these routes, at most 256, and prints what it has then. It gives the
-/// status that the program ends with: 9 and the first cause if the store isn't grown, 10 if the disk failed, 7 if memory
-/// is out, 6 if the sink failed.
+/// status that the program ends with: 9 and the first cause if the store isn't grown, 10 if the disk failed, 7 if
+/// memory is out, 6 if the sink failed.
 pub fn grow_over<D: Disk, K: Sink>(
     alloc: Global,
     disk: &mut D,
@@ -93,7 +96,8 @@ fn grown_text_over<D: Disk>(
     routes: &[Route],
 ) -> Result<Vec<u8>, Refusal>
     requires { length routes.now ≤ 256 }
-    ensures done { IfOk result (λ text. GrowsOnDisk routes.now (D.state disk.old) (D.state disk.new) (row_of 0 text.items)) }
+    ensures done { IfOk result
+        (λ text. GrowsOnDisk routes.now (D.state disk.old) (D.state disk.new) (row_of 0 text.items)) }
     ensures refused { IfErr result (GrowsOnDisk routes.now (D.state disk.old) (D.state disk.new)) }
 {
     let text = match grown_text(alloc, 14 + routes.len() as u16) {

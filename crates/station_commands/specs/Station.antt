@@ -1,5 +1,6 @@
 -- What the arguments of `station` ask for, and what a run promises
-use Rattle.std.specs.Prelude.{◌≡◌, ℕ, Bool, List, Option, Some, None, if◌then◌else◌, ◌||◌, bytes_eq, codes, drop, map, option_map}
+use Rattle.std.specs.Prelude.{◌≡◌, ℕ, Bool, List, Option, Some, None, if◌then◌else◌, ◌||◌, bytes_eq, codes}
+use Rattle.std.specs.Prelude.{drop, map, option_map}
 use Rattle.bus_port.specs.Source.{SourceState}
 use Rattle.cut_disk.specs.State.{DiskState}
 use Rattle.text_lines.specs.Readings.{nth_word}
@@ -22,10 +23,11 @@ use Rattle.adopt_commands.specs.AdoptsOver.{AdoptsOver}
 use Rattle.keyfile_commands.specs.Calls.{first_file, second_file}
 use Rattle.keyfile_commands.specs.KeyFilesRuns.{KeyFilesRuns}
 use Rattle.station_commands.specs.declared.run.StationPart.{StationPart}
-use Rattle.station_commands.specs.declared.run.StationPart.TheVariants.{Slots, BusCheck, Making, Growth, Ledger, Adoption, Key}
+use Rattle.station_commands.specs.declared.run.StationPart.TheVariants.{Slots, BusCheck, Making, Growth, Ledger}
+use Rattle.station_commands.specs.declared.run.StationPart.TheVariants.{Adoption, Key}
 use Rattle.station_commands.specs.declared.run.StationFiles.{StationFiles}
-use Rattle.station_commands.specs.declared.run.StationFiles.TheVariants.{Store, StoreAndBus, Made, Grown, Ledgers, Adopted, Keys}
-use Rattle.station_commands.specs.declared.run.StationFiles.TheVariants.{Nothing}
+use Rattle.station_commands.specs.declared.run.StationFiles.TheVariants.{Store, StoreAndBus, Made, Grown, Ledgers}
+use Rattle.station_commands.specs.declared.run.StationFiles.TheVariants.{Adopted, Keys, Nothing}
 
 -- the line that is printed if the first argument is none of the program's
 abbrev pub station_usage : List ℕ
@@ -82,7 +84,8 @@ RunsPart opens disk_opens state disk words o (Some Making) (Made bus left) e =
     }) e)
 RunsPart opens disk_opens state disk words o (Some Growth) (Grown bus left) e =
     OverNamed opens o.before o.after (file_over_bus (codes "grow") words 2) (state bus)
-    (λ it. GrowsOverBus disk_opens o.disks_before o.disks_after (record { words = words; bus = it }) (option_map disk left) e)
+    (λ it. GrowsOverBus disk_opens o.disks_before o.disks_after (record { words = words; bus = it })
+    (option_map disk left) e)
 RunsPart opens disk_opens state disk words o (Some Ledger) (Ledgers files) e =
     OverAllNamed opens o.before o.after (words_named words) (map state files.items)
     (λ all. ReadsLedgerFiles (record { words = words; files = all }) e)
