@@ -86,7 +86,9 @@ pub record GivesSize (head : List ℕ) (size : ℕ) : Type 0 where
 -- A software update of a unit with n routes, by route n. It begins with what the power left of the image of the older
 -- software, and what the device has after it, with room for two cells. The power goes within the growth as often as it
 -- may: at the next power-up the caller calls for what the device then holds. In the end the store grew by the cell of
--- route n. Then every route was filled in and opened, and the new one for the first time. Two routes are two updates.
+-- route n. Then every route was filled in and opened, and the new one for the first time. Two routes are two updates:
+-- while the second one grows, the calls for the first plan nothing
+-- (`growth_laws::a_call_for_a_cell_that_is_there_plans_nothing`).
 pub record Updates (n : ℕ) (a b : Memory) : Type 0 where
   pub left : List ℕ
   pub cut : LeavesPut a.plan a.image left
