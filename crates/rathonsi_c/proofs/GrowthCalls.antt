@@ -11,7 +11,7 @@ use Rattle.store_plan.specs.declared.growing.Growth.{Growth}
 use Rattle.store_plan.specs.declared.growing.Growth.TheVariants.{Before, Counting, After, Beyond}
 use Rattle.store_plan.specs.declared.planning.Plan.{Plan}
 use Rattle.store_plan.specs.Plans.{CutWithin}
-use Rattle.store_plan.specs.Growing.{IsGrowth, PlansFor, IsErasedAfter, CutGrowth}
+use Rattle.store_plan.specs.Growing.{IsGrowth, PlansFor, IsErasedAfter}
 use Rattle.store_plan.proofs.CallerLemmas.{count-cut, count-others, count-within, growth-cut, growth-others, growth-within}
 use Rattle.rathonsi_c.specs.declared.route.RathonsiRoute.{RathonsiRoute}
 use Rattle.rathonsi_c.specs.Growing.{FoundAfter, PlansCell}
