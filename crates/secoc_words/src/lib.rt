@@ -6,7 +6,7 @@
 //! 65,536 lines of one kind, in lower-case digits with single spaces, are read as they were written ([`laws`]).
 //! [`push_verdict`] judges a Secured I-PDU by its receiver's counter and window, and adds the text of the verdict, as
 //! it does with room for 158 bytes. The counter is then the freshness of an accepted PDU, and as before for any other.
-//! So accepted freshness rises ([`counting_laws::accepted_freshness_rises`]).
+//! So the freshness that a receiver accepts rises ([`counting_laws::accepted_freshness_rises`]).
 #![tactic(auto)]
 
 mod counting;
