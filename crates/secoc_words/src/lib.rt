@@ -29,4 +29,5 @@ pub use crate::judges::{JudgeLine, read_judges};
 pub use crate::key_forms::{counter, engine_uid, flags, slot, uid};
 pub use crate::loads::read_loads;
 pub use crate::received_bytes::ReceivedBytes;
-pub use counting::{WIDEST_WINDOW, push_verdict};
+pub use counting::push_verdict;
+pub use secured_pdu::WIDEST_WINDOW;
