@@ -107,7 +107,11 @@ impl NodeConfig {
             (record { uid = uid; routes = routes.items }) }
     {
         let listed = routes.as_slice();
-        if listed.len() > MOST_ROUTES || uid.is_zero() || !are_routes(listed) || !have_own_ids(listed) {
+        if listed.len() > MOST_ROUTES
+            || uid.is_zero()
+            || !are_routes(listed)
+            || !have_own_ids(listed)
+        {
             return None;
         }
         let routes = Routes::of(routes);

@@ -1,5 +1,5 @@
 -- Routes over the image of a store, and what the calls on them do and answer.
-use Rattle.std.specs.Prelude.{ℤ, ◌≡◌, ℕ, ◌+◌, ◌-◌, ◌^◌, ◌<◌, ◌≤◌, ◌==◌, ◌⊎◌, min, nat_lt, if◌then◌else◌, Bool, List}
+use Rattle.std.specs.Prelude.{ℤ, ◌≡◌, ℕ, ◌+◌, ◌^◌, ◌<◌, ◌≤◌, ◌==◌, ◌⊎◌, nat_lt, if◌then◌else◌, Bool, List}
 use Rattle.std.specs.Prelude.{length}
 use Rattle.key_slots.specs.declared.refusals.Erc.{Erc}
 use Rattle.freshness_routes.specs.Changes.{bound_ahead}
