@@ -101,14 +101,26 @@
  *     are programmed by half can be read today and be gone tomorrow. Read a line with margin, at both
  *     margins if the part has them, and answer NOTHING if the reads differ. Several reads without
  *     margin find only cells that change now; they don't show that a cell keeps what it has. Don't
- *     keep a store on a part that can't do this: the head of a log is such a line, too. The whole
- *     store can then be lost, or, on a part that answers BLANK, fall back to an older one unseen.
+ *     keep a store on a part that can't do this: the head of a log is such a line, too. Without settled
+ *     reads the store may fall back to an older one unseen, on any part, also on one that never answers
+ *     BLANK. A counter goes from 100 to 0 and its PDUs are accepted again, or a key that was confirmed
+ *     is gone. Or the whole store is lost.
  *   - A line that was programmed whole is always read so. Take only margins that such a line passes
  *     as long as the device lives. If a line isn't read, the puts after it are lost with it. That is a
  *     fault of the part, which nothing here mends.
- *   - BLANK is believed. Answer it to a READ only if the part's blank check proves that the line was
- *     erased in full and that no PROGRAM of it was begun since. A part without such a check never
- *     answers BLANK: each start then erases a bank. Seemingly blank units do no harm then.
+ *   - A corrected error sets two duties against each other. The line may be whole and old, or a cut one
+ *     that changes soon. Corrected reads don't tell which. That a whole line is always read goes
+ *     before settled reads: if all corrected reads agree, answer DONE. For every part ages, and an old
+ *     line that isn't read takes all puts after it along. A cut line goes only if another bit of it
+ *     changes before a start has copied it; each start without BLANK does. The way out is a read with
+ *     margin while the correction is off. If both margins give the same bits, correct them and answer
+ *     DONE. If they differ, answer NOTHING.
+ *   - BLANK is believed. Answer it to a READ only if the part proves that the line was erased in full
+ *     and that no PROGRAM of it was begun since. No check that looks at levels alone proves that, at
+ *     whatever margin: a cut PROGRAM may leave the levels of a blank line for now. A part without such
+ *     a proof never answers BLANK: each start then erases a bank. Seemingly blank units do no harm then.
+ *   - A unit that resets again and again waits before rathonsi_flash_begin, longer each time: see
+ *     "Wear, RAM and time".
  *   - FAILED if the operation didn't succeed. What it left counts as cut.
  *
  *   What to look up in the manual of a part
@@ -128,9 +140,12 @@
  *   |   is an ECC error                               |   If it changes, only the check stands  |
  *   | what an ECC error does: a trap, a flag; whether | READ must survive it, and answer        |
  *   |   it was corrected                              |   NOTHING only if it wasn't corrected   |
+ *   | whether margin reads work with the correction   | whether a corrected error is told from  |
+ *   |   off                                           |   a cut                                 |
  *   | margin reads, user margin, verify commands,     | settled reads. A margin that old lines  |
  *   |   and what they say of old data                 |   miss loses puts                       |
- *   | blank check, and after an erase that was cut    | BLANK, or never                         |
+ *   | blank check: levels alone, or what was done;    | BLANK, or never: levels alone don't do  |
+ *   |   and after an erase that was cut               |                                         |
  *   | suspend of an erase, and what it forbids        | don't suspend, or count it as running   |
  *   | what a reset does to an erase or a program      | what the driver waits for at a start    |
  *   | caches, prefetch, read and ECC buffers          | what is made invalid after each ERASE   |
@@ -180,6 +195,9 @@
  *   - Erases of a bank over all years, without BLANK: at most (starts + puts / (P - n - 1)) / B; with
  *     BLANK puts / (P - n - 1) / B. No bank is erased more often than another by more than one and the
  *     number of copies that were begun and not done, as the power went or an operation failed.
+ *   - A reset loop: without BLANK each start is an erase and n + 1 PROGRAMs, also if nothing was put
+ *     since the last one. 1,000 starts are 1,000 erases. At ten starts a second 2 banks of 10^4 cycles
+ *     are worn out in 33 minutes, of 10^5 cycles in 5.6 hours.
  *   - RAM: RathonsiFlash 216 bytes, an operation 144, cells and scratch 64 * n, the image
  *     32 + 68 * n.
  *

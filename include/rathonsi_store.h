@@ -53,6 +53,8 @@
  *   Power-up
  *   - The caller zeroes the plan as each power-up begins, and whenever all begins again as at
  *     power-up. It does so whatever was planned before, also if the plan's memory outlives a reset.
+ *   - Software with routes that the production line didn't make calls rathonsi_store_grow for each
+ *     of them, as said there. It does so at each power-up, whatever rathonsi_store_size says.
  *   - What is read at power-up is durable, and reads the same ever after. A device with a cache is
  *     synced before it is read. Otherwise what a failed write left may be read, relied on, and then
  *     be gone.
@@ -210,7 +212,7 @@ typedef struct RathonsiWrite {
     uint8_t bytes[40];
 } RathonsiWrite;
 
-/* A plan is empty if all its bytes are zero. */
+/* A plan is empty if the lengths of its three writes are 0, as they are once it is zeroed. */
 typedef struct RathonsiPlan {
     RathonsiWrite writes[3];
 } RathonsiPlan;
@@ -234,8 +236,8 @@ typedef struct RathonsiRoute {
     /* How far above its counter a receiver accepts freshness, 1 to 256. A receiver falls behind by
      * what its sender sends while it is down (rate times seconds), and by what the sender skips at
      * its power cuts (what is reserved and not sent). If that is more than the window, it accepts
-     * nothing until it takes an answer of the sender: see rathonsi_sync_take. The window plays no
-     * part for a route that sends. */
+     * nothing until it takes an answer of the sender: see rathonsi_sync_take. A route that sends has a
+     * window in this range, too, and makes no use of it. */
     uint16_t window;
     /* The slot of its key, 4 to 13. */
     uint8_t slot;
@@ -304,8 +306,11 @@ int32_t rathonsi_store_check(const uint8_t *image, size_t image_length);
 RATHONSI_CHECKED
 int32_t rathonsi_store_look(const uint8_t *image, size_t image_length, uint16_t *cell);
 
-/* Tells the size in bytes of the store that begins with these 32 bytes. Older software that finds a
- * larger store takes this many bytes as its image. All calls work in it.
+/* Tells the size in bytes of the store that begins with these 32 bytes. Software that grows its store,
+ * or that a roll-back may bring back, asks it at each power-up. It does so after all calls of
+ * rathonsi_store_grow, never to decide whether to make them. This many bytes are its image then.
+ * After a roll-back they are more than the routes of the older software need, and all calls work in
+ * them. So size the image array for later software.
  * RATHONSI_NO_STORE: they are not the header of a store of up to 256 routes. */
 RATHONSI_CHECKED
 int32_t rathonsi_store_size(const uint8_t head[32], uint32_t *size);
@@ -315,18 +320,25 @@ int32_t rathonsi_store_size(const uint8_t head[32], uint32_t *size);
  * nobody's. The bound is 0, unless a counter is taken over. The plan's last write is the number of
  * cells in the header.
  *
- * It is called at power-up, before the routes are opened, until the plan stays empty. The caller
- * asks rathonsi_store_size first: a store that has as many routes as the software, or more, doesn't
- * grow. The plan stays empty if the store has this cell already. After a power cut the same call,
- * on the bytes that the device holds, goes on. If the cut left another number of cells, the call
- * finds both copies of the cell as it wrote them, and plans the number alone. More routes are more
- * calls, in the order of their cells.
+ * It is called at each power-up, before the routes are opened, for each route that the production
+ * line didn't make, in the order of their cells. For each route the caller calls, does the plan and
+ * calls rathonsi_store_done, until the plan stays empty. If it answers another status than
+ * RATHONSI_OK, the unit stops.
+ * It is called whatever rathonsi_store_size says. A cut within the last write may leave any number of
+ * cells: a smaller one, a larger one, none of a store. Only this call puts the number right. A caller
+ * that asks the size, and then calls no growth, may find RATHONSI_NO_STORE or RATHONSI_DAMAGED at
+ * each power-up from then on.
+ * The plan stays empty if the store has this cell already. After a power cut the same call, with the
+ * same route and bound, on the bytes that the device holds, goes on. If the cut left another number
+ * of cells, the call finds both copies of the cell as it wrote them, and plans the number alone.
  *
  * image is what the device holds, with room for this cell and one more. What lies there after the
  * store is erased: all bytes 00, or all ff, as in place of bytes that the device hasn't. If the 68
  * bytes after this cell are neither, the store has more cells, or is to get them, or a cell of it
  * is damaged. Then the call plans nothing. So the store of newer software stays as it is, and so
- * does one whose number of cells was cut as a later cell was added.
+ * does one whose number of cells was cut as a later cell was added: only software with that cell
+ * puts the number right. A cell that a fault erased whole can't be told from one that isn't there
+ * yet.
  * RATHONSI_BUSY.
  * RATHONSI_BAD_VALUE: a number of the route is outside its range.
  * RATHONSI_BAD_LENGTH: image_length is below RATHONSI_STORE_SIZE(cell - RATHONSI_SLOT_CELLS + 2), or
@@ -340,7 +352,7 @@ int32_t rathonsi_store_grow(const RathonsiRoute *route, uint64_t bound, const ui
                             RathonsiPlan *plan);
 
 /* By this call the caller says that all writes of the plan are durable. The call brings the image
- * up to date, and empties the plan. It does nothing if all bytes of the plan are zero.
+ * up to date, and empties the plan. If the plan is empty, the image stays as it is.
  * RATHONSI_BAD_VALUE: a write with a length above 0 reaches beyond the image, or a write has more
  * than 40 bytes. */
 RATHONSI_CHECKED
@@ -424,7 +436,8 @@ int32_t rathonsi_route_send(RathonsiRoute *route, const uint8_t *image, size_t i
  * RATHONSI_KEY_EMPTY, RATHONSI_KEY_INVALID, RATHONSI_KEY_NOT_AVAILABLE: as for rathonsi_route_send.
  * RATHONSI_FRESHNESS_FAILURE, RATHONSI_VERIFICATION_FAILURE.
  * RATHONSI_RESERVE, after all refusals above: the bound in the image doesn't cover the freshness
- * yet. The authenticator of the PDU agrees, so nobody without the key makes the device wear.
+ * yet. The authenticator of the PDU agrees. So without the key, a PDU makes the device wear once in
+ * 2^24 tries on average.
  * freshness is the one to reserve. Once it is reserved and the plan is done, the same call accepts
  * the PDU. This is proved. */
 RATHONSI_CHECKED

@@ -24,8 +24,8 @@ void part_wait(void);
 /* Reads a unit with this margin, from the flash itself: no cache or buffer may have its bytes from before. 0: an error
  * that the ECC doesn't correct, or no read. It must come back from a trap that such an error is. */
 int part_read(uint32_t bank, uint32_t offset, uint8_t *bytes, int margin);
-/* Whether the part proves that a unit was erased in full and no program of it was begun since. 0 on every part that
- * can't. */
+/* Whether the part proves that a unit was erased in full and no program of it was begun since. Levels alone prove
+ * neither: 0 on every part that has no more. */
 int part_is_blank(uint32_t bank, uint32_t offset);
 /* Programs a unit that is blank, waits until that is done, and looks at the part's flags. 0: it failed. */
 int part_program(uint32_t bank, uint32_t offset, const uint8_t *bytes);

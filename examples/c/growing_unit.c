@@ -1,10 +1,17 @@
 /*
- * Two control units, of which one sends what the other receives, under one to eight Data IDs: new software adds a route, and the store
- * grows. Power goes at any byte of any write, and between writes. The receiver sleeps, falls behind and takes an answer of the sender. An
- * attacker repeats PDUs and answers, and alters answers. No freshness may come twice, no key may be lost, and no receiver may stay locked
- * out.
+ * Two control units, of which one sends what the other receives, under one to eight Data IDs: new software adds routes, and the store
+ * grows. Power goes at any byte of any write, and between writes. The older software may start in between, or come back later. The receiver
+ * sleeps, falls behind and takes an answer of the sender. An attacker repeats PDUs and answers, and alters answers. No freshness may come
+ * twice, no key may be lost, no receiver may stay locked out, and no unit may stay down.
  *
- *     growing_unit EVENTS
+ *     growing_unit EVENTS [DUTY]
+ *
+ * With DUTY a unit breaks a duty of rathonsi_store_grow, and the program ends well if some units never come up again:
+ *
+ *     asks_size         it asks rathonsi_store_size first, and calls no growth if the store has as many routes as its software, or more
+ *     checks_larger     it asks first, too: the store is whole if it has as many routes, or more and rathonsi_store_check says OK
+ *     stops_without     it stops if rathonsi_store_size says that there is no store
+ *     grows_once        it calls the growths at the first power-up after an update alone
  */
 #include <stdio.h>
 #include <stdlib.h>
@@ -13,15 +20,23 @@
 #include "rathonsi_store.h"
 
 enum { MOST = 8, SLOT = 4, PAYLOAD = 8, PDU = PAYLOAD + RATHONSI_TRAILER, KEPT = 64, MISSES = 3, IN_A_ROW = 3000 };
+enum duty { KEEPS_ALL, ASKS_SIZE, CHECKS_LARGER, STOPS_WITHOUT, GROWS_ONCE, DUTIES };
+static const char *const duty_names[DUTIES] = {"", "asks_size", "checks_larger", "stops_without", "grows_once"};
+static enum duty broken;
 
-/* A unit: its device, with room after the store, and all that it has in RAM. */
+/* What comes of a try to come up. */
+enum outcome { UP, CUT, STOPPED };
+
+/* A unit: its device, with room after the store, and all that it has in RAM. Its image has room for the store of any later software, too. */
 struct unit {
     uint8_t device[RATHONSI_STORE_SIZE(MOST + 1)];
     uint8_t image[RATHONSI_STORE_SIZE(MOST + 1)];
-    size_t size; /* of the store of its software */
+    uint32_t size; /* of the store, which may have more routes than its software */
     RathonsiPlan plan;
     RathonsiRoute routes[MOST];
-    unsigned count; /* how many routes its software has */
+    unsigned count;  /* how many routes its software has */
+    unsigned before; /* how many the software before it has */
+    int is_new;      /* whether its software never came up */
 };
 
 static struct unit sender, receiver;
@@ -36,7 +51,8 @@ static unsigned missed[MOST], in_a_row[MOST];
 static uint8_t old_pdus[MOST][KEPT][PDU];
 static uint8_t old_answers[MOST][RATHONSI_ANSWER];
 static unsigned asleep; /* for so many PDUs */
-static long units, sent, accepted, refused, replays, cuts, grown, counted, answers, taken;
+static int is_lost; /* a unit never comes up again */
+static long units, lost, sent, accepted, refused, replays, cuts, grown, counted, answers, taken, rolled_back, stopped;
 static const char *harm;
 static uint32_t random_state = 2463534242u;
 
@@ -59,29 +75,31 @@ static void expect(int holds, const char *what) {
 
 /* ---- The device ---- */
 
-/* Does a write; 0 if power goes within it: of its bytes anything is left. */
-static int write_device(struct unit *unit, const RathonsiWrite *write) {
+/* Does a write; 0 if power goes within it, as it does once in so many: of its bytes anything is left. */
+static int write_device(struct unit *unit, const RathonsiWrite *write, uint32_t once_in) {
     uint8_t *at = unit->device + write->offset;
-    int cut = draw(40) == 0;
+    int cut = draw(once_in) == 0;
     for (uint32_t i = 0; i < write->length; i++) {
-        uint32_t what = cut ? draw(4) : 0;
+        uint32_t what = cut ? draw(5) : 0;
         if (what == 0)
             at[i] = write->bytes[i];
         else if (what == 1)
-            at[i] = (uint8_t)draw(256);
+            at[i] = (uint8_t)(draw(2) == 0 ? draw(256) : at[i] ^ draw(4));
         else if (what == 2)
-            at[i] = 0xa7;
+            at[i] |= write->bytes[i];
+        else if (what == 3)
+            at[i] = 0xff;
     }
     cuts += cut;
     return !cut;
 }
 
 /* Does the plan; 0 if power goes. */
-static int do_plan(struct unit *unit) {
+static int do_plan(struct unit *unit, uint32_t once_in) {
     for (int i = 0; i < 3; i++)
-        if (unit->plan.writes[i].length != 0u && !write_device(unit, &unit->plan.writes[i]))
+        if (unit->plan.writes[i].length != 0u && !write_device(unit, &unit->plan.writes[i], once_in))
             return 0;
-    expect(rathonsi_store_done(unit->image, unit->size, &unit->plan) == RATHONSI_OK, "a plan reaches beyond the image");
+    expect(rathonsi_store_done(unit->image, sizeof unit->image, &unit->plan) == RATHONSI_OK, "a plan reaches beyond the image");
     return 1;
 }
 
@@ -96,45 +114,102 @@ static void look_for_key(const struct unit *unit) {
     expect(memcmp(&reply, &first_reply, sizeof reply) == 0, "a key is lost");
 }
 
-/* The store gets the cell of the route, unless it has it; 0 if power goes as it grows. */
-static int grow_store(struct unit *unit, const RathonsiRoute *route) {
-    expect(rathonsi_store_grow(route, 0, unit->image, sizeof unit->image, &unit->plan) == RATHONSI_OK, "a store can't grow");
-    if (unit->plan.writes[2].length == 0u)
-        return 1;
-    counted += unit->plan.writes[0].length == 0u;
-    grown += unit->plan.writes[0].length != 0u;
-    if (!do_plan(unit))
-        return 0;
-    expect(rathonsi_store_grow(route, 0, unit->image, sizeof unit->image, &unit->plan) == RATHONSI_OK && unit->plan.writes[2].length == 0u,
-           "a store grows twice");
-    return 1;
+/* Whether the unit breaks a duty, and calls no growth now. */
+static int leaves_out(const struct unit *unit) {
+    uint32_t size = 0;
+    int is_store = rathonsi_store_size(unit->image, &size) == RATHONSI_OK;
+    switch (broken) {
+    case ASKS_SIZE: return is_store && size >= RATHONSI_STORE_SIZE(unit->count);
+    case CHECKS_LARGER:
+        return is_store && (size == RATHONSI_STORE_SIZE(unit->count)
+                            || (size > RATHONSI_STORE_SIZE(unit->count) && size <= sizeof unit->image
+                                && rathonsi_store_check(unit->image, size) == RATHONSI_OK));
+    case STOPS_WITHOUT: return !is_store;
+    case GROWS_ONCE: return !unit->is_new;
+    default: return 0;
+    }
 }
 
-/* One try to come up; 0 if power goes as the store grows. */
-static int come_up(struct unit *unit) {
+/* The store gets the cell of this route, unless it has it. */
+static enum outcome grow_by(struct unit *unit, const RathonsiRoute *route) {
+    for (;;) {
+        if (rathonsi_store_grow(route, 0, unit->image, sizeof unit->image, &unit->plan) != RATHONSI_OK)
+            return STOPPED;
+        if (unit->plan.writes[2].length == 0u) /* nothing is planned */
+            return UP;
+        counted += unit->plan.writes[0].length == 0u;
+        grown += unit->plan.writes[0].length != 0u;
+        if (!do_plan(unit, 8))
+            return CUT;
+    }
+}
+
+/* The store gets the cells of all routes that the production line didn't make, in the order of their cells. */
+static enum outcome grow_store(struct unit *unit) {
+    enum outcome outcome = UP;
+    for (unsigned i = 1; i < unit->count && outcome == UP; i++)
+        if (!leaves_out(unit))
+            outcome = grow_by(unit, &unit->routes[i]);
+    unit->is_new = 0;
+    return outcome;
+}
+
+/* What comes after the growths: the size, which may be that of a store with more routes, the check, and the routes. */
+static enum outcome open_store(struct unit *unit) {
     uint32_t which = 0;
-    uint16_t cell = 0;
-    memcpy(unit->image, unit->device, sizeof unit->image);
-    memset(&unit->plan, 0, sizeof unit->plan);
-    for (unsigned i = 1; i < unit->count; i++) /* the first route was made on the production line */
-        if (!grow_store(unit, &unit->routes[i]))
-            return 0;
-    expect(rathonsi_store_check(unit->image, unit->size) == RATHONSI_OK, "the store is damaged");
-    expect(rathonsi_store_look(unit->image, unit->size, &cell) == RATHONSI_OK, "a cell is odd");
-    for (unsigned i = 0; i < unit->count; i++) {
+    for (unsigned i = 0; i < MOST; i++) {
         unit->routes[i].opened = 0;
         unit->routes[i].reserve = (uint16_t)(1 + draw(128)); /* another one in each life */
     }
-    expect(rathonsi_routes_open(unit->routes, unit->count, unit->image, unit->size, &which) == RATHONSI_OK, "a route doesn't open");
+    if (rathonsi_store_size(unit->image, &unit->size) != RATHONSI_OK || unit->size > sizeof unit->image
+        || rathonsi_store_check(unit->image, unit->size) != RATHONSI_OK
+        || rathonsi_routes_open(unit->routes, unit->count, unit->image, unit->size, &which) != RATHONSI_OK)
+        return STOPPED;
+    return UP;
+}
+
+/* A unit that is up has all that it had. */
+static void look_at(const struct unit *unit) {
+    uint16_t cell = 0;
+    expect(rathonsi_store_look(unit->image, unit->size, &cell) == RATHONSI_OK, "a cell is odd");
     for (unsigned i = 0; i < unit->count; i++)
         expect(unit->routes[i].counter >= (unit == &sender ? sent_last[i] : accepted_last[i]), "a counter fell back");
     look_for_key(unit);
-    return 1;
+}
+
+/* One try to come up, as rathonsi_store.h and docs/units.md say. */
+static enum outcome come_up(struct unit *unit) {
+    memset(&unit->plan, 0, sizeof unit->plan);
+    memcpy(unit->image, unit->device, sizeof unit->image);
+    enum outcome outcome = grow_store(unit);
+    if (outcome == UP)
+        outcome = open_store(unit);
+    if (outcome == UP)
+        look_at(unit);
+    return outcome;
+}
+
+/* The software before this one starts once, over a store that may be in the middle of a growth. It finds all that it had, or stops. */
+static void try_older(struct unit *unit) {
+    unsigned count = unit->count;
+    int is_new = unit->is_new;
+    unit->count = unit->before;
+    enum outcome outcome = come_up(unit);
+    stopped += outcome == STOPPED;
+    rolled_back += outcome == UP;
+    unit->count = count;
+    unit->is_new = is_new;
 }
 
 static void power_up(struct unit *unit) {
-    while (!come_up(unit) && harm == NULL)
-        ;
+    enum outcome outcome = come_up(unit);
+    while (outcome == CUT && harm == NULL) {
+        if (draw(3) == 0)
+            try_older(unit);
+        outcome = come_up(unit);
+    }
+    if (outcome == STOPPED)
+        is_lost = 1;
 }
 
 static void cut_power(struct unit *unit) {
@@ -142,8 +217,8 @@ static void cut_power(struct unit *unit) {
     power_up(unit);
 }
 
-/* New software with one route more. */
-static void update(struct unit *unit) {
+/* A route more of new software. */
+static void add_route(struct unit *unit) {
     unsigned which = unit->count++;
     RathonsiRoute *route = &unit->routes[which];
     memset(route, 0, sizeof *route);
@@ -153,14 +228,33 @@ static void update(struct unit *unit) {
     route->window = 256;
     route->slot = SLOT;
     route->direction = unit == &sender ? RATHONSI_SENDS : RATHONSI_RECEIVES;
-    unit->size = RATHONSI_STORE_SIZE(unit->count);
+}
+
+/* New software, with one route more, or with two. */
+static void update(struct unit *unit) {
+    unit->before = unit->count;
+    add_route(unit);
+    if (unit->count < MOST && draw(2) == 0)
+        add_route(unit);
+    unit->is_new = 1;
+    power_up(unit);
+}
+
+/* The software before this one comes back, for a while or until the next update. The store keeps its cells. */
+static void roll_back(struct unit *unit) {
+    unit->count = unit->before;
+    rolled_back++;
+    power_up(unit);
 }
 
 /* ---- The production line ---- */
 
 static void make_unit(struct unit *unit) {
     unit->count = 0;
-    update(unit);
+    add_route(unit);
+    unit->before = unit->count;
+    unit->is_new = 0;
+    unit->size = RATHONSI_STORE_SIZE(1);
     memset(&unit->plan, 0, sizeof unit->plan);
     fill(unit->image, unit->size); /* old bytes */
     memset(unit->image + unit->size, 0xff, sizeof unit->image - unit->size);
@@ -191,6 +285,7 @@ static void make_units(void) {
     memset(old_pdus, 0, sizeof old_pdus);
     memset(old_answers, 0, sizeof old_answers);
     asleep = 0;
+    is_lost = 0;
     units++;
     make_unit(&sender);
     make_unit(&receiver);
@@ -206,7 +301,7 @@ static int reserve(struct unit *unit, unsigned which, uint64_t freshness, int an
     int32_t status = any ? rathonsi_route_advance(route, freshness, unit->image, unit->size, &unit->plan)
                          : rathonsi_route_reserve(route, freshness, unit->image, unit->size, &unit->plan);
     expect(status == RATHONSI_OK, "a bound isn't planned");
-    if (do_plan(unit))
+    if (do_plan(unit, 40))
         return 1;
     power_up(unit);
     return 0;
@@ -292,6 +387,8 @@ static void send_and_receive(unsigned which) {
         missed[which] = in_a_row[which] = 0;
         return;
     }
+    if (is_lost)
+        return;
     refused++;
     expect(++in_a_row[which] < IN_A_ROW, "a receiver stays locked out");
     if (++missed[which] >= MISSES) {
@@ -303,22 +400,21 @@ static void send_and_receive(unsigned which) {
 static void one_event(void) {
     unsigned both = sender.count < receiver.count ? sender.count : receiver.count;
     unsigned which = draw(both);
-    switch (draw(500)) {
-    case 0: cut_power(&sender); break;
-    case 1: cut_power(&receiver); break;
-    case 2: asleep = draw(3000); break;
+    switch (draw(100)) {
+    case 0:
+        if (draw(3) == 0)
+            cut_power(draw(2) == 0 ? &sender : &receiver);
+        break;
+    case 1:
+        if (draw(5) == 0)
+            asleep = draw(3000);
+        break;
+    case 2: roll_back(draw(2) == 0 ? &sender : &receiver); break;
     case 3:
-        if (draw(4) != 0)
-            break;
         if (both == MOST)
             make_units();
-        else {
-            struct unit *unit = sender.count == both ? &sender : &receiver;
-            update(unit);
-            if (unit->count < MOST && draw(2) == 0) /* two routes more at once */
-                update(unit);
-            power_up(unit);
-        }
+        else
+            update(sender.count == both ? &sender : &receiver);
         break;
     default:
         if (draw(5) == 0 && asleep == 0) { /* the attacker repeats one */
@@ -331,16 +427,27 @@ static void one_event(void) {
 }
 
 int main(int count, char **words) {
-    long events = count == 2 ? atol(words[1]) : 0;
-    if (events < 1) {
-        fprintf(stderr, "usage: growing_unit EVENTS\n");
+    long events = count > 1 ? atol(words[1]) : 0;
+    for (int i = 1; i < DUTIES; i++)
+        if (count == 3 && strcmp(words[2], duty_names[i]) == 0)
+            broken = (enum duty)i;
+    if (count < 2 || count > 3 || events < 1 || (count == 3 && broken == KEEPS_ALL)) {
+        fprintf(stderr, "usage: growing_unit EVENTS [DUTY]\n");
         return 2;
     }
     make_units();
-    for (long i = 0; i < events && harm == NULL; i++)
+    for (long i = 0; i < events && harm == NULL; i++) {
         one_event();
+        if (is_lost) {
+            lost++;
+            make_units();
+        }
+    }
     printf("%ld pairs of units: sent %ld, accepted %ld, refused %ld, repeated %ld, power cuts %ld, cells grown %ld and %ld once more for the "
-           "count, answers %ld, taken %ld\n", units, sent, accepted, refused, replays, cuts, grown, counted, answers, taken);
-    printf("%s\n", harm != NULL ? harm : "no harm");
-    return harm == NULL && grown > 0 && counted > 0 && taken > 0 ? 0 : 1;
+           "count, older software up %ld and stopped %ld, answers %ld, taken %ld\n", units, sent, accepted, refused, replays, cuts, grown,
+           counted, rolled_back, stopped, answers, taken);
+    printf("%s%s%s, units lost %ld\n", duty_names[broken], broken == KEEPS_ALL ? "" : ": ", harm != NULL ? harm : "no harm", lost);
+    if (broken != KEEPS_ALL)
+        return harm == NULL && lost > 0 ? 0 : 1;
+    return harm == NULL && lost == 0 && grown > 0 && counted > 0 && taken > 0 && rolled_back > 0 && stopped > 0 ? 0 : 1;
 }

@@ -31,12 +31,12 @@ rises_join low mid from end [] (y ∷ ys) a b c = (let l = c.0 in omega (arith, 
 rises_join low mid from end (x ∷ xs) ys a b c = (a.0, rises_join x mid from end xs ys a.1 b c)
 
 -- what a list begins with has the cells that are within it
-cell_within : (x y : List ℕ) (i : ℕ) → twin_size (i + 1) ≤ length x → cell_at (x ++ y) i ≡ cell_at x i
+pub cell_within : (x y : List ℕ) (i : ℕ) → twin_size (i + 1) ≤ length x → cell_at (x ++ y) i ≡ cell_at x i
 cell_within x y i room =
     sym (front-cell (x ++ y) (i + 1) i (omega arith) (omega (arith, length-append x y)))
     ∙ (ap (λ (l : List ℕ). cell_at l i) (take-append-le (twin_size (i + 1)) x y room) ∙ front-cell x (i + 1) i (omega arith) room)
 
-head_within : (x y : List ℕ) → 32 ≤ length x → part 0 32 x ≡ part 0 32 (x ++ y)
+pub head_within : (x y : List ℕ) → 32 ≤ length x → part 0 32 x ≡ part 0 32 (x ++ y)
 head_within x y room =
     ap (λ (l : List ℕ). part 0 32 l) (sym (take_at x y (length x) refl)) ∙ front-part (x ++ y) (length x) 0 32 room (omega (arith, length-append x y))
 

@@ -10,6 +10,7 @@ pub mod SyncLaws
 pub mod PieceLaws
 pub mod StepLaws
 pub mod GrowthLaws
+pub mod GrowthCalls
 pub mod OpeningLaws
 pub mod LookLaws
 pub mod SlotLaws

@@ -1,5 +1,5 @@
 -- A store that gets the cell of one route more, by a software update; and the size of a store by its first 32 bytes.
-use Rattle.std.specs.Prelude.{ℤ, ◌≡◌, ℕ, ◌+◌, ◌<◌, ◌≤◌, ◌⊎◌, List, ◌++◌, length}
+use Rattle.std.specs.Prelude.{ℤ, ◌≡◌, ℕ, zero, suc, ◌+◌, ◌<◌, ◌≤◌, ◌⊎◌, List, ◌++◌, length}
 use Rattle.cell_store.specs.declared.kinds.Version.TheVariants.{One}
 use Rattle.cell_store.specs.Layout.{twin_layout, header}
 use Rattle.cell_store.specs.Twin.{twin_size}
@@ -10,7 +10,7 @@ use Rattle.store_plan.specs.declared.growing.Growth.TheVariants.{Before, Countin
 use Rattle.store_plan.specs.declared.planning.Plan.{Plan}
 use Rattle.store_plan.specs.Plans.{IsEmptyPlan}
 use Rattle.store_plan.specs.Leaving.{LeavesPut}
-use Rattle.store_plan.specs.Growing.{IsGrowth, PlansFor, Grew}
+use Rattle.store_plan.specs.Growing.{IsGrowth, PlansFor, CutGrowth, Grew}
 use Rattle.rathonsi_c.specs.declared.TheConstants.{BAD_LENGTH, BAD_VALUE, NO_STORE, BUSY}
 use Rattle.rathonsi_c.specs.declared.route.RathonsiRoute.{RathonsiRoute}
 use Rattle.rathonsi_c.specs.Causes.{IfCause, IsDone}
@@ -79,9 +79,16 @@ pub record GivesSize (head : List ℕ) (size : ℕ) : Type 0 where
 
 -- ---- over all lives
 
--- A software update of a unit with n routes. It begins with what the power left of the image of the older software, and
--- what the device has after it, with room for two cells. The store grew by the cell of route n, over as many cuts as
--- there were. Then every route was filled in and opened, and the new one for the first time.
+-- The caller is that of docs/units.md. At each power-up it calls `rathonsi_store_grow` for each route that the production
+-- line didn't make, in the order of their cells. It does each plan, and calls again until nothing is planned. It never
+-- asks `rathonsi_store_size` whether to call. Then it opens all routes.
+
+-- A software update of a unit with n routes, by route n. It begins with what the power left of the image of the older
+-- software, and what the device has after it, with room for two cells. The power goes within the growth as often as it
+-- may: at the next power-up the caller calls for what the device then holds. In the end the store grew by the cell of
+-- route n. Then every route was filled in and opened, and the new one for the first time. Two routes are two updates:
+-- while the second one grows, the calls for the first plan nothing
+-- (`growth_laws::a_call_for_a_cell_that_is_there_plans_nothing`).
 pub record Updates (n : ℕ) (a b : Memory) : Type 0 where
   pub left : List ℕ
   pub cut : LeavesPut a.plan a.image left
@@ -101,3 +108,9 @@ pub record Updates (n : ℕ) (a b : Memory) : Type 0 where
   pub opened : (k : ℕ) → k < n → OpensFilled (a.routes k) b.image (b.routes k)
   pub opened_new : Opens route b.image (b.routes n)
   pub apart : Apart (n + 1) b.routes
+
+-- x is what the device holds at a power-up within the growth of cell i, of this payload: the power went so often within
+-- its plans, and at first the device held this
+abbrev pub FoundAfter : ℕ → ℕ → List ℕ → List ℕ → List ℕ → Type 0
+FoundAfter zero i c first x = x ≡ first
+FoundAfter (suc cuts) i c first x = (y : List ℕ) × (CutGrowth i c first y × FoundAfter cuts i c y x)

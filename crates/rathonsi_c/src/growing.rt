@@ -1,4 +1,5 @@
-//! A store that gets the cell of one route more, by a software update.
+//! A store that gets the cell of one route more, by a software update. The caller grows it at each power-up, for each
+//! route that the production line didn't make, whatever `rathonsi_store_size` says.
 ghost use Rattle.std.specs.Prelude.{◌≡◌, ◌≢◌, ◌↔◌, ◌⊎◌, ℕ, length, IsTrue};
 ghost use Rattle.store_plan.specs.Plans.{PlanFits, IsEmptyPlan};
 ghost use Rattle.rathonsi_c.specs.Growing.{GrowAnswers, StateAnswers, RoomToGrow, PlansCell, SizeAnswers, GivesSize};

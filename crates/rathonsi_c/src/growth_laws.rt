@@ -1,10 +1,14 @@
 //! What a store keeps as it gets the cell of one route more: the contract of each function is the law, and its body is
-//! empty.
-ghost use Rattle.std.specs.Prelude.{◌+◌, ◌<◌, ◌++◌, ℕ, List};
+//! empty. The caller calls `rathonsi_store_grow` at each power-up, for each route that the production line didn't make,
+//! and never asks `rathonsi_store_size` whether to.
+ghost use Rattle.std.specs.Prelude.{◌≡◌, ◌+◌, ◌<◌, ◌≤◌, ◌++◌, ℕ, List, length};
+ghost use Rattle.cell_store.specs.Twin.{twin_size};
 ghost use Rattle.memory_update.specs.declared.messages.Reply.{Reply};
 ghost use Rattle.rathonsi_c.specs.Slots.{ConfirmsSlot};
 ghost use Rattle.rathonsi_c.specs.Stores.{IsWhole};
-ghost use Rattle.rathonsi_c.specs.Growing.{Updates};
+ghost use Rattle.store_plan.specs.declared.planning.Plan.{Plan};
+ghost use Rattle.rathonsi_c.specs.declared.route.RathonsiRoute.{RathonsiRoute};
+ghost use Rattle.rathonsi_c.specs.Growing.{Updates, FoundAfter, PlansCell};
 ghost use Rattle.rathonsi_c.specs.Lives.{Memory, Deed, PoweredUp, Lives, RisesTo, given_out, SlotFilled};
 
 /// A unit with n routes lives, gets new software with a route more, over whatever cuts, and lives on. The freshness of
@@ -25,4 +29,13 @@ pub fn keys_are_kept_across_an_update()
     ensures kept { (n : ℕ) (last next : Memory) (uid m1 : List ℕ) (reply : Reply) → (u : Updates n last next)
         → ConfirmsSlot uid m1 u.left reply → ConfirmsSlot uid m1 next.image reply }
     ensures whole { (n : ℕ) (last next : Memory) → (u : Updates n last next) → IsWhole u.left → IsWhole next.image }
+{}
+
+/// The call for a route whose cell the store has plans nothing, if the store is whole: at each power-up, and also while
+/// a later cell grows, however often the power goes within that, and whatever number of cells it leaves. `store` is
+/// what the device held as that growth began, and `x` what it holds now.
+pub fn a_call_for_a_cell_that_is_there_plans_nothing()
+    ensures { (cuts i bound : ℕ) (c store room x : List ℕ) (route : RathonsiRoute) (old new : Plan) → length c ≡ 32
+        → IsWhole store → length store ≡ twin_size i → 68 ≤ length room → FoundAfter cuts i c (store ++ room) x
+        → route.cell < i → PlansCell route bound x old new → new ≡ old }
 {}
