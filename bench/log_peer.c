@@ -96,32 +96,15 @@ static void read_map(const char *name)
     }
 }
 
-/* What a data frame is that no line of the map hears, by its CAN identifier. */
-static kind unheard_kind(text can)
+/* The line of the map for a frame, its bytes and how many they are. NULL where the word is no data frame, and where the map hasn't its CAN
+   identifier: is_data tells these apart. */
+static map_line *frame_of(text word, uint8_t *bytes, size_t *count, int *is_data)
 {
-    if (*can.at <= (size_of(can) == 3 ? '7' : '1')) return UNMAPPED;
-    return size_of(can) == 8 && (*can.at == '2' || *can.at == '3') ? OTHER_FRAMES : MALFORMED;
-}
-
-/* What a word is that is no data frame, by what stands before and after its first '#': a frame of CAN XL, a remote frame, or none. */
-static kind dataless_kind(text can, text rest)
-{
-    uint64_t number;
-    int is_xl = size_of(can) == 5;
-    for (const char *at = can.at; at < can.end; at++) is_xl &= digit_value(*at) >= 0;
-    return is_xl || (is_can(can, &number) && size_of(rest) && *rest.at == 'R') ? OTHER_FRAMES : MALFORMED;
-}
-
-/* The line of the map for a frame, its bytes and how many they are; else NULL, and what the word is. */
-static map_line *frame_of(text word, uint8_t *bytes, size_t *count, kind *other)
-{
-    uint64_t number;
+    uint64_t can;
     size_t most = 8;
     const char *hash = memchr(word.at, '#', size_of(word));
-    if (!hash) return NULL;
-    text can = {word.at, hash}, data = {hash + 1, word.end};
-    *other = dataless_kind(can, data);
-    if (!is_can(can, &number)) return NULL;
+    if (!hash || !is_can((text){word.at, hash}, &can)) return NULL;
+    text data = {hash + 1, word.end};
     if (data.at < data.end && *data.at == '#') {
         if (size_of(data) < 2 || digit_value(data.at[1]) < 0) return NULL;
         data.at += 2;
@@ -129,8 +112,25 @@ static map_line *frame_of(text word, uint8_t *bytes, size_t *count, kind *other)
     }
     *count = size_of(data) / 2;
     if (size_of(data) % 2 || *count > most || !are_bytes(data.at, *count, bytes)) return NULL;
-    *other = unheard_kind(can);
-    return *place_of(number);
+    *is_data = 1;
+    return *place_of(can);
+}
+
+/* What the third word of a line is that no line of the map hears. */
+static kind other_kind(text word, int is_data)
+{
+    const char *hash = memchr(word.at, '#', size_of(word));
+    if (!hash) return MALFORMED;
+    text can = {word.at, hash};
+    uint64_t number;
+    size_t size = size_of(can);
+    if (is_data && *can.at <= (size == 3 ? '7' : '1')) return UNMAPPED;
+    /* an error frame, and without data a remote frame or one of CAN XL */
+    if (is_data) return size == 8 && (*can.at == '2' || *can.at == '3') ? OTHER_FRAMES : MALFORMED;
+    if (is_can(can, &number) && hash + 1 < word.end && hash[1] == 'R') return OTHER_FRAMES;
+    int is_xl = size == 5;
+    for (const char *at = can.at; at < can.end; at++) is_xl &= digit_value(*at) >= 0;
+    return is_xl ? OTHER_FRAMES : MALFORMED;
 }
 
 /* What is found of a line of the log that isn't skipped, its first word and the rest, is printed, and counted. */
@@ -140,10 +140,10 @@ static void look_at(unsigned long number, text first, text line)
     size_t count;
     text channel = next_word(&line), frame = next_word(&line);
     map_line *mapped = NULL;
-    kind other = MALFORMED;
-    if (*first.at == '(' && first.end[-1] == ')' && size_of(channel) && size_of(frame)) mapped = frame_of(frame, message + 2, &count, &other);
+    int is_data = 0, is_timed = *first.at == '(' && first.end[-1] == ')' && size_of(channel) && size_of(frame);
+    if (is_timed) mapped = frame_of(frame, message + 2, &count, &is_data);
     if (!mapped) {
-        numbers[other]++;
+        numbers[is_timed ? other_kind(frame, is_data) : MALFORMED]++;
         return;
     }
     print_decimal(number);
@@ -154,7 +154,8 @@ static void look_at(unsigned long number, text first, text line)
     size_t pdu = mapped->payload + 4;
     verdict found = count < pdu ? BAD_LENGTH : judge(&mapped->key, message, pdu, 256, &mapped->counter);
     numbers[found == ACCEPTED ? ACCEPTED_FRAMES : FAILED_FRAMES]++;
-    ++*(found == ACCEPTED ? &mapped->accepted : &mapped->failed);
+    if (found == ACCEPTED) mapped->accepted++;
+    else mapped->failed++;
     print_verdict(found, message, pdu);
 }
 
