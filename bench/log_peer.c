@@ -9,20 +9,23 @@ enum { MOST_LINES = 256, PLACES = 1024, PIECE = 4096, MOST_LINE = 4096 };
 
 typedef struct {
     uint64_t can;
-    char digits[8]; /* of the CAN identifier, in lower case */
+    unsigned long number; /* in the map, counted from 1 */
+    char digits[8];       /* of the CAN identifier, in lower case */
     size_t digit_count;
     uint8_t id[2];
     schedule key;
-    uint64_t counter;
+    uint64_t first, counter; /* the freshness of the map, and the one that was accepted last */
     size_t payload;
+    unsigned long accepted, failed;
 } map_line;
 
 static map_line map[MOST_LINES];
 static size_t map_lines;
 static map_line *places[PLACES];
 static int8_t digit_values[256]; /* -1 for what is no hexadecimal digit */
-static unsigned long numbers[3]; /* of frames that were accepted, of those that weren't, and of lines that the map hasn't */
-enum { ACCEPTED_FRAMES, FAILED_FRAMES, OTHERS };
+/* how many frames were accepted and failed, and how many lines are no frame that the map hears, of each kind */
+typedef enum { ACCEPTED_FRAMES, FAILED_FRAMES, UNMAPPED, OTHER_FRAMES, MALFORMED, KINDS } kind;
+static unsigned long numbers[KINDS];
 
 static void set_digit_values(void)
 {
@@ -75,25 +78,27 @@ static void read_map(const char *name)
 {
     text rest = read_all(name), line;
     uint8_t key[16], counter[8];
-    while (next_line(&rest, &line)) {
+    for (unsigned long number = 1; next_line(&rest, &line); number++) {
         text word = next_word(&line);
         if (is_skipped(word)) continue;
         map_line *added = &map[map_lines];
+        added->number = number;
         if (map_lines++ == MOST_LINES || !is_can(word, &added->can)) stop("the map is wrong");
         for (const char *at = word.at; at < word.end; at++) added->digits[added->digit_count++] = "0123456789abcdef"[digit_value(*at)];
         bytes_of(next_word(&line).at, 4, added->id);
         bytes_of(next_word(&line).at, 32, key);
         expand(&added->key, key);
         bytes_of(next_word(&line).at, 16, counter);
-        added->counter = number_of(counter);
+        added->first = added->counter = number_of(counter);
         added->payload = decimal(next_word(&line));
         if (size_of(next_word(&line))) stop("the map is wrong");
         *place_of(added->can) = added;
     }
 }
 
-/* The line of the map for a frame, its bytes and how many they are; none where the word is no data frame, or the map hasn't its CAN identifier. */
-static map_line *frame_of(text word, uint8_t *bytes, size_t *count)
+/* The line of the map for a frame, its bytes and how many they are. NULL where the word is no data frame, and where the map hasn't its CAN
+   identifier: is_data tells these apart. */
+static map_line *frame_of(text word, uint8_t *bytes, size_t *count, int *is_data)
 {
     uint64_t can;
     size_t most = 8;
@@ -107,7 +112,25 @@ static map_line *frame_of(text word, uint8_t *bytes, size_t *count)
     }
     *count = size_of(data) / 2;
     if (size_of(data) % 2 || *count > most || !are_bytes(data.at, *count, bytes)) return NULL;
+    *is_data = 1;
     return *place_of(can);
+}
+
+/* What the third word of a line is that no line of the map hears. */
+static kind other_kind(text word, int is_data)
+{
+    const char *hash = memchr(word.at, '#', size_of(word));
+    if (!hash) return MALFORMED;
+    text can = {word.at, hash};
+    uint64_t number;
+    size_t size = size_of(can);
+    if (is_data && *can.at <= (size == 3 ? '7' : '1')) return UNMAPPED;
+    /* an error frame, and without data a remote frame or one of CAN XL */
+    if (is_data) return size == 8 && (*can.at == '2' || *can.at == '3') ? OTHER_FRAMES : MALFORMED;
+    if (is_can(can, &number) && hash + 1 < word.end && hash[1] == 'R') return OTHER_FRAMES;
+    int is_xl = size == 5;
+    for (const char *at = can.at; at < can.end; at++) is_xl &= digit_value(*at) >= 0;
+    return is_xl ? OTHER_FRAMES : MALFORMED;
 }
 
 /* What is found of a line of the log that isn't skipped, its first word and the rest, is printed, and counted. */
@@ -117,9 +140,10 @@ static void look_at(unsigned long number, text first, text line)
     size_t count;
     text channel = next_word(&line), frame = next_word(&line);
     map_line *mapped = NULL;
-    if (*first.at == '(' && first.end[-1] == ')' && size_of(channel) && size_of(frame)) mapped = frame_of(frame, message + 2, &count);
+    int is_data = 0, is_timed = *first.at == '(' && first.end[-1] == ')' && size_of(channel) && size_of(frame);
+    if (is_timed) mapped = frame_of(frame, message + 2, &count, &is_data);
     if (!mapped) {
-        numbers[OTHERS]++;
+        numbers[is_timed ? other_kind(frame, is_data) : MALFORMED]++;
         return;
     }
     print_decimal(number);
@@ -130,6 +154,8 @@ static void look_at(unsigned long number, text first, text line)
     size_t pdu = mapped->payload + 4;
     verdict found = count < pdu ? BAD_LENGTH : judge(&mapped->key, message, pdu, 256, &mapped->counter);
     numbers[found == ACCEPTED ? ACCEPTED_FRAMES : FAILED_FRAMES]++;
+    if (found == ACCEPTED) mapped->accepted++;
+    else mapped->failed++;
     print_verdict(found, message, pdu);
 }
 
@@ -147,15 +173,15 @@ static void audit(void)
         text first = next_word(&line);
         if (!is_skipped(first)) look_at(number, first, line);
     }
-    print_count("other ", numbers[OTHERS]);
+    print_count("other ", numbers[UNMAPPED] + numbers[OTHER_FRAMES] + numbers[MALFORMED]);
     flush();
 }
 
-/* A complete line of a log that has any length: one of more than 4,096 bytes is an other one. */
+/* A complete line of a log that has any length: one of more than 4,096 bytes is malformed. */
 static void watch_line(unsigned long number, text line, size_t length)
 {
     text first = next_word(&line);
-    if (length > MOST_LINE) numbers[OTHERS]++;
+    if (length > MOST_LINE) numbers[MALFORMED]++;
     else if (!is_skipped(first)) look_at(number, first, line);
 }
 
@@ -169,6 +195,45 @@ static text watch_lines(text rest, unsigned long *number)
         watch_line(++*number, line, (size_t)(rest.at - from) - 1);
     }
     return rest;
+}
+
+/* The numbers of a line of the map. */
+static void print_line(const map_line *it)
+{
+    uint8_t last[8];
+    put_number(last, it->counter);
+    print_text("line ");
+    print_decimal(it->number);
+    print_text(" ");
+    print(it->digits, it->digit_count);
+    print_text(" ");
+    print_digits(it->id, 2);
+    print_text(" accepted ");
+    print_decimal(it->accepted);
+    print_text(" failed ");
+    print_decimal(it->failed);
+    print_text(" missed ");
+    print_decimal(it->counter - it->first - it->accepted);
+    print_text(" last ");
+    print_digits(last, 8);
+    print_text("\n");
+}
+
+/* Prints the numbers of each line of the map and of the log, and gives the status. */
+static int print_totals(void)
+{
+    int is_silent = map_lines == 0;
+    for (size_t i = 0; i < map_lines; i++) {
+        print_line(&map[i]);
+        is_silent |= map[i].accepted == 0;
+    }
+    print_count("accepted ", numbers[ACCEPTED_FRAMES]);
+    print_count("failed ", numbers[FAILED_FRAMES]);
+    print_count("unmapped ", numbers[UNMAPPED]);
+    print_count("other frames ", numbers[OTHER_FRAMES]);
+    print_count("malformed ", numbers[MALFORMED]);
+    flush();
+    return numbers[FAILED_FRAMES] ? 1 : is_silent ? 3 : 0;
 }
 
 static int watch(void)
@@ -187,11 +252,7 @@ static int watch(void)
     if (count < 0) stop("reading failed");
     text rest = {bytes, bytes + kept}, line;
     if (next_line(&rest, &line)) watch_line(number + 1, line, kept);
-    print_count("accepted ", numbers[ACCEPTED_FRAMES]);
-    print_count("failed ", numbers[FAILED_FRAMES]);
-    print_count("other ", numbers[OTHERS]);
-    flush();
-    return numbers[FAILED_FRAMES] ? 1 : numbers[ACCEPTED_FRAMES] ? 0 : 3;
+    return print_totals();
 }
 
 int main(int count, char **words)

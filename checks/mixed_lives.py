@@ -381,6 +381,8 @@ class History:
         room.log.write_text("")
         is_new = not room.disk.exists()
         words, given = self.words(program, events)
+        if program == "keytool" and is_new:
+            return self.makes_none(words, given, seen)
         boots = program == "endpoint" and draw.randrange(8) == 0
         with open(given, "rb") as it:
             status, lines, said = room.live([*words, *[self.image] * boots], it, **preload)
@@ -408,6 +410,16 @@ class History:
         elif not room.disk.exists() or room.disk.read_bytes() != self.device.with_loose(range(len(self.device.loose))):
             wrong.append("the file isn't what was recorded")
         return what, wrong
+
+    def makes_none(self, words, given, seen):
+        """A life of `keytool load` over a file that isn't there: it makes none."""
+        with open(given, "rb") as it:
+            status, lines, said = self.room.live(words, it)
+        seen["keytool missing"] += 1
+        wrong = [said] if said else []
+        if (status, lines) != FAILED_STARTS["keytool"] or self.room.disk.exists():
+            wrong.append(f"{status} {lines[:1]} of a file that isn't there")
+        return "keytool, missing", wrong
 
     def judge(self, program, ending, events, status, lines, boots, seen):
         """What is wrong with a life that printed these lines."""

@@ -5,6 +5,7 @@ use Rattle.std.specs.List.{list_any}
 use Rattle.cell_store.specs.declared.kinds.Kind.{Kind}
 use Rattle.cell_store.specs.declared.kinds.Version.{Version}
 use Rattle.cell_store.specs.declared.kinds.Version.TheVariants.{One, Two}
+use Rattle.freshness_routes.specs.declared.config.TheConstants.{MOST_ROUTES}
 use Rattle.freshness_routes.specs.declared.routes.Direction.TheVariants.{Sends}
 use Rattle.freshness_routes.specs.declared.routes.Route.{Route}
 use Rattle.freshness_routes.specs.Config.{Config, IsConfig}
@@ -21,7 +22,7 @@ pub record NamedBus : Type 0 where
 -- how many routes a node has at most
 abbrev pub most_routes : Version → ℕ
 most_routes One = 64
-most_routes Two = 256
+most_routes Two = MOST_ROUTES
 
 -- the Data IDs that these routes send, in their order
 abbrev pub ids_sent_by : List Route → List ℕ

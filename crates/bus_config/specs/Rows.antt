@@ -8,6 +8,8 @@ use Rattle.cell_store.specs.declared.kinds.Kind.{Kind}
 use Rattle.cell_store.specs.declared.kinds.Kind.TheVariants.{Twin}
 use Rattle.cell_store.specs.declared.kinds.Version.{Version}
 use Rattle.cell_store.specs.declared.kinds.Version.TheVariants.{One}
+use Rattle.secured_pdu.specs.declared.frame.TheConstants.{WIDEST_WINDOW}
+use Rattle.freshness_routes.specs.declared.config.TheConstants.{MOST_RESERVE}
 use Rattle.freshness_routes.specs.declared.routes.Direction.{Direction}
 use Rattle.freshness_routes.specs.declared.routes.Direction.TheVariants.{Sends, Receives}
 use Rattle.freshness_routes.specs.declared.routes.Route.{Route}
@@ -49,15 +51,15 @@ route_keys = codes "id" ∷ codes "direction" ∷ codes "slot" ∷ codes "reserv
 
 -- a route that receives may have a window, and one that sends has none
 abbrev pub window_in : Direction → Members → Option ℕ
-window_in Receives row = optional 256 (whole_in 1 256) (codes "window") row
-window_in Sends row = if is_some (get_member (codes "window") row) then None else Some 256
+window_in Receives row = optional WIDEST_WINDOW (whole_in 1 WIDEST_WINDOW) (codes "window") row
+window_in Sends row = if is_some (get_member (codes "window") row) then None else Some WIDEST_WINDOW
 
 unfoldable pub route_in_row : Members → Option Route
 route_in_row row = if_only route_keys row (do
   id ← needed id_in (codes "id") row
   direction ← needed direction_in (codes "direction") row
   slot ← needed (whole_in 4 13) (codes "slot") row
-  reserve ← optional 1 (whole_in 1 128) (codes "reserve") row
+  reserve ← optional 1 (whole_in 1 MOST_RESERVE) (codes "reserve") row
   window ← window_in direction row
   start ← optional 0 start_in (codes "start") row
   Some (record { id = id; direction = direction; slot = slot; reserve = reserve; window = window; start = start }))

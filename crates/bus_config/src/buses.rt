@@ -7,6 +7,7 @@ ghost use Rattle.bus_config.specs.Buses.{most_routes as routes_at_most};
 
 use crate::node_lines::{NodeLine, place_named, sent_again};
 use cell_store::{Kind, Version};
+use freshness_routes::MOST_ROUTES;
 use std::marker::Model;
 
 /// A bus: which stores its nodes keep, and its 1 to 8 nodes, whose names differ. A node has at most 64 routes if the
@@ -34,7 +35,7 @@ pub fn most_routes(version: Version) -> usize
 {
     match version {
         Version::One => 64,
-        Version::Two => 256,
+        Version::Two => MOST_ROUTES,
     }
 }
 

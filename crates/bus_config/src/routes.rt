@@ -12,7 +12,8 @@ ghost use Rattle.bus_config.specs.Answers.{AnswersAsList};
 use crate::fault::ConfigFault;
 use crate::tables::{has_only, member};
 use crate::values;
-use freshness_routes::{Direction, Route};
+use freshness_routes::{Direction, MOST_RESERVE, Route};
+use secured_pdu::WIDEST_WINDOW;
 use std::alloc::Global;
 use toml::{Table, Value};
 
@@ -21,18 +22,18 @@ fn window(row: &Table, direction: Direction) -> Option<u16>
     ensures { result ≡ window_in direction (table_view row.now) }
 {
     match (member(row, "window"), direction) {
-        (None, _) => Some(256),
+        (None, _) => Some(WIDEST_WINDOW),
         (Some(_), Direction::Sends) => None,
-        (Some(value), Direction::Receives) => values::whole(value, 1, 256),
+        (Some(value), Direction::Receives) => values::whole(value, 1, WIDEST_WINDOW),
     }
 }
 
 fn reserve(row: &Table) -> Option<u16>
-    ensures { result ≡ optional 1 (whole_in 1 128) (codes "reserve") (table_view row.now) }
+    ensures { result ≡ optional 1 (whole_in 1 MOST_RESERVE) (codes "reserve") (table_view row.now) }
 {
     match member(row, "reserve") {
         None => Some(1),
-        Some(value) => values::whole(value, 1, 128),
+        Some(value) => values::whole(value, 1, MOST_RESERVE),
     }
 }
 

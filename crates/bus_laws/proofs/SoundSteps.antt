@@ -1,5 +1,5 @@
 -- A sound node stays sound
-use Rattle.std.specs.Prelude.{◌≡◌, ◌≢◌, ℕ, suc, ◌+◌, ◌-◌, ◌^◌, ◌<◌, ◌≤◌, ◌⊎◌, ◌==◌, ◌&&◌, if◌then◌else◌, min, Bool, true, false, nat_lt, Option, None, Some, IfSome, List, [], ◌∷◌, length, get_or, set, option_map}
+use Rattle.std.specs.Prelude.{◌≡◌, ◌≢◌, ℕ, suc, ◌+◌, ◌-◌, ◌^◌, ◌<◌, ◌≤◌, ◌⊎◌, ◌==◌, ◌&&◌, if◌then◌else◌, Bool, true, false, nat_lt, Option, None, Some, IfSome, List, [], ◌∷◌, length, get_or, set, option_map}
 use Rattle.std.proofs.Common.{refl, sym, ◌∙◌, ap, subst, arith, inl, inr, true≢false, length-set, get_or-set_same, get_or-set_other}
 use Rattle.std.proofs.lemmas.Bool.Decides.{nat_tests, eqb_tells}
 use Rattle.key_slots.specs.declared.memory.Slot.{Slot}
@@ -10,7 +10,7 @@ use Rattle.memory_update.specs.Loading.{slot_of}
 use Rattle.freshness_routes.specs.declared.routes.Direction.{Direction}
 use Rattle.freshness_routes.specs.declared.routes.Direction.TheVariants.{Sends, Receives}
 use Rattle.freshness_routes.specs.declared.routes.Route.{Route}
-use Rattle.freshness_routes.specs.Changes.{last_freshness}
+use Rattle.freshness_routes.specs.Changes.{last_freshness, bound_ahead}
 use Rattle.freshness_routes.specs.Config.{Config, IsRoute, IsConfig}
 use Rattle.bus_machine.specs.declared.lines.Line.{Line}
 use Rattle.bus_machine.specs.Node.{Node, Kept, same_direction, Change, slot_to, bound_to, changed, place_of, place_in, route_at, no_route, bound_at, counter_at, powered, with_counter, with_slot, booted, failed, refused_up}
@@ -106,21 +106,13 @@ pub record Reserves (node : Node) (k v x : ℕ) : Type 0 where
   pub near : x ≤ v + (route_at node k).reserve - 1
   pub fits : x < 2 ^ 64
 
-send_reserves : (node : Node) (k : ℕ) → Sound node → k < length node.config.routes → counter_at node k ≢ last_freshness → bound_at node k < counter_at node k + 1
-    → Reserves node k (counter_at node k + 1) (min (bound_at node k + (route_at node k).reserve) last_freshness)
-send_reserves node k s inside more passes =
-    let old : InStep node k = s.in_step k inside in
-    let r : IsRoute (route_at node k) = route_is node k s inside in
-    let m = min_is (bound_at node k + (route_at node k).reserve) last_freshness in
-    let below : counter_at node k < last_freshness = omega (arith, old.below, old.fits, more) in
-    elim m.2 [
-      | inl e ↦ record { passes = passes; covers = omega (arith, e, old.below, r.reserve_least); near = omega (arith, e, passes, r.reserve_least); fits = omega (arith, m.1) }
-      | inr e ↦ record { passes = passes; covers = omega (arith, e, below); near = omega (arith, m.0, passes, r.reserve_least); fits = omega (arith, m.1) }
-    ]
+-- a sender that isn't exhausted has a next freshness
+next_fits : (node : Node) (k : ℕ) → Sound node → k < length node.config.routes → counter_at node k ≢ last_freshness → counter_at node k + 1 < 2 ^ 64
+next_fits node k s inside more = let old : InStep node k = s.in_step k inside in omega (arith, old.below, old.fits, more)
 
-receive_reserves : (node : Node) (k v : ℕ) → Sound node → k < length node.config.routes → v < 2 ^ 64 → bound_at node k < v
-    → Reserves node k v (min (v + (route_at node k).reserve - 1) last_freshness)
-receive_reserves node k v s inside small passes =
+move_reserves : (node : Node) (k v : ℕ) → Sound node → k < length node.config.routes → v < 2 ^ 64 → bound_at node k < v
+    → Reserves node k v (bound_ahead (route_at node k).reserve v)
+move_reserves node k v s inside small passes =
     let r : IsRoute (route_at node k) = route_is node k s inside in
     let m = min_is (v + (route_at node k).reserve - 1) last_freshness in
     elim m.2 [
@@ -140,9 +132,9 @@ Sound-sent node id payload v pdu after s step =
     let k : ℕ = place_of node id Sends in
     let r = send_routed node id payload step.allowed in
     subst Sound (sym step.after_is) (subst (λ v. Sound (with_counter (send_change node k) k v node)) (sym step.freshness_is)
-    (counted_sound node k (counter_at node k + 1) (min (bound_at node k + (route_at node k).reserve) last_freshness) (nat_lt (bound_at node k) (counter_at node k + 1)) s r.0 (omega arith)
+    (counted_sound node k (counter_at node k + 1) (bound_ahead (route_at node k).reserve (counter_at node k + 1)) (nat_lt (bound_at node k) (counter_at node k + 1)) s r.0 (omega arith)
     (λ e. not_lt_of_test (bound_at node k) (counter_at node k + 1) e)
-    (λ e. send_reserves node k s r.0.inside r.1 (lt_of_test (bound_at node k) (counter_at node k + 1) e))))
+    (λ e. move_reserves node k (counter_at node k + 1) s r.0.inside (next_fits node k s r.0.inside r.1) (lt_of_test (bound_at node k) (counter_at node k + 1) e))))
 
 pub Sound-accepted : (node : Node) (id : ℕ) (pdu payload : List ℕ) (v : ℕ) (after : Node) → Sound node → AcceptsFrame node id pdu payload v after → Sound after
 Sound-accepted node id pdu payload v after s step =
@@ -150,9 +142,9 @@ Sound-accepted node id pdu payload v after s step =
     let r = routed node id pdu step.judged.allowed in
     let a = step.judged.verdict_is.0 in
     subst Sound (sym step.after_is)
-    (counted_sound node k v (min (v + (route_at node k).reserve - 1) last_freshness) (nat_lt (bound_at node k) v) s r (omega (arith, a.above))
+    (counted_sound node k v (bound_ahead (route_at node k).reserve v) (nat_lt (bound_at node k) v) s r (omega (arith, a.above))
     (λ e. not_lt_of_test (bound_at node k) v e)
-    (λ e. receive_reserves node k v s r.inside a.fits (lt_of_test (bound_at node k) v e)))
+    (λ e. move_reserves node k v s r.inside a.fits (lt_of_test (bound_at node k) v e)))
 
 -- ---- updates
 
@@ -287,16 +279,16 @@ pub makes_forward : (node : Node) (act : Act) (change : Change) → Sound node �
 makes_forward node (sends id payload) change s makes =
     let k : ℕ = place_of node id Sends in
     let r = send_routed node id payload makes.0 in
-    bound_forward node k (counter_at node k + 1) (min (bound_at node k + (route_at node k).reserve) last_freshness) (nat_lt (bound_at node k) (counter_at node k + 1)) change r.0.inside
-    (λ e. send_reserves node k s r.0.inside r.1 (lt_of_test (bound_at node k) (counter_at node k + 1) e))
+    bound_forward node k (counter_at node k + 1) (bound_ahead (route_at node k).reserve (counter_at node k + 1)) (nat_lt (bound_at node k) (counter_at node k + 1)) change r.0.inside
+    (λ e. move_reserves node k (counter_at node k + 1) s r.0.inside (next_fits node k s r.0.inside r.1) (lt_of_test (bound_at node k) (counter_at node k + 1) e))
     (λ p _. let old : InStep node k = s.in_step k r.0.inside in omega (arith, p.near, p.passes, old.below, (route_is node k s r.0.inside).reserve_least))
     makes.1
 makes_forward node (receives id pdu) change s makes =
     let k : ℕ = place_of node id Receives in
     let v : ℕ = makes.1 in
     let r = routed node id pdu makes.2.allowed in
-    bound_forward node k v (min (v + (route_at node k).reserve - 1) last_freshness) (nat_lt (bound_at node k) v) change r.inside
-    (λ e. receive_reserves node k v s r.inside makes.2.verdict_is.0.fits (lt_of_test (bound_at node k) v e))
+    bound_forward node k v (bound_ahead (route_at node k).reserve v) (nat_lt (bound_at node k) v) change r.inside
+    (λ e. move_reserves node k v s r.inside makes.2.verdict_is.0.fits (lt_of_test (bound_at node k) v e))
     (λ p e. absurd (Receives≢Sends (route_at node k).direction (place_is node.config.routes id Receives r.inside).direction_is e))
     makes.3
 makes_forward node (loads request) change s makes =

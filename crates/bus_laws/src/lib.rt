@@ -1,9 +1,9 @@
 //! What holds of all runs of the machine of a bus (AUTOSAR SecOC, SHE): each law is a contract with an empty
 //! body.
 //!
-//! Accepted freshness rises; so does sent freshness, if each Data ID has one sender. Accepted PDUs are
-//! authentic. Acknowledged updates stay, and a failed one that a power-up dropped is gone for good. All
-//! freshness is covered by the kept bound and the counter. Cuts skip little. Honest PDUs are accepted, and
+//! The freshness that a node accepts under a Data ID rises; so does what is sent under one, if it has one sender.
+//! Accepted PDUs are authentic. Acknowledged updates stay, and a failed one that a power-up dropped is gone for
+//! good. All freshness is covered by the kept bound and the counter. Cuts skip little. Honest PDUs are accepted, and
 //! the sender's key makes one honest. Nodes stay sound. The first world of a bus is a first world, with its
 //! nodes in their order, empty slots, bounds at the starts, and no boot. No run is stuck: each list of events
 //! has a run without a failure. Lines determine worlds, and without cuts and failures the events do.

@@ -15,7 +15,7 @@ use Rattle.secured_pdu.specs.Verdict as verdict
 use Rattle.freshness_routes.specs.declared.routes.Direction.{Direction}
 use Rattle.freshness_routes.specs.declared.routes.Direction.TheVariants.{Sends, Receives}
 use Rattle.freshness_routes.specs.declared.routes.Route.{Route}
-use Rattle.freshness_routes.specs.Changes.{last_freshness, sender_change, receiver_change}
+use Rattle.freshness_routes.specs.Changes.{last_freshness, bound_due}
 use Rattle.bus_machine.specs.declared.lines.Line.{Line}
 use Rattle.bus_machine.specs.declared.lines.Line.TheVariants.{Sent, Accepted, FreshnessFailure, VerificationFailure}
 use Rattle.bus_machine.specs.declared.lines.Line.TheVariants.{Keyed, Loaded, Boot, Up, Armed, NoFrame, Refused}
@@ -87,11 +87,11 @@ receive_refusal node id pdu = first_of (
 
 abbrev pub send_change : Node → ℕ → Option Change
 send_change node k =
-    option_map (bound_to k) (sender_change (counter_at node k) (bound_at node k) (route_at node k).reserve)
+    option_map (bound_to k) (bound_due (bound_at node k) (route_at node k).reserve (counter_at node k + 1))
 
 abbrev pub receive_change : Node → ℕ → ℕ → Option Change
 receive_change node k v =
-    option_map (bound_to k) (receiver_change (bound_at node k) (route_at node k).reserve v)
+    option_map (bound_to k) (bound_due (bound_at node k) (route_at node k).reserve v)
 
 -- ---- what an act comes to if nothing fails
 

@@ -79,8 +79,8 @@ pub record WorldRun (first : World) (bus : NamedBus) (before after : List DiskSt
   pub of_events : commands_in moments ≡ take (length moments) events
   -- Each line is one that its type has, so lists of them with one text are the same.
   pub are_lines : All IsLine (lines_in moments)
-  -- Accepted freshness strictly rises, and what is accepted is authentic. No freshness is sent twice. Only a later
-  -- update undoes an acknowledged key update.
+  -- Of one node and one Data ID, accepted freshness strictly rises, and what is accepted is authentic. Of one Data ID,
+  -- no freshness is sent twice. Only a later update undoes an acknowledged key update.
   pub rising : Rising moments
   pub authentic : Authentic first moments
   pub single : Single moments

@@ -1,6 +1,6 @@
 //! A configuration one step within and one step past each of its bounds, its copy, and a receiver's last bound.
 use crate::comparing::holds;
-use freshness_routes::{Direction, NodeConfig, Route, receiver_change};
+use freshness_routes::{Direction, NodeConfig, Route, bound_due};
 use key_slots::SlotId;
 use memory_update::Uid;
 use std::alloc::Global;
@@ -125,6 +125,6 @@ fn a_copy_is_equal(rt: HostRuntime) {
 /// From a bound of 100 no window reaches the last freshness. Lives of senders and receivers are rows of checks/.
 #[test]
 fn a_bound_ends_at_the_last_freshness(rt: HostRuntime) {
-    let bound = receiver_change(100, 128, u64::MAX);
+    let bound = bound_due(100, 128, u64::MAX);
     holds(&rt, "bound", bound == Some(u64::MAX));
 }

@@ -7,7 +7,8 @@
 //! that differs. After a failed write or sync of a [`SystemFile`] each call fails. It and the calls that open it are
 //! the trusted edge (docs/architecture.md): no clause says which file it is, what it holds, or that it is synced before
 //! it is read. [`open_disk`] opens the one disk of an argument by any [`DiskOpener`], or is out of memory.
-//! [`DiskPaths`] is a program's opener; that it hands the argument to the system is tested.
+//! [`open_standing_disk`] never makes its file. [`DiskPaths`] is a program's opener; that it hands the argument to the
+//! system, and makes no file that is to stand there, is tested.
 #![tactic(auto)]
 
 mod byte_file;
@@ -24,4 +25,4 @@ pub use file_disk::FileDisk;
 pub use held_file::{HeldFile, MOST_HELD, room_to_hold};
 pub use opener::{DiskOpener, DiskPaths};
 pub use system_file::SystemFile;
-pub use words::{open_disk, open_disks};
+pub use words::{open_disk, open_disks, open_standing_disk, open_standing_disks};

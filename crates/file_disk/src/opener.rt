@@ -15,24 +15,38 @@ pub trait DiskOpener {
     /// The arguments that it opened so far, the oldest first.
     ghost opened: { Self → List (List ℕ) };
 
+    /// Those of them whose file it may have made, the oldest first.
+    ghost made: { Self → List (List ℕ) };
+
     /// What is known of a disk that is opened by this word.
     ghost opens: { Self → List ℕ → DiskState → Type 0 };
 
-    /// The disk that the word opens, which tells its bytes. If nothing can be opened it is one each of whose reads,
-    /// writes and syncs fails. If there is no memory for it nothing is opened.
+    /// The disk that the word opens, which tells its bytes. If its file isn't there it is made. If nothing can be
+    /// opened it is one each of whose reads, writes and syncs fails. If there is no memory for it nothing is opened.
     fn open(&mut self, alloc: Global, word: &str) -> Result<Self::Opened, AllocError>
         ensures disk { IfOk result (λ disk. opens self.old word.now (Self.Opened.state disk)) }
         ensures tells { IfOk result (λ disk. TellsFirmBytes (Self.Opened.state disk)) }
         ensures noted { OnOk result (opened self.new ≡ opened self.old ++ word.now ∷ []) }
-        ensures unopened { OnErr result (opened self.new ≡ opened self.old) };
+        ensures unopened { OnErr result (opened self.new ≡ opened self.old) }
+        ensures made { OnOk result (made self.new ≡ made self.old ++ word.now ∷ []) }
+        ensures unmade { OnErr result (made self.new ≡ made self.old) };
+
+    /// The same over a file that is there. None is made: if none is there each read, write and sync fails.
+    fn open_standing(&mut self, alloc: Global, word: &str) -> Result<Self::Opened, AllocError>
+        ensures disk { IfOk result (λ disk. opens self.old word.now (Self.Opened.state disk)) }
+        ensures tells { IfOk result (λ disk. TellsFirmBytes (Self.Opened.state disk)) }
+        ensures noted { OnOk result (opened self.new ≡ opened self.old ++ word.now ∷ []) }
+        ensures unopened { OnErr result (opened self.new ≡ opened self.old) }
+        ensures unmade { made self.new ≡ made self.old };
 }
 
-/// Opens the disk over the file whose path the word is, which is made if it isn't there; `-` is a file of that name,
-/// too.
+/// Opens the disk over the file whose path the word is, and makes that file if it isn't there and is to be made; `-` is
+/// a file of that name, too.
 #[derive(Drop)]
 pub struct DiskPaths<'a> {
     rt: &'a HostRuntime,
     opened: OpenedWords,
+    made: OpenedWords,
 }
 
 impl<'a> DiskPaths<'a> {
@@ -41,6 +55,7 @@ impl<'a> DiskPaths<'a> {
         DiskPaths {
             rt,
             opened: OpenedWords::none(),
+            made: OpenedWords::none(),
         }
     }
 }
@@ -52,6 +67,8 @@ impl<'a> DiskOpener for DiskPaths<'a> {
 
     ghost opened = { λ paths. paths.opened };
 
+    ghost made = { λ paths. paths.made };
+
     // Nothing is armed on it, no call of it has failed yet, and it tells the bytes that the file read as: 65,536 zeros
     // if there is none. Which file the path names isn't known.
     ghost opens = { λ _ _ disk. IsFreshFileDisk disk };
@@ -62,6 +79,17 @@ impl<'a> DiskOpener for DiskPaths<'a> {
         word: &str,
     ) -> Result<FileDisk<HeldFile<SystemFile>>, AllocError> {
         let disk = FileDisk::on(alloc, self.rt, word)?;
+        self.opened = self.opened.and(word);
+        self.made = self.made.and(word);
+        Ok(disk)
+    }
+
+    fn open_standing(
+        &mut self,
+        alloc: Global,
+        word: &str,
+    ) -> Result<FileDisk<HeldFile<SystemFile>>, AllocError> {
+        let disk = FileDisk::standing(alloc, self.rt, word)?;
         self.opened = self.opened.and(word);
         Ok(disk)
     }

@@ -32,6 +32,15 @@ pub struct SystemFile {
     failed: bool,
 }
 
+/// What is done if no file is at a path.
+#[derive(Clone, Copy)]
+enum Missing {
+    /// It is made.
+    IsMade,
+    /// It can't be opened.
+    Fails,
+}
+
 impl From<io::Error> for FileFailed {
     fn from(_: io::Error) -> Self {
         FileFailed
@@ -46,7 +55,25 @@ impl SystemFile {
         ensures missing { is_there result ≡ false → length_of result ≡ FIRST_SIZE }
         ensures fresh { has_failed result ≡ false }
     {
-        match opened(rt, path) {
+        SystemFile::of(opened(rt, path, Missing::IsMade))
+    }
+
+    /// The same, if one is there: none is made.
+    pub fn standing(rt: &HostRuntime, path: &str) -> SystemFile
+        ensures missing { is_there result ≡ false → length_of result ≡ FIRST_SIZE }
+        ensures fresh { has_failed result ≡ false }
+    {
+        SystemFile::of(opened(rt, path, Missing::Fails))
+    }
+
+    /// The file that was opened, or none.
+    fn of(outcome: io::Result<SystemFile>) -> SystemFile
+        requires there { IfOk outcome (λ file. is_there file ≡ true) }
+        requires fresh { IfOk outcome (λ file. has_failed file ≡ false) }
+        ensures missing { is_there result ≡ false → length_of result ≡ FIRST_SIZE }
+        ensures fresh { has_failed result ≡ false }
+    {
+        match outcome {
             Ok(file) => file,
             Err(_) => SystemFile {
                 file: None,
@@ -145,19 +172,19 @@ impl ByteFile for SystemFile {
     }
 }
 
-/// Opens the file, or makes it, and syncs it and its folder: what a program that was killed has left is then what
-/// a power cut leaves. Descriptors 0 to 2 are taken meanwhile: of a program that was started with a stream closed the
+/// Opens the file, or makes it if it is to be made, and syncs it and its folder: what a program that was killed has left
+/// is then what a power cut leaves. Descriptors 0 to 2 are taken meanwhile: of a program that was started with a stream closed the
 /// file doesn't become that stream.
-fn opened(rt: &HostRuntime, path: &str) -> io::Result<SystemFile>
+fn opened(rt: &HostRuntime, path: &str, missing: Missing) -> io::Result<SystemFile>
     ensures there { IfOk result (λ file. is_there file ≡ true) }
     ensures fresh { IfOk result (λ file. has_failed file ≡ false) }
 {
     let _input = File::open(rt, "/")?;
     let _output = File::open(rt, "/")?;
     let _error = File::open(rt, "/")?;
-    let file = match there(rt, path) {
-        Err(error) if error.kind() == ErrorKind::NotFound => made(rt, path)?,
-        outcome => locked(outcome?)?,
+    let file = match (there(rt, path), missing) {
+        (Err(error), Missing::IsMade) if error.kind() == ErrorKind::NotFound => made(rt, path)?,
+        (outcome, _) => locked(outcome?)?,
     };
     file.sync_all()?;
     sync_folder(rt, path)?;
@@ -278,5 +305,17 @@ impl FileDisk<HeldFile<SystemFile>> {
     {
         let room = room_to_hold(alloc)?;
         Ok(FileDisk::held(SystemFile::on(rt, path), room))
+    }
+
+    /// The same over a file that is there: none is made. If none is there it is the disk of a file that can't be opened.
+    pub fn standing(
+        alloc: Global,
+        rt: &HostRuntime,
+        path: &str,
+    ) -> Result<FileDisk<HeldFile<SystemFile>>, AllocError>
+        ensures { IfOk result (λ disk. IsJustOpened (file_contents disk)) }
+    {
+        let room = room_to_hold(alloc)?;
+        Ok(FileDisk::held(SystemFile::standing(rt, path), room))
     }
 }

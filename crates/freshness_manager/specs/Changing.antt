@@ -6,7 +6,7 @@ use Rattle.cell_store.specs.Store.{Stands}
 use Rattle.cell_store.specs.Cells.{CellsState, Puts, FailsPut}
 use Rattle.freshness_routes.specs.declared.routes.Direction.{Direction}
 use Rattle.freshness_routes.specs.declared.routes.Direction.TheVariants.{Sends, Receives}
-use Rattle.freshness_routes.specs.Changes.{sender_change, receiver_change}
+use Rattle.freshness_routes.specs.Changes.{bound_due}
 use Rattle.freshness_store.specs.Bound.{bound_cell}
 use Rattle.freshness_manager.specs.Counters.{SenderCounter, ReceiverCounter, KeepsBound}
 
@@ -43,10 +43,10 @@ pub record KeepsRoute {T E : Type 0} (place id : ℕ) (direction : Direction) (b
 
 -- the bound that is due before a sender uses its next freshness, and before a receiver takes this one
 abbrev pub due_of_sender : SenderCounter → Option ℕ
-due_of_sender tx = sender_change tx.counter tx.bound tx.reserve
+due_of_sender tx = bound_due tx.bound tx.reserve (tx.counter + 1)
 
 abbrev pub due_of_receiver : ReceiverCounter → ℕ → Option ℕ
-due_of_receiver rx v = receiver_change rx.bound rx.reserve v
+due_of_receiver rx v = bound_due rx.bound rx.reserve v
 
 -- the freshness v above a sender's counter became its counter, and its bound covers it, in memory as in the store
 pub record MovesOn (v : ℕ) (before after : SenderCounter) (old new : CellsState) : Type 0 where

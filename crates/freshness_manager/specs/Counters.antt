@@ -2,6 +2,7 @@
 -- counter the greatest freshness in use).
 use Rattle.std.specs.Prelude.{ℕ, ◌^◌, ◌<◌, ◌≤◌, List, [], length, slice_index_or}
 use Rattle.secured_pdu.specs.Frame.{IsWindow}
+use Rattle.freshness_routes.specs.declared.config.TheConstants.{MOST_RESERVE}
 use Rattle.freshness_routes.specs.declared.routes.Direction.{Direction}
 use Rattle.freshness_store.specs.Bound.{HoldsBound}
 
@@ -25,7 +26,7 @@ pub record ReceiverCounter : Type 0 where
 -- the counter is at most the bound, and the reserve is 1 to 128
 pub record IsReserved (reserve counter bound : ℕ) : Type 0 where
   pub reserve_least : 1 ≤ reserve
-  pub reserve_most : reserve ≤ 128
+  pub reserve_most : reserve ≤ MOST_RESERVE
   pub counter_most : counter ≤ bound
   pub bound_fits : bound < 2 ^ 64
 

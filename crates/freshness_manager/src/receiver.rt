@@ -3,7 +3,7 @@ ghost use Rattle.std.specs.Prelude.{◌≡◌, ◌≤◌};
 
 use crate::changing::{PutFailed, put_change};
 use cell_store::Cells;
-use freshness_routes::receiver_change;
+use freshness_routes::{MOST_RESERVE, bound_due};
 use freshness_store::Direction;
 use secured_pdu::candidate_of;
 use std::marker::Model;
@@ -43,7 +43,7 @@ impl Rx {
     /// begins at the bound. The reserve is 1 to 128, the window 1 to 256.
     pub fn restore(place: u16, id: u16, reserve: u16, window: u16, bound: u64) -> Rx
         requires least { 1 ≤ reserve }
-        requires most { reserve ≤ 128 }
+        requires most { reserve ≤ MOST_RESERVE }
         requires window { IsWindow window }
         ensures { result
             ≡ record { place = place; id = id; reserve = reserve; window = window; counter = bound; bound = bound } }
@@ -77,7 +77,7 @@ impl Rx {
     pub fn reserve(&self) -> u16
         ensures value { result ≡ self.now.reserve }
         ensures least { 1 ≤ result }
-        ensures most { result ≤ 128 }
+        ensures most { result ≤ MOST_RESERVE }
     {
         self.reserve
     }
@@ -114,7 +114,7 @@ impl Rx {
         ensures store { KeepsRoute self.new.place self.new.id Receives self.new.bound
             (C.state cells.old) (C.state cells.new) result }
     {
-        let change = receiver_change(self.bound, self.reserve, freshness);
+        let change = bound_due(self.bound, self.reserve, freshness);
         match put_change(cells, self.place, self.id, Direction::Receives, change) {
             Ok(()) => {
                 self.bound = change.unwrap_or(self.bound);

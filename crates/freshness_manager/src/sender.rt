@@ -3,7 +3,7 @@ ghost use Rattle.std.specs.Prelude.{◌≡◌, ◌≤◌};
 
 use crate::changing::{PutFailed, put_change};
 use cell_store::Cells;
-use freshness_routes::sender_change;
+use freshness_routes::{MOST_RESERVE, bound_due};
 use freshness_store::Direction;
 use std::marker::Model;
 
@@ -52,7 +52,7 @@ impl Tx {
     /// begins at the bound. The reserve is 1 to 128.
     pub fn restore(place: u16, id: u16, reserve: u16, bound: u64) -> Tx
         requires least { 1 ≤ reserve }
-        requires most { reserve ≤ 128 }
+        requires most { reserve ≤ MOST_RESERVE }
         ensures { result ≡ record { place = place; id = id; reserve = reserve; counter = bound; bound = bound } }
     {
         Tx {
@@ -83,7 +83,7 @@ impl Tx {
     pub fn reserve(&self) -> u16
         ensures value { result ≡ self.now.reserve }
         ensures least { 1 ≤ result }
-        ensures most { result ≤ 128 }
+        ensures most { result ≤ MOST_RESERVE }
     {
         self.reserve
     }
@@ -108,7 +108,7 @@ impl Tx {
         let Some(freshness) = self.counter.checked_add(1) else {
             return Err(TxFault::Exhausted);
         };
-        let change = sender_change(self.counter, self.bound, self.reserve);
+        let change = bound_due(self.bound, self.reserve, freshness);
         match put_change(cells, self.place, self.id, Direction::Sends, change) {
             Ok(()) => {
                 self.bound = change.unwrap_or(self.bound);

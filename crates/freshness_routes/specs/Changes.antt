@@ -6,14 +6,12 @@ use Rattle.std.specs.Prelude.{ℕ, ◌+◌, ◌-◌, ◌^◌, min, nat_lt, if◌
 abbrev pub last_freshness : ℕ
 last_freshness = 2 ^ 64 - 1
 
--- the bound that a sender puts before it uses the freshness above its counter, or none if its bound suffices
-abbrev pub sender_change : (counter bound reserve : ℕ) → Option ℕ
-sender_change counter bound reserve = if nat_lt bound (counter + 1)
-    then Some (min (bound + reserve) last_freshness)
-    else None
+-- the bound that covers this freshness and what is left of a reserve after it
+abbrev pub bound_ahead : (reserve freshness : ℕ) → ℕ
+bound_ahead reserve freshness = min (freshness + reserve - 1) last_freshness
 
--- the bound that a receiver puts before it accepts this freshness, or none if its bound suffices
-abbrev pub receiver_change : (bound reserve freshness : ℕ) → Option ℕ
-receiver_change bound reserve freshness = if nat_lt bound freshness
-    then Some (min (freshness + reserve - 1) last_freshness)
+-- the bound that a node puts before it sends or accepts this freshness, or none if its bound suffices
+abbrev pub bound_due : (bound reserve freshness : ℕ) → Option ℕ
+bound_due bound reserve freshness = if nat_lt bound freshness
+    then Some (bound_ahead reserve freshness)
     else None

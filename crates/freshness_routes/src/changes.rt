@@ -1,26 +1,23 @@
 //! How far a bound moves.
-ghost use Rattle.std.specs.Prelude.{◌≡◌, ◌≤◌, ◌<◌};
-ghost use Rattle.freshness_routes.specs.Changes.{sender_change as change_of_sender, receiver_change as change_of_receiver};
+ghost use Rattle.std.specs.Prelude.{◌≡◌, ◌≤◌};
+ghost use Rattle.freshness_routes.specs.Changes.{bound_ahead as ahead_of_freshness, bound_due as due_of_freshness};
 
-/// The bound that a sender puts before it uses the freshness above its counter: its bound and a reserve, at most 2^64 -
-/// 1. `None` if its bound suffices.
-pub fn sender_change(counter: u64, bound: u64, reserve: u16) -> Option<u64>
-    ensures { result ≡ change_of_sender counter bound reserve }
+/// The bound that covers this freshness and what is left of a reserve after it, at most 2^64 - 1. It is the one rule
+/// of how far a bound moves: senders, receivers and the library for C call it.
+pub fn bound_ahead(reserve: u16, freshness: u64) -> u64
+    requires { 1 ≤ reserve }
+    ensures { result ≡ ahead_of_freshness reserve freshness }
 {
-    if counter < bound {
-        return None;
-    }
-    Some(bound.saturating_add(u64::from(reserve)))
+    freshness.saturating_add(u64::from(reserve - 1))
 }
 
-/// The bound that a receiver puts before it accepts this freshness: the freshness and what is left of a reserve after
-/// it, at most 2^64 - 1. `None` if its bound suffices.
-pub fn receiver_change(bound: u64, reserve: u16, freshness: u64) -> Option<u64>
+/// The bound that a node puts before it sends or accepts this freshness. `None` if its bound suffices.
+pub fn bound_due(bound: u64, reserve: u16, freshness: u64) -> Option<u64>
     requires { 1 ≤ reserve }
-    ensures { result ≡ change_of_receiver bound reserve freshness }
+    ensures { result ≡ due_of_freshness bound reserve freshness }
 {
     if freshness <= bound {
         return None;
     }
-    Some(freshness.saturating_add(u64::from(reserve - 1)))
+    Some(bound_ahead(reserve, freshness))
 }

@@ -5,8 +5,15 @@ ghost use Rattle.freshness_routes.specs.Config.{IsRoute, IsConfig};
 
 use crate::routes::{Direction, Route, Routes};
 use memory_update::Uid;
+use secured_pdu::WIDEST_WINDOW;
 use std::alloc::{AllocError, Global};
 use std::marker::Model;
+
+/// The most freshness that is reserved at a time.
+pub const MOST_RESERVE: u16 = 128;
+
+/// The most routes that a node has.
+pub const MOST_ROUTES: usize = 256;
 
 /// Out of memory.
 #[derive(Clone, Copy, Debug, PartialEq, Eq)]
@@ -45,13 +52,13 @@ fn is_route(route: &Route) -> bool
         window,
         start: _start,
     } = *route;
-    if slot.number() < 4 || reserve < 1 || reserve > 128 {
+    if slot.number() < 4 || reserve < 1 || reserve > MOST_RESERVE {
         return false;
     }
-    if window < 1 || window > 256 {
+    if window < 1 || window > WIDEST_WINDOW {
         return false;
     }
-    direction == Direction::Receives || window == 256
+    direction == Direction::Receives || window == WIDEST_WINDOW
 }
 
 fn are_routes(routes: &[Route]) -> bool
@@ -100,7 +107,11 @@ impl NodeConfig {
             (record { uid = uid; routes = routes.items }) }
     {
         let listed = routes.as_slice();
-        if listed.len() > 256 || uid.is_zero() || !are_routes(listed) || !have_own_ids(listed) {
+        if listed.len() > MOST_ROUTES
+            || uid.is_zero()
+            || !are_routes(listed)
+            || !have_own_ids(listed)
+        {
             return None;
         }
         let routes = Routes::of(routes);

@@ -11,13 +11,14 @@ use crate::parsing::parse;
 use crate::run::run_asked;
 use crate::subcommands::{Subcommand, subcommand_of};
 use bus_port::{Sink, Source};
-use file_disk::{DiskOpener, open_disks};
+use file_disk::{DiskOpener, open_standing_disks};
 use program_edge::NO_MEMORY;
 use std::alloc::{AllocError, Global};
 
 /// Runs the subcommand that the arguments ask for, as [`run_key`](crate::run_key) does, over the disk that the FILE of
 /// a load opens; without an argument the example. It gives the status that the program ends with, and that disk as the
-/// command left it. If there is no memory for the disk, nothing is read, written or opened.
+/// command left it. No file is made: if FILE isn't there each call of its disk fails. If there is no memory for the
+/// disk, nothing is read, written or opened.
 pub fn key_words<P: DiskOpener, S: Source, K: Sink>(
     alloc: Global,
     disk_opener: &mut P,
@@ -46,6 +47,8 @@ pub fn key_words<P: DiskOpener, S: Source, K: Sink>(
         (record { before = S.state request.old; after = S.state request.new }) (each P.Opened.state result.1.items)
         (record { before = K.state sink.old; after = K.state sink.new; status = result.0 }) }
 
+    ensures none_made { P.made disk_opener.new ≡ P.made disk_opener.old }
+
     // What comes of an input and of a store comes of `load` alone.
     ensures load_alone { (result.0 ≡ 4) ⊎ (result.0 ≡ 5) ⊎ (8 ≤ result.0)
         → NamesSubcommand (each string_bytes words.now) Load }
@@ -65,7 +68,7 @@ pub fn key_words<P: DiskOpener, S: Source, K: Sink>(
     (status, disks)
 }
 
-/// The disk that the words name, opened once; none of words that name no file.
+/// The disk that the words name, opened once; none of words that name no file. No file is made.
 fn open_named<P: DiskOpener>(
     alloc: Global,
     disk_opener: &mut P,
@@ -75,9 +78,10 @@ fn open_named<P: DiskOpener>(
         (P.opened disk_opener.new) (each string_bytes words.now) (each P.Opened.state disks.items)) }
     ensures asks { OnErr result (NamesSubcommand (each string_bytes words.now) Load) }
     ensures unopened { OnErr result (P.opened disk_opener.new ≡ P.opened disk_opener.old) }
+    ensures unmade { P.made disk_opener.new ≡ P.made disk_opener.old }
 {
     let file = file_word(alloc, words)?;
-    open_disks(alloc, disk_opener, file)
+    open_standing_disks(alloc, disk_opener, file)
 }
 
 /// The file that the words name.

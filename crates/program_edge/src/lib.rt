@@ -6,8 +6,9 @@
 //! input as it was handed in, and a second dash a missing source, of which each read fails. [`tell`] prints
 //! an ending whole, with its status, or a strict prefix with 6. [`Refusal`] is a row of answers instead of
 //! what the program was asked to do, and [`tell_refusal`] prints it. Rows 5, 8 and 7, of an input that isn't
-//! there, are those of every program that reads. No clause says what [`arguments`] takes of the command line,
-//! or which file [`Paths`] opens: both are tested.
+//! there, are those of every program that reads. [`arguments`] drops the program's name by a function whose
+//! clause says so. No clause says what the system hands out as arguments, or which file [`Paths`] opens: both are
+//! tested.
 #![tactic(auto)]
 
 mod input;

@@ -1,5 +1,5 @@
 //! The arguments of the command line.
-ghost use Rattle.std.specs.Prelude.{◌≡◌, [], ◌∷◌, map, string_bytes, IfOk, IsErr};
+ghost use Rattle.std.specs.Prelude.{◌≡◌, [], ◌∷◌, drop, map, string_bytes, IfOk, IsErr};
 ghost use Rattle.std.specs.declared.io.ErrorKind.TheVariants.{OutOfMemory};
 
 use std::alloc::{AllocError, Global};
@@ -11,12 +11,22 @@ use std::rt::Env;
 pub fn arguments<R: Env + AllocGlobal>(rt: &R) -> Result<Vec<String>, AllocError> {
     let alloc = rt.alloc();
     match std::env::args(rt) {
-        Ok(mut words) => {
-            let _name = words.next();
-            words.collect(alloc)
+        Ok(all) => {
+            let all = all.collect(alloc)?;
+            Ok(after_name(all))
         }
         Err(error) => words_at_fault(alloc, error.kind()),
     }
+}
+
+/// All arguments but the first, which is the program's name.
+fn after_name(mut all: Vec<String>) -> Vec<String>
+    ensures { map string_bytes result.items ≡ drop 1 (map string_bytes all.items) }
+{
+    if !all.is_empty() {
+        let _name = all.remove(0);
+    }
+    all
 }
 
 /// Three empty words instead of arguments of which one isn't text; or none if memory ran out, where that was the fault.

@@ -14,8 +14,8 @@ use Rattle.store_plan.specs.declared.planning.Plan.{Plan}
 use Rattle.store_plan.specs.Plans.{PlansPut, IsEmptyPlan, applied}
 use Rattle.store_plan.specs.Leaving.{LeavesPut}
 use Rattle.store_plan.proofs.CallerLemmas.{applied-cell, applied-others, applied-length, applied-none}
+use Rattle.freshness_routes.specs.Changes.{bound_ahead}
 use Rattle.rathonsi_c.specs.Images.{ImageSlot}
-use Rattle.rathonsi_c.specs.Routes.{wanted}
 use Rattle.rathonsi_c.specs.Slots.{ConfirmsSlot}
 use Rattle.rathonsi_c.specs.Lives.{Memory, Deed, sends, accepts, takes, opens, sets, reserves, loads, drops, finishes, powers_up, PlansBound, Lives, DoesDeed, PoweredUp, NoUpdatePlanned, PlannedAs, planned_behind, planned_after, BeginsNone, NoneBegun, UpdateDone, SlotFilled}
 use Rattle.rathonsi_c.proofs.ImageLaws.{moved_slot}
@@ -59,8 +59,8 @@ planned-same place a b image plan p = elim p [
 
 -- a bound is none of a slot
 bound-none : (n k place : ℕ) (a b : Memory) → place < 14 → PlansBound n k a b → NoUpdatePlanned place b
-bound-none n k place a b few d = elim (cases_lt d.reserved.bound (wanted (a.routes k) d.freshness)) [
-  | inl low ↦ inr ((a.routes k).cell, (_, ((λ e. let least = d.reserved.ranges.cell_least in omega arith), subst (λ (y : List ℕ). PlansPut b.plan y (a.routes k).cell (bound_cell (a.routes k).data_id d.reserved.direction (wanted (a.routes k) d.freshness))) (sym d.image) (d.reserved.plans low))))
+bound-none n k place a b few d = elim (cases_lt d.reserved.bound (bound_ahead (a.routes k).reserve d.freshness)) [
+  | inl low ↦ inr ((a.routes k).cell, (_, ((λ e. let least = d.reserved.ranges.cell_least in omega arith), subst (λ (y : List ℕ). PlansPut b.plan y (a.routes k).cell (bound_cell (a.routes k).data_id d.reserved.direction (bound_ahead (a.routes k).reserve d.freshness))) (sym d.image) (d.reserved.plans low))))
   | inr high ↦ inl (subst (λ (p : Plan). IsEmptyPlan p) (sym (d.reserved.enough high)) d.reserved.empty)
 ]
 

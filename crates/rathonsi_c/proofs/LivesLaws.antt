@@ -1,6 +1,7 @@
 -- Freshness rises over all lives.
 use Rattle.std.proofs.Common.{◌≡◌, ◌≢◌, ℕ, ◌^◌, ◌<◌, ◌≤◌, ◌==◌, ◌⊎◌, inl, inr, true, false, if◌then◌else◌, List, [], ◌∷◌, refl, sym, ap, subst, ◌∙◌, arith}
 use Rattle.std.proofs.lemmas.Bool.{cases_lt, cases_eq, eq-eqb, ne_eqb}
+use Rattle.freshness_routes.specs.Changes.{bound_ahead}
 use Rattle.freshness_routes.specs.declared.routes.Direction.{Direction}
 use Rattle.freshness_store.specs.Bound.{bound_cell}
 use Rattle.store_plan.specs.declared.planning.Plan.{Plan}
@@ -9,7 +10,7 @@ use Rattle.store_plan.specs.Leaving.{LeavesPut}
 use Rattle.store_plan.proofs.CallerLemmas.{applied-cell, applied-others, applied-length, applied-none}
 use Rattle.rathonsi_c.specs.declared.route.RathonsiRoute.{RathonsiRoute}
 use Rattle.rathonsi_c.specs.Images.{ImageBound}
-use Rattle.rathonsi_c.specs.Routes.{InRanges, at_counter, opened_at, wanted, Opens, RouteAdvances, Reserves}
+use Rattle.rathonsi_c.specs.Routes.{InRanges, at_counter, opened_at, Opens, RouteAdvances, Reserves}
 use Rattle.rathonsi_c.specs.Lives.{Memory, Deed, sends, accepts, takes, opens, sets, reserves, loads, drops, finishes, powers_up, SameRoute, OpensFilled, ChangesRoute, GivesOut, OpensRoute, SetsFields, PlansBound, PlansUpdate, DropsPlan, FinishesPlan, PowerBack, SameRoutes, DoesDeed, Lives, PoweredUp, given_out, RisesTo, CounterCovered}
 use Rattle.rathonsi_c.proofs.ImageLaws.{bound_once, same_direction, one_direction, moved_bound, renewed_bound}
 
@@ -152,12 +153,12 @@ reserved_here image plan next r freshness h s =
       bound = h.bound;
       kept = h.kept;
       below = h.below;
-      planned = elim (cases_lt s.bound (wanted r freshness)) [
+      planned = elim (cases_lt s.bound (bound_ahead r.reserve freshness)) [
         | inl low ↦ inr (inl (record {
-          to = wanted r freshness;
+          to = bound_ahead r.reserve freshness;
           above = omega arith;
           fits = omega arith;
-          plans = subst (λ (q : Direction). PlansPut next image r.cell (bound_cell r.data_id q (wanted r freshness))) e (s.plans low);
+          plans = subst (λ (q : Direction). PlansPut next image r.cell (bound_cell r.data_id q (bound_ahead r.reserve freshness))) e (s.plans low);
         }))
         | inr high ↦ inl (subst (λ (p : Plan). IsEmptyPlan p) (sym (s.enough high)) s.empty)
       ];
@@ -178,7 +179,7 @@ planned_nothing image plan next r empty h = record { direction = h.direction; ra
 
 -- another route reserves
 reserved_there : (image : List ℕ) (plan next : Plan) (that r : RathonsiRoute) (freshness : ℕ) → that.cell ≢ r.cell → Reserves that image freshness plan next → Holds image plan r → Holds image next r
-reserved_there image plan next that r freshness apart s h = elim (cases_lt s.bound (wanted that freshness)) [
+reserved_there image plan next that r freshness apart s h = elim (cases_lt s.bound (bound_ahead that.reserve freshness)) [
   | inl low ↦ planned_elsewhere image plan next r that.cell _ apart (s.plans low) h
   | inr high ↦ planned_nothing image plan next r (subst (λ (p : Plan). IsEmptyPlan p) (sym (s.enough high)) s.empty) h
 ]

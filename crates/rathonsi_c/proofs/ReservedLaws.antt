@@ -8,6 +8,7 @@ use Rattle.key_slots.specs.declared.memory.Slot.TheVariants.{Filled}
 use Rattle.key_slots.specs.Slots.{key_of}
 use Rattle.key_slots.specs.declared.refusals.Erc.{Erc}
 use Rattle.key_slots.specs.declared.refusals.Erc.TheVariants.{KeyNotAvailable, KeyInvalid, KeyEmpty, NoSecureBoot, KeyWriteProtected, KeyUpdateError, SequenceError}
+use Rattle.freshness_routes.specs.Changes.{bound_ahead}
 use Rattle.freshness_routes.specs.declared.routes.Direction.{Direction}
 use Rattle.freshness_routes.specs.declared.routes.Direction.TheVariants.{Receives}
 use Rattle.freshness_store.specs.Bound.{bound_cell}
@@ -21,7 +22,7 @@ use Rattle.rathonsi_c.specs.declared.secoc.RathonsiVerdict.{RathonsiVerdict}
 use Rattle.rathonsi_c.specs.declared.route.RathonsiRoute.{RathonsiRoute}
 use Rattle.rathonsi_c.specs.Causes.{erc_status}
 use Rattle.rathonsi_c.specs.Images.{ImageBound, ImageSlot, ImageKey}
-use Rattle.rathonsi_c.specs.Routes.{RouteReady, is_booted, wanted, Reserves, bounded_answer, no_verdict, JudgesPdu, ReceiveAnswers}
+use Rattle.rathonsi_c.specs.Routes.{RouteReady, is_booted, Reserves, bounded_answer, no_verdict, JudgesPdu, ReceiveAnswers}
 use Rattle.rathonsi_c.specs.Lives.{PlanDone}
 use Rattle.rathonsi_c.proofs.ImageLaws.{bound_once, slot_once, one_direction, renewed_bound, moved_slot}
 use Rattle.rathonsi_c.proofs.AnswerLaws.{other_status, may-not-refused, damaged_keeps_none}
@@ -126,7 +127,7 @@ module _ (r : RathonsiRoute) (image next pdu : List ℕ) (v w : RathonsiVerdict)
   same-bound = bound_once image r.cell r.data_id Receives reserved.bound j.bound (subst (λ (d : Direction). ImageBound image r.cell r.data_id d reserved.bound) direction reserved.kept) j.ready.kept
 
   abbrev to : ℕ
-  to = wanted r v.freshness
+  to = bound_ahead r.reserve v.freshness
 
   fits : to < 2 ^ 64
   fits = omega arith

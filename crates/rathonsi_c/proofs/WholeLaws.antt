@@ -10,7 +10,7 @@ use Rattle.store_plan.specs.declared.planning.Plan.{Plan}
 use Rattle.store_plan.specs.Plans.{PlansPut, IsEmptyPlan, applied}
 use Rattle.store_plan.specs.Leaving.{LeavesPut}
 use Rattle.store_plan.proofs.CallerLemmas.{applied-cell, applied-others, applied-length, applied-head, applied-none}
-use Rattle.rathonsi_c.specs.Routes.{wanted}
+use Rattle.freshness_routes.specs.Changes.{bound_ahead}
 use Rattle.rathonsi_c.specs.Stores.{IsWhole}
 use Rattle.rathonsi_c.specs.Lives.{Memory, Deed, sends, accepts, takes, opens, sets, reserves, loads, drops, finishes, powers_up, Lives, DoesDeed}
 
@@ -76,8 +76,8 @@ whole-does n (opens k) a b h d = whole-same a b d.changes.image d.changes.plan h
 whole-does n (sets k) a b h d = whole-same a b d.changes.image d.changes.plan h
 whole-does n (reserves k) a b h d = record {
   whole = subst (λ (y : List ℕ). IsWhole y) (sym d.image) h.whole;
-  planned = elim (cases_lt d.reserved.bound (wanted (a.routes k) d.freshness)) [
-    | inl low ↦ inr ((a.routes k).cell, (_, subst (λ (y : List ℕ). PlansPut b.plan y (a.routes k).cell (bound_cell (a.routes k).data_id d.reserved.direction (wanted (a.routes k) d.freshness))) (sym d.image) (d.reserved.plans low)))
+  planned = elim (cases_lt d.reserved.bound (bound_ahead (a.routes k).reserve d.freshness)) [
+    | inl low ↦ inr ((a.routes k).cell, (_, subst (λ (y : List ℕ). PlansPut b.plan y (a.routes k).cell (bound_cell (a.routes k).data_id d.reserved.direction (bound_ahead (a.routes k).reserve d.freshness))) (sym d.image) (d.reserved.plans low)))
     | inr high ↦ inl (subst (λ (p : Plan). IsEmptyPlan p) (sym (d.reserved.enough high)) d.reserved.empty)
   ];
 }

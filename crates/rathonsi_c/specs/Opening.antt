@@ -1,5 +1,6 @@
 -- All routes of a unit, opened together.
 use Rattle.std.specs.Prelude.{ℤ, ◌≡◌, ◌≢◌, ℕ, ◌<◌, ◌≤◌, ◌⊎◌, List, length, take, get_or, replicate}
+use Rattle.freshness_routes.specs.declared.config.TheConstants.{MOST_ROUTES}
 use Rattle.rathonsi_c.specs.declared.TheConstants.{OK, BAD_LENGTH, BAD_VALUE}
 use Rattle.rathonsi_c.specs.declared.route.RathonsiRoute.{RathonsiRoute}
 use Rattle.rathonsi_c.specs.Causes.{IfCause, IsDone}
@@ -71,11 +72,11 @@ pub record OpensRoutes (routes : List RathonsiRoute) (image : List ℕ) (opened 
 -- what `rathonsi_routes_open` answers
 abbrev pub RoutesAnswers : List RathonsiRoute → List ℕ → ℤ → Type 0
 RoutesAnswers routes image status =
-    IfCause (256 < length routes) BAD_LENGTH
+    IfCause (MOST_ROUTES < length routes) BAD_LENGTH
     (λ answer. (AllOpen routes image × IsDone answer)
     ⊎ ((which : ℕ) × FirstUnopened routes image which answer)) status
 
 -- it names the first route that may not be opened, and else leaves what was there
 pub record TellsWhich (routes : List RathonsiRoute) (image : List ℕ) (status : ℤ) (old new : ℕ) : Type 0 where
-  pub named : length routes ≤ 256 → status ≢ OK → FirstUnopened routes image new status
-  pub left : (256 < length routes) ⊎ (status ≡ OK) → new ≡ old
+  pub named : length routes ≤ MOST_ROUTES → status ≢ OK → FirstUnopened routes image new status
+  pub left : (MOST_ROUTES < length routes) ⊎ (status ≡ OK) → new ≡ old

@@ -1,11 +1,14 @@
 -- Routes over the image of a store, and what the calls on them do and answer.
-use Rattle.std.specs.Prelude.{ℤ, ◌≡◌, ℕ, ◌+◌, ◌-◌, ◌^◌, ◌<◌, ◌≤◌, ◌==◌, ◌⊎◌, min, nat_lt, if◌then◌else◌, Bool, List}
+use Rattle.std.specs.Prelude.{ℤ, ◌≡◌, ℕ, ◌+◌, ◌^◌, ◌<◌, ◌≤◌, ◌==◌, ◌⊎◌, nat_lt, if◌then◌else◌, Bool, List}
 use Rattle.std.specs.Prelude.{length}
 use Rattle.key_slots.specs.declared.refusals.Erc.{Erc}
+use Rattle.freshness_routes.specs.Changes.{bound_ahead}
+use Rattle.freshness_routes.specs.declared.config.TheConstants.{MOST_RESERVE}
 use Rattle.freshness_routes.specs.declared.routes.Direction.{Direction}
 use Rattle.freshness_routes.specs.declared.routes.Direction.TheVariants.{Sends, Receives}
 use Rattle.freshness_store.specs.Bound.{direction_number, bound_cell}
 use Rattle.secured_pdu.specs.Frame.{IsPayload, IsFrame, IsWindow, Secured}
+use Rattle.secured_pdu.specs.declared.frame.TheConstants.{WIDEST_WINDOW}
 use Rattle.secured_pdu.specs.Verdict.{Outcome, Verdict, Accepted, FreshnessFailure, VerificationFailure}
 use Rattle.store_plan.specs.declared.planning.Plan.{Plan}
 use Rattle.store_plan.specs.Plans.{PlansPut, IsEmptyPlan}
@@ -21,7 +24,7 @@ pub record InRanges (r : RathonsiRoute) (direction : Direction) : Type 0 where
   pub direction_is : r.direction ≡ direction_number direction
   pub cell_least : 14 ≤ r.cell
   pub reserve_least : 1 ≤ r.reserve
-  pub reserve_most : r.reserve ≤ 128
+  pub reserve_most : r.reserve ≤ MOST_RESERVE
   pub window_is : IsWindow r.window
   pub slot_least : 4 ≤ r.slot
   pub slot_most : r.slot ≤ 13
@@ -93,11 +96,7 @@ pub record RouteAdvances (direction : Direction) (r : RathonsiRoute) (image : Li
   pub covered : BoundCovers r image direction freshness
   pub now : next ≡ at_counter r freshness
 
--- the bound that a reserve for a freshness asks for: as far above it as the reserve, at most the last freshness
-abbrev pub wanted : RathonsiRoute → ℕ → ℕ
-wanted r freshness = min (freshness + (r.reserve - 1)) (2 ^ 64 - 1)
-
--- into an empty plan comes that bound, or nothing if the image keeps one that is as high
+-- into an empty plan comes the bound ahead of this freshness, or nothing if the image keeps one that is as high
 pub record Reserves (r : RathonsiRoute) (image : List ℕ) (freshness : ℕ) (old new : Plan) : Type 0 where
   pub empty : IsEmptyPlan old
   pub direction : Direction
@@ -105,9 +104,9 @@ pub record Reserves (r : RathonsiRoute) (image : List ℕ) (freshness : ℕ) (ol
   pub opened : IsOpened r
   pub bound : ℕ
   pub kept : ImageBound image r.cell r.data_id direction bound
-  pub enough : wanted r freshness ≤ bound → new ≡ old
-  pub plans : bound < wanted r freshness
-      → PlansPut new image r.cell (bound_cell r.data_id direction (wanted r freshness))
+  pub enough : bound_ahead r.reserve freshness ≤ bound → new ≡ old
+  pub plans : bound < bound_ahead r.reserve freshness
+      → PlansPut new image r.cell (bound_cell r.data_id direction (bound_ahead r.reserve freshness))
 
 -- a payload, and room for its PDU
 abbrev pub TakesSend : List ℕ → List ℕ → Type 0
@@ -199,7 +198,7 @@ pub record IsFarAhead (r : RathonsiRoute) (image : List ℕ) (freshness : ℕ) :
   pub direction : Direction
   pub bound : ℕ
   pub kept : ImageBound image r.cell r.data_id direction bound
-  pub far : bound + 256 < freshness
+  pub far : bound + WIDEST_WINDOW < freshness
 
 -- what `rathonsi_route_reserve` answers
 abbrev pub ReserveAnswers : RathonsiRoute → List ℕ → ℕ → Plan → ℤ → Type 0

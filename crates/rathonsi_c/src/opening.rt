@@ -5,6 +5,7 @@ ghost use Rattle.rathonsi_c.specs.Opening.{OpensRoutes, ClosesEach, RoutesAnswer
 
 use crate::route::{RathonsiRoute, bound_of, direction_of, rathonsi_route_open};
 use crate::{BAD_LENGTH, BAD_VALUE, OK};
+use freshness_routes::MOST_ROUTES;
 
 // Whether a route has neither the cell of another one nor its Data ID and direction.
 fn is_apart(route: &RathonsiRoute, others: &[RathonsiRoute]) -> bool
@@ -46,7 +47,7 @@ struct Unopened {
 
 // The first of at most 256 routes that can't be opened.
 fn first_unopened(routes: &[RathonsiRoute], image: &[u8]) -> Option<Unopened>
-    requires { length routes.now ≤ 256 }
+    requires { length routes.now ≤ MOST_ROUTES }
     ensures none { IfNone result (AllOpen routes.now image.now) }
     ensures some { IfSome result (λ u. FirstUnopened routes.now image.now u.which u.status) }
 {
@@ -93,10 +94,10 @@ pub extern "C" fn rathonsi_routes_open(
     ensures answer { RoutesAnswers routes.old image.now result }
     ensures opened { result ≡ OK → OpensRoutes routes.old image.now routes.new }
     ensures named { TellsWhich routes.old image.now result which.old which.new }
-    ensures closed { result ≢ OK → length routes.old ≤ 256 → ClosesEach routes.old routes.new }
-    ensures unchanged { 256 < length routes.old → routes.new ≡ routes.old }
+    ensures closed { result ≢ OK → length routes.old ≤ MOST_ROUTES → ClosesEach routes.old routes.new }
+    ensures unchanged { MOST_ROUTES < length routes.old → routes.new ≡ routes.old }
 {
-    if routes.len() > 256 {
+    if routes.len() > MOST_ROUTES {
         return BAD_LENGTH;
     }
     if let Some(Unopened { which: k, status }) = first_unopened(routes, image) {

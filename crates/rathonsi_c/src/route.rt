@@ -21,9 +21,10 @@ use crate::{
     BAD_LENGTH, BAD_VALUE, BUSY, DAMAGED, FRESHNESS_FAILURE, OK, RESERVE, VERIFICATION_FAILURE,
     WRONG_CELL,
 };
+use freshness_routes::{MOST_RESERVE, bound_ahead};
 use freshness_store::{Direction, bound_bytes, bound_in};
 use key_slots::{Purpose, Slot, usable};
-use secured_pdu::{Judgement, build, judge, split};
+use secured_pdu::{Judgement, WIDEST_WINDOW, build, judge, split};
 use she_aes::{Block, expand};
 use store_plan::{Plan, PlanFault, cell_in, is_empty, plan_put};
 
@@ -67,10 +68,10 @@ pub fn direction_of(route: &RathonsiRoute) -> Option<Direction>
         booted,
         ..
     } = *route;
-    if cell < 14 || reserve < 1 || reserve > 128 || window < 1 || window > 256 {
+    if cell < 14 || reserve < 1 || reserve > MOST_RESERVE {
         return None;
     }
-    if slot < 4 || slot > 13 || booted > 1 {
+    if window < 1 || window > WIDEST_WINDOW || slot < 4 || slot > 13 || booted > 1 {
         return None;
     }
     match direction {
@@ -214,7 +215,7 @@ pub extern "C" fn rathonsi_route_reserve(
         Ok(kept) => kept,
         Err(status) => return status,
     };
-    if freshness > bound.saturating_add(256) {
+    if freshness > bound.saturating_add(u64::from(WIDEST_WINDOW)) {
         return BAD_VALUE;
     }
     raise(route, Kept { direction, bound }, freshness, image, plan)
@@ -278,7 +279,7 @@ fn raise(route: &RathonsiRoute, kept: Kept, freshness: u64, image: &[u8], plan: 
     ensures reserved { Reserves route.now image.now freshness plan.old plan.new }
     ensures fits { IsEmptyPlan plan.new ⊎ PlanFits (length image.now) plan.new }
 {
-    let to = freshness.saturating_add(u64::from(route.reserve - 1));
+    let to = bound_ahead(route.reserve, freshness);
     if to <= kept.bound {
         return OK;
     }

@@ -8,7 +8,7 @@ ghost use Rattle.rathonsi_c.specs.Routes.{no_verdict};
 
 use crate::keys::schedule_of;
 use crate::{BAD_LENGTH, BAD_VALUE, FRESHNESS_FAILURE, OK, VERIFICATION_FAILURE};
-use secured_pdu::{Judgement, build, judge, split};
+use secured_pdu::{Judgement, WIDEST_WINDOW, build, judge, split};
 
 /// What a receiver says of a PDU.
 #[derive(Clone, Copy, Debug, PartialEq, Eq)]
@@ -108,7 +108,7 @@ pub extern "C" fn rathonsi_secoc_verify(
     let Some(parts) = split(pdu) else {
         return refusal(BAD_LENGTH);
     };
-    if window == 0 || window > 256 {
+    if window == 0 || window > WIDEST_WINDOW {
         return refusal(BAD_VALUE);
     }
     let judgement = judge(&schedule, id, counter, window, &parts);

@@ -4,7 +4,7 @@ use Rattle.std.specs.Prelude.{Option, Some, Ok, option_map, unwrap_or}
 use Rattle.cell_store.specs.Cells.{CellsState}
 use Rattle.freshness_routes.specs.declared.routes.Direction.TheVariants.{Receives}
 use Rattle.freshness_routes.specs.declared.routes.Route.{Route}
-use Rattle.freshness_routes.specs.Changes.{receiver_change}
+use Rattle.freshness_routes.specs.Changes.{bound_due}
 use Rattle.freshness_manager.specs.Counters.{ReceiverCounter, KeepsBound}
 use Rattle.freshness_manager.specs.Changing.{MakesChange, FailsChange}
 use Rattle.secoc_receiver.specs.declared.receiver.Reception.{Reception}
@@ -100,7 +100,7 @@ module _ (known : Known) (store : CellsState) (is : IsNode known store) (up : kn
     said_untouched old reception.VerificationFailure rx' left view same untouched = refused_state rx' left same untouched ∙ view
 
     abbrev change : ℕ → Option ℕ
-    change v = receiver_change rx.bound rx.reserve v
+    change v = bound_due rx.bound rx.reserve v
 
     change_is : (v : ℕ) → receive_change (node_in known) place v ≡ option_map (bound_to place) (change v)
     change_is v =
@@ -109,7 +109,7 @@ module _ (known : Known) (store : CellsState) (is : IsNode known store) (up : kn
         rw (b, r) refl
 
     abbrev taken : ReceiverCounter → ℕ → ReceiverCounter
-    taken r v = record r { counter = v; bound = unwrap_or (receiver_change r.bound r.reserve v) r.bound }
+    taken r v = record r { counter = v; bound = unwrap_or (bound_due r.bound r.reserve v) r.bound }
 
     -- a verdict was given
     pub said_done : (pdu : List ℕ) (source : Option ℕ) (said : Reception) (rx' : ReceiverCounter) (left : CellsState)

@@ -4,7 +4,7 @@ use Rattle.std.specs.Prelude.{Option, Some, option_map, unwrap_or}
 use Rattle.cell_store.specs.Cells.{CellsState}
 use Rattle.freshness_routes.specs.declared.routes.Direction.TheVariants.{Sends, Receives}
 use Rattle.freshness_routes.specs.declared.routes.Route.{Route}
-use Rattle.freshness_routes.specs.Changes.{sender_change}
+use Rattle.freshness_routes.specs.Changes.{bound_due}
 use Rattle.freshness_manager.specs.Counters.{SenderCounter, KeepsBound}
 use Rattle.freshness_manager.specs.Changing.{MakesChange, FailsChange}
 use Rattle.secoc_sender.specs.declared.sender.Sent.{Sent as Sending}
@@ -69,7 +69,7 @@ module _ (known : Known) (store : CellsState) (is : IsNode known store) (up : kn
         }
 
     abbrev change : Option ℕ
-    change = sender_change tx.counter tx.bound tx.reserve
+    change = bound_due tx.bound tx.reserve (tx.counter + 1)
 
     change_is : send_change (node_in known) place ≡ option_map (bound_to place) change
     change_is =
@@ -80,8 +80,8 @@ module _ (known : Known) (store : CellsState) (is : IsNode known store) (up : kn
 
     -- the payload was sent
     pub sent_done : (payload : List ℕ) (sent : Sending) (out : List ℕ) (tx' : SenderCounter) (left : CellsState)
-        → tx' ≡ record tx { counter = tx.counter + 1; bound = unwrap_or (sender_change tx.counter tx.bound tx.reserve) tx.bound } → sent.freshness ≡ tx.counter + 1
-        → MakesChange tx.place tx.id Sends (sender_change tx.counter tx.bound tx.reserve) store left
+        → tx' ≡ record tx { counter = tx.counter + 1; bound = unwrap_or (bound_due tx.bound tx.reserve (tx.counter + 1)) tx.bound } → sent.freshness ≡ tx.counter + 1
+        → MakesChange tx.place tx.id Sends (bound_due tx.bound tx.reserve (tx.counter + 1)) store left
         → NodeStep (node_in known) (sends route.id payload) (Sent route.id sent.freshness (take sent.len out))
         (with_counter (send_change (node_in known) (place_of (node_in known) route.id Sends)) (place_of (node_in known) route.id Sends) sent.freshness (node_in known))
         → Done known store (sends id payload) (Sent id sent.freshness (take sent.len out)) (with_counter_at known place (of_route.Sends tx')) left
@@ -105,7 +105,7 @@ module _ (known : Known) (store : CellsState) (is : IsNode known store) (up : kn
         (sends id payload) (Sent id sent.freshness (take sent.len out)) placed
 
     -- the freshness is covered
-    pub sent_covered : (tx' : SenderCounter) (left : CellsState) (v : ℕ) → tx' ≡ record tx { counter = tx.counter + 1; bound = unwrap_or (sender_change tx.counter tx.bound tx.reserve) tx.bound }
+    pub sent_covered : (tx' : SenderCounter) (left : CellsState) (v : ℕ) → tx' ≡ record tx { counter = tx.counter + 1; bound = unwrap_or (bound_due tx.bound tx.reserve (tx.counter + 1)) tx.bound }
         → KeepsBound left.cells tx'.place tx'.id Sends tx'.bound → v ≤ tx'.bound → IsCovered (state_in (with_counter_at known place (of_route.Sends tx')) left) id Sends v
     sent_covered tx' left v tx'_is kept covers =
         let p : tx'.place ≡ 14 + place = ap (λ (t : SenderCounter). t.place) tx'_is ∙ tx_place in
@@ -118,7 +118,7 @@ module _ (known : Known) (store : CellsState) (is : IsNode known store) (up : kn
         }
 
     -- and what was covered of the routes that receive stays so
-    pub sent_others : (tx' : SenderCounter) (left : CellsState) → MakesChange tx.place tx.id Sends (sender_change tx.counter tx.bound tx.reserve) store left
+    pub sent_others : (tx' : SenderCounter) (left : CellsState) → MakesChange tx.place tx.id Sends (bound_due tx.bound tx.reserve (tx.counter + 1)) store left
         → (other v : ℕ) → IsCovered (state_in known store) other Receives v → IsCovered (state_in (with_counter_at known place (of_route.Sends tx')) left) other Receives v
     sent_others tx' left made =
         covered_past known store is up id place route finds (of_route.Sends tx') change left

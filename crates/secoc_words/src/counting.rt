@@ -9,9 +9,6 @@ use secured_pdu::{Judgement, judge, split};
 use she_aes::Schedule;
 use std::alloc::AllocError;
 
-/// The widest window that a receiver has.
-pub const WIDEST_WINDOW: u16 = 256;
-
 /// Adds the text of the verdict on a Secured I-PDU of 5 to 64 bytes under this schedule's key. The receiver has this
 /// Data ID, window (1 to 256) and counter. If it is accepted, the counter is its freshness. In room for 158 bytes no
 /// memory is taken.

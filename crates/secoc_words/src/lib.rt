@@ -6,7 +6,7 @@
 //! 65,536 lines of one kind, in lower-case digits with single spaces, are read as they were written ([`laws`]).
 //! [`push_verdict`] judges a Secured I-PDU by its receiver's counter and window, and adds the text of the verdict, as
 //! it does with room for 158 bytes. The counter is then the freshness of an accepted PDU, and as before for any other.
-//! So accepted freshness rises ([`counting_laws::accepted_freshness_rises`]).
+//! So the freshness that a receiver accepts rises ([`counting_laws::accepted_freshness_rises`]).
 #![tactic(auto)]
 
 mod counting;
@@ -29,4 +29,5 @@ pub use crate::judges::{JudgeLine, read_judges};
 pub use crate::key_forms::{counter, engine_uid, flags, slot, uid};
 pub use crate::loads::read_loads;
 pub use crate::received_bytes::ReceivedBytes;
-pub use counting::{WIDEST_WINDOW, push_verdict};
+pub use counting::push_verdict;
+pub use secured_pdu::WIDEST_WINDOW;

@@ -2,6 +2,7 @@
 use Rattle.std.specs.Prelude.{◌≡◌, ℕ, ◌+◌, ◌%◌, ◌^◌, ◌<◌, ◌≤◌, List, ◌∷◌, ◌++◌, length, take}
 use Rattle.basics.specs.Numbers.{bytes_of}
 use Rattle.she_cmac.specs.Cmac.{cmac}
+use Rattle.secured_pdu.specs.declared.frame.TheConstants.{WIDEST_WINDOW}
 
 -- the bytes that the authenticator covers: the Data ID in two bytes, the payload, the full freshness in eight bytes,
 -- all big-endian
@@ -30,7 +31,7 @@ pub record Secured (key : List ℕ) (id : ℕ) (payload : List ℕ) (freshness :
 
 -- a receiver accepts freshness up to its window above its counter
 abbrev pub IsWindow : ℕ → Type 0
-IsWindow window = (1 ≤ window) × (window ≤ 256)
+IsWindow window = (1 ≤ window) × (window ≤ WIDEST_WINDOW)
 
 -- the freshness has this low byte, and is one to the window above the counter
 pub record Ahead (counter window low freshness : ℕ) : Type 0 where

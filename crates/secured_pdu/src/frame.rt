@@ -6,6 +6,9 @@ ghost use Rattle.secured_pdu.specs.Frame.{authenticated_input, assembled, IsPayl
 use basics::append;
 use she_cmac::{Block, Schedule, cmac};
 
+/// The widest window that a receiver has. In a wider one two freshnesses would have one low byte.
+pub const WIDEST_WINDOW: u16 = 256;
+
 /// Writes the authenticated input to the beginning of `out` and gives its length in bytes. All numbers are big-endian.
 pub fn input_bytes(id: u16, payload: &[u8], freshness: u64, out: &mut [u8; 70]) -> usize
     requires { IsPayload payload.now }

@@ -16,6 +16,6 @@ mod sync;
 pub mod sync_laws;
 mod verdict;
 
-pub use frame::{Parts, assemble, build, input_bytes, input_mac, split};
+pub use frame::{Parts, WIDEST_WINDOW, assemble, build, input_bytes, input_mac, split};
 pub use sync::{ANSWER, NONCE, sync_answer, sync_counter};
 pub use verdict::{Judgement, candidate_of, judge};

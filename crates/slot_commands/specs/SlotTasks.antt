@@ -2,7 +2,7 @@
 use Rattle.std.specs.Prelude.{ℕ, if◌then◌else◌, List, [], ◌∷◌, Option, Some, None, Result, Ok, codes, bytes_eq}
 use Rattle.std.specs.Option.{ok_or}
 use Rattle.secoc_words.specs.KeyForms.{engine_uid_form, slot_form}
-use Rattle.text_lines.specs.Readings.{◌>>=◌}
+use Rattle.text_lines.specs.Readings.{◌>>=◌, nth_word}
 use Rattle.slot_commands.specs.declared.tasks.SlotTask.{SlotTask}
 use Rattle.slot_commands.specs.declared.tasks.SlotTask.TheVariants as task
 
@@ -30,7 +30,11 @@ slots_asked (name ∷ file ∷ []) = task_named name
 slots_asked (name ∷ file ∷ uid ∷ id ∷ auth ∷ []) = reply_named name uid id auth
 slots_asked words = None
 
--- the file that they name: the second word
+-- the file of what is asked: the second word; none if nothing is asked
+abbrev pub task_file : Option (Result SlotTask ℕ) → List (List ℕ) → Option (List ℕ)
+task_file (Some (Ok asked)) words = Some (nth_word words 2)
+task_file other words = None
+
+-- the file of the task that these words ask for, if they ask for one
 abbrev pub file_asked : List (List ℕ) → Option (List ℕ)
-file_asked (name ∷ file ∷ words) = Some file
-file_asked words = None
+file_asked words = task_file (slots_asked words) words

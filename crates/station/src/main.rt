@@ -30,7 +30,7 @@ fn main(rt: HostRuntime) -> ExitCode {
                 words.as_slice(),
                 &mut sink,
             );
-            tell_open_mode(&rt, words.as_slice());
+            tell_open_mode(&rt, words.as_slice(), status);
             status
         }
         Err(AllocError) => NO_MEMORY,

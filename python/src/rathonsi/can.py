@@ -326,9 +326,10 @@ def verify_log(
 
     `path` is a log that `LogReader` reads, by its suffix: candump (.log), ASC, BLF, TRC, CSV, SQLite (.db), also
     with .gz. `map` is a file as of `read_map`, or lines of it; a frame belongs to the first line with its identifier
-    and channel. `reader` is passed on to `LogReader`. Each line counts for itself: its counter is `freshness`,
-    and then the freshness that was accepted last. ValueError, OSError, at the call itself: of the map, or of a log
-    that can't be opened. What `LogReader` raises of a malformed log comes when its frame is read.
+    and channel. Channels of ASC and BLF are numbers from 0: a map for them says `0`, not `can0`. `reader` is passed
+    on to `LogReader`. Each line counts for itself: its counter is `freshness`, and then the freshness that was
+    accepted last. ValueError, OSError, at the call itself: of the map, or of a log that can't be opened. What
+    `LogReader` raises of a malformed log comes when its frame is read.
     """
     lines = _lines_of(map)
     return _verdicts(LogReader(path, **reader), lines)
