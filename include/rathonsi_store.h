@@ -102,6 +102,7 @@
  *     void power_up(void) {
  *         memset(&plan, 0, sizeof plan);
  *         read_device(image, sizeof image);
+ *         // routes that the production line didn't make: rathonsi_store_grow, see there
  *         if (rathonsi_store_check(image, sizeof image) != RATHONSI_OK)
  *             stop();
  *         if (rathonsi_routes_open(routes, 2u, image, sizeof image, &which) != RATHONSI_OK)
