@@ -20,7 +20,7 @@ use Rattle.rathonsi_c.proofs.GrowthCalls.{Head, not_erased, some-cell}
 abbrev Torn : (ℕ → List ℕ) → ℕ → ℕ → List ℕ → Type 0
 Torn payload m t x = (m < t) × ((k : ℕ) × ((k + 1 ≡ t) × IsGrowth x k (payload k) Counting))
 
--- t cells are there: m of them as they were first. What is after them is erased.
+-- t cells are there: m of them as they were first, and the later ones as they were made. What is after them is erased.
 record Has (payload : ℕ → List ℕ) (m top : ℕ) (first : List ℕ) (t : ℕ) (x : List ℕ) : Type 0 where
   least : m ≤ t
   most : t ≤ top
@@ -28,6 +28,7 @@ record Has (payload : ℕ → List ℕ) (m top : ℕ) (first : List ℕ) (t : �
   cells : (j : ℕ) → j < t → IsSome (cell_at x j)
   erased : (j : ℕ) → t ≤ j → j < top → IsErasedAfter x j
   kept : (j : ℕ) → j < m → cell_at x j ≡ cell_at first j
+  made : (j : ℕ) → m ≤ j → j < t → cell_at x j ≡ Some (payload j)
   is : Head t x ⊎ Torn payload m t x
 
 -- a power-up made the calls for the cells before cell i
@@ -68,21 +69,26 @@ module _ (payload : ℕ → List ℕ) (sized : (i : ℕ) → length (payload i) 
         | inr end ↦ (let e : i ≡ j = omega arith in subst (λ k. IsErasedAfter y k) e h.1)
       ];
       kept = λ j b. ch.others j (λ e. omega arith) ∙ s.kept j b;
+      made = λ j at b. ch.others j (λ e. omega arith) ∙ s.made j at (omega arith);
       is = inl h.0;
     }
 
     -- the new cell is there
-    as-new : IsSome (cell_at y i) → Head (i + 1) y ⊎ Torn payload m (i + 1) y → S (i + 1) y
-    as-new some is = record {
+    as-new : cell_at y i ≡ Some (payload i) → Head (i + 1) y ⊎ Torn payload m (i + 1) y → S (i + 1) y
+    as-new new is = record {
       least = omega arith;
       most = omega arith;
       room = long;
       cells = λ j b. elim (cases_lt j i) [
         | inl before ↦ subst (λ (o : Option (List ℕ)). IsSome o) (sym (ch.others j (λ e. omega arith))) (s.cells j (omega arith))
-        | inr end ↦ (let e : i ≡ j = omega arith in subst (λ k. IsSome (cell_at y k)) e some)
+        | inr end ↦ (let e : i ≡ j = omega arith in subst (λ k. IsSome (cell_at y k)) e (some-cell (cell_at y i) (payload i) new))
       ];
       erased = λ j at b. later-erased i (payload i) x y j ch (omega arith) (s.erased j (omega arith) b);
       kept = λ j b. ch.others j (λ e. omega arith) ∙ s.kept j b;
+      made = λ j at b. elim (cases_lt j i) [
+        | inl before ↦ ch.others j (λ e. omega arith) ∙ s.made j at (omega arith)
+        | inr end ↦ (let e : i ≡ j = omega arith in subst (λ k. cell_at y k ≡ Some (payload k)) e new)
+      ];
       is = is;
     }
 
@@ -90,8 +96,8 @@ module _ (payload : ℕ → List ℕ) (sized : (i : ℕ) → length (payload i) 
     after-cut = elim ch.left [
       | inl before ↦ (i, as-old before)
       | inr new ↦ elim new [
-        | inl counting ↦ (i + 1, as-new (some-cell (cell_at y i) (payload i) (cell_at-fresh y i (payload i) (sized i) counting.3)) (inr (omega arith, (i, (refl, counting)))))
-        | inr after ↦ (i + 1, as-new (some-cell (cell_at y i) (payload i) after.1) (inl after.0))
+        | inl counting ↦ (i + 1, as-new (cell_at-fresh y i (payload i) (sized i) counting.3) (inr (omega arith, (i, (refl, counting)))))
+        | inr after ↦ (i + 1, as-new after.1 (inl after.0))
       ]
     ]
 
@@ -100,7 +106,7 @@ module _ (payload : ℕ → List ℕ) (sized : (i : ℕ) → length (payload i) 
       | inl before ↦ (let e : i ≡ i + 1 = same-number y i (i + 1) (omega arith) (omega arith) before.0 head in absurd (omega arith))
       | inr new ↦ elim new [
         | inl counting ↦ absurd (counting.1 head)
-        | inr after ↦ as-new (some-cell (cell_at y i) (payload i) after.1) (inl head)
+        | inr after ↦ as-new after.1 (inl head)
       ]
     ]
 
@@ -264,7 +270,7 @@ module _ (payload : ℕ → List ℕ) (sized : (i : ℕ) → length (payload i) 
       power-ups cuts p n made.0 y z before e made.1 h.1.1
 
 pub all_cells : (cuts p n m : ℕ) (payload : ℕ → List ℕ) (x z : List ℕ) → ((i : ℕ) → length (payload i) ≡ 32) → p ≤ m → StoreWithRoom m (p + n) x → PowerUps cuts payload p n x z
-    → HasAllCells m (p + n) x z
+    → HasAllCells payload m (p + n) x z
 all_cells cuts p n m payload x z sized before r h =
     let start : Has payload m (p + n) x m x = record {
       least = omega arith;
@@ -273,7 +279,8 @@ all_cells cuts p n m payload x z sized before r h =
       cells = r.cells;
       erased = r.erased;
       kept = λ j b. refl;
+      made = λ j at b. absurd (omega arith);
       is = inl r.head;
     } in
     let end = power-ups payload sized m (p + n) r.most x cuts p n m x z before refl start h in
-    record { head = end.1; cells = end.0.cells; kept = end.0.kept }
+    record { head = end.1; cells = end.0.cells; kept = end.0.kept; made = end.0.made }

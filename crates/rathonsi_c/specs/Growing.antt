@@ -1,5 +1,5 @@
 -- A store that gets the cell of one route more, by a software update; and the size of a store by its first 32 bytes.
-use Rattle.std.specs.Prelude.{ℤ, ◌≡◌, ℕ, zero, suc, ◌+◌, ◌<◌, ◌≤◌, ◌⊎◌, IsSome, List, ◌++◌, length}
+use Rattle.std.specs.Prelude.{ℤ, ◌≡◌, ℕ, zero, suc, ◌+◌, ◌<◌, ◌≤◌, ◌⊎◌, IsSome, Some, List, ◌++◌, length}
 use Rattle.cell_store.specs.declared.kinds.Version.TheVariants.{One}
 use Rattle.cell_store.specs.Layout.{twin_layout, header}
 use Rattle.cell_store.specs.Twin.{twin_size, cell_at}
@@ -147,8 +147,10 @@ pub record StoreWithRoom (m n : ℕ) (x : List ℕ) : Type 0 where
   pub erased : (j : ℕ) → m ≤ j → j < n → IsErasedAfter x j
   pub room : twin_size (n + 1) ≤ length x
 
--- z begins with a store of n cells, each with a copy that counts, and the first m are as x has them
-pub record HasAllCells (m n : ℕ) (x z : List ℕ) : Type 0 where
+-- z begins with a store of n cells, each with a copy that counts. The first m are as x has them, and each later one has
+-- its payload.
+pub record HasAllCells (payload : ℕ → List ℕ) (m n : ℕ) (x z : List ℕ) : Type 0 where
   pub head : HasHeader (twin_layout One) n z
   pub cells : (j : ℕ) → j < n → IsSome (cell_at z j)
   pub kept : (j : ℕ) → j < m → cell_at z j ≡ cell_at x j
+  pub made : (j : ℕ) → m ≤ j → j < n → cell_at z j ≡ Some (payload j)

@@ -42,9 +42,9 @@ pub fn a_call_for_a_cell_that_is_there_plans_nothing()
 
 /// An update that adds any number of routes, as docs/units.md has it: at each power-up the caller makes the call for
 /// each cell from cell p on, in order, whatever the size says. The power goes within their plans as often as it may. In
-/// the end the store has the right number of cells, each with a copy that counts, and those that were there are as they
-/// were. p is the number of cells that the production line made, or fewer.
+/// the end the store has the right number of cells, each with a copy that counts. Those that were there are as they
+/// were, and each new one has its route's first bound. p is the number of cells that the production line made, or fewer.
 pub fn a_store_gets_all_its_cells()
     ensures { (cuts p n m : ℕ) (payload : ℕ → List ℕ) (x z : List ℕ) → ((i : ℕ) → length (payload i) ≡ 32) → p ≤ m
-        → StoreWithRoom m (p + n) x → PowerUps cuts payload p n x z → HasAllCells m (p + n) x z }
+        → StoreWithRoom m (p + n) x → PowerUps cuts payload p n x z → HasAllCells payload m (p + n) x z }
 {}
