@@ -386,6 +386,9 @@ class History:
         boots = program == "endpoint" and draw.randrange(8) == 0
         with open(given, "rb") as it:
             status, lines, said = room.live([*words, *[self.image] * boots], it, **preload)
+        # endpoint tells on standard error why it doesn't start
+        if program == "endpoint" and status == 10:
+            lines, said = [*lines, said], ""
         moments = file_lives.moments_in(room.record)
         what = f"{program}, {ending} {at}, {self.layout}"
         seen[f"{program} {ending if ending != 'killed' or status == -9 else 'whole'}"] += 1

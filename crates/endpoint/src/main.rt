@@ -2,7 +2,7 @@
 //! SecOC, profile 1; SHE).
 //!
 //! [`endpoint_commands::endpoint_words`] is the program, with all that is promised of it. Here it gets the arguments,
-//! the files and the disk that they name, standard input and standard output.
+//! the files and the disk that they name, standard input, standard output and standard error.
 #![tactic(auto)]
 
 use endpoint_commands::endpoint_words;
@@ -12,6 +12,7 @@ use std::process::ExitCode;
 
 fn main(rt: HostRuntime) -> ExitCode {
     let mut sink = StdSink::new(rt.stdout());
+    let mut errors = StdSink::new(rt.stderr());
     let mut opener = Paths::of(&rt);
     let mut disk_opener = DiskPaths::of(&rt);
     let mut input = Some(StdSource::new(rt.stdin()));
@@ -25,6 +26,7 @@ fn main(rt: HostRuntime) -> ExitCode {
         &mut input,
         words.as_slice(),
         &mut sink,
+        &mut errors,
     );
     ExitCode::from(status)
 }

@@ -5,7 +5,7 @@ use Rattle.bus_port.specs.Sink.{SinkState}
 use Rattle.bus_port.proofs.CallerLemmas.{Appended-nothing}
 use Rattle.program_edge.specs.Told.{AppendedWell}
 use Rattle.program_edge.specs.Inputs.{Reading}
-use Rattle.program_edge.specs.Endings.{Ending}
+use Rattle.watch_maps.specs.LogRuns.{WatchEnding}
 use Rattle.machine_runs.specs.Run.{Run}
 use Rattle.cut_disk.specs.State.{DiskState}
 use Rattle.bus_machine.specs.declared.events.Event.TheVariants as event
@@ -27,17 +27,17 @@ use Rattle.endpoint_commands.specs.Promises.{opening_of, EndsBooted, not_opened,
 
 -- ---- a run, however it ended
 
-ran_lines : (rules : List FrameRule) (start : NodeState) (opening : List ℕ) (log : Reading) (e : Ending) (now : NodeState) (lines : List LineMoment)
+ran_lines : (rules : List FrameRule) (start : NodeState) (opening : List ℕ) (log : Reading) (e : WatchEnding) (now : NodeState) (lines : List LineMoment)
     → EndsLines rules start opening log e now lines → Run (TakesLine rules) start lines now
-ran_lines rules start opening log e now _ (done moments last read unfailed ends) = read.run
+ran_lines rules start opening log e now _ (done moments last read unfailed ends untold) = read.run
 ran_lines rules start opening log e now _ (failed moments read unfailed fails ends) = read.run
 ran_lines rules start opening log e now _ (too_long moments read unfailed calm long ends) = read.run
-ran_lines rules start opening log e now _ (stopped moments last read unfailed stops) = read.done.run
-ran_lines rules start opening log e now _ (stopped_last moments last read unfailed stops) = read.run
+ran_lines rules start opening log e now _ (stopped moments last read unfailed stops untold) = read.done.run
+ran_lines rules start opening log e now _ (stopped_last moments last read unfailed stops untold) = read.run
 
-pub ran_booted : (rules : List FrameRule) (booted : NodeState) (opening : List ℕ) (log : Reading) (e : Ending) (now : NodeState) (lines : List LineMoment)
+pub ran_booted : (rules : List FrameRule) (booted : NodeState) (opening : List ℕ) (log : Reading) (e : WatchEnding) (now : NodeState) (lines : List LineMoment)
     → EndsBooted rules booted opening log e now lines → Run (TakesLine rules) booted lines now
-ran_booted rules booted opening log e now _ (not_opened six fails part unread same) = same
+ran_booted rules booted opening log e now _ (not_opened six fails part untold unread same) = same
 ran_booted rules booted opening log e now _ (of_log lines ends) = ran_lines rules booted opening log e now lines ends
 
 -- ---- behind a boot, or without one
@@ -45,14 +45,14 @@ ran_booted rules booted opening log e now _ (of_log lines ends) = ran_lines rule
 pub nothing_printed : (sink : SinkState) → AppendedWell sink sink []
 nothing_printed sink = (refl, Appended-nothing sink)
 
-pub answers_unbooted : (rules : List FrameRule) (start now : NodeState) (log : Reading) (e : Ending) (lines : List LineMoment) → EndsLines rules start [] log e now lines
+pub answers_unbooted : (rules : List FrameRule) (start now : NodeState) (log : Reading) (e : WatchEnding) (lines : List LineMoment) → EndsLines rules start [] log e now lines
     → AnswersAll None rules start log e now
 answers_unbooted rules start now log e lines ends = record { told = []; booted = start; lines = lines; boots = (refl, refl); ends = of_log lines ends }
 
 one_opening : (told : Line) → comment_text (told_words told) ≡ opening_of (told ∷ [])
 one_opening told = sym (append-nil (comment_text (told_words told)))
 
-pub answers_booted : (image : List ℕ) (rules : List FrameRule) (start booted now : NodeState) (told : Line) (log : Reading) (e : Ending) (lines : List LineMoment)
+pub answers_booted : (image : List ℕ) (rules : List FrameRule) (start booted now : NodeState) (told : Line) (log : Reading) (e : WatchEnding) (lines : List LineMoment)
     → TurnsAlone start (event.Boot 0 image) told booted → EndsLines rules booted (comment_text (told_words told)) log e now lines
     → AnswersAll (Some image) rules start log e now
 answers_booted image rules start booted now told log e lines turn ends = record {
@@ -63,7 +63,7 @@ answers_booted image rules start booted now told log e lines turn ends = record 
   ends = subst (λ (opening : List ℕ). EndsBooted rules booted opening log e now lines) (one_opening told) (of_log lines ends);
 }
 
-pub answers_unopened : (image : List ℕ) (rules : List FrameRule) (start booted : NodeState) (told : Line) (log : Reading) (e : Ending)
+pub answers_unopened : (image : List ℕ) (rules : List FrameRule) (start booted : NodeState) (told : Line) (log : Reading) (e : WatchEnding)
     → TurnsAlone start (event.Boot 0 image) told booted → EndsBooted rules booted (comment_text (told_words told)) log e booted []
     → AnswersAll (Some image) rules start log e booted
 answers_unopened image rules start booted told log e turn ends = record {
@@ -97,7 +97,7 @@ opened_first bus before nodes node d one opens is =
     (opens.opened.opened 0 no_node d node (omega (arith, one))))
 
 -- the node was opened, answered, and its disk is back
-abbrev pub ran_endpoint : (bus : NamedBus) (rules : List FrameRule) (image : Option (List ℕ)) (before after : List DiskState) (nodes : List NodeState) (node now : NodeState) (log : Reading) (e : Ending)
+abbrev pub ran_endpoint : (bus : NamedBus) (rules : List FrameRule) (image : Option (List ℕ)) (before after : List DiskState) (nodes : List NodeState) (node now : NodeState) (log : Reading) (e : WatchEnding)
     → IsNamedBus bus → length bus.nodes ≡ 1 → OpensNodes Attach bus before nodes → node ≡ get_or nodes 0 node → (a : AnswersAll image rules node log e now)
     → after ≡ now.store.disk ∷ drop 1 before → RanEndpoint bus rules image before after a.told a.lines
 ran_endpoint bus rules image before after nodes node now log e is_bus one opens is a back = record {
@@ -113,7 +113,7 @@ ran_endpoint bus rules image before after nodes node now log e is_bus one opens 
   disks = back;
 }
 
-pub did_endpoint : (bus : NamedBus) (rules : List FrameRule) (image : Option (List ℕ)) (before after : List DiskState) (nodes : List NodeState) (node now : NodeState) (log : Reading) (e : Ending)
+pub did_endpoint : (bus : NamedBus) (rules : List FrameRule) (image : Option (List ℕ)) (before after : List DiskState) (nodes : List NodeState) (node now : NodeState) (log : Reading) (e : WatchEnding)
     → IsNamedBus bus → length bus.nodes ≡ 1 → OpensNodes Attach bus before nodes → node ≡ get_or nodes 0 node → AnswersAll image rules node log e now
     → after ≡ now.store.disk ∷ drop 1 before → EndpointsAreRuns → DidEndpoint bus rules image log (record { before = before; after = after }) e
 did_endpoint bus rules image before after nodes node now log e is_bus one opens is a back law = record {

@@ -1,48 +1,53 @@
 -- What the ways in which a log ends say, by the status
-use Rattle.std.specs.Prelude.{◌≡◌, ◌⊎◌, ◌+◌, ◌<◌, ◌≤◌, ℕ, true, List, [], ◌∷◌, ◌++◌, length, take, codes}
+use Rattle.std.specs.Prelude.{◌≡◌, ◌⊎◌, ◌+◌, ◌≤◌, ℕ, true, List, [], ◌∷◌, ◌++◌, length, codes}
 use Rattle.std.proofs.Common.{refl, sym, ap, ◌∙◌, subst, arith, inl, inr, append-nil, append_assoc}
 use Rattle.basics.specs.FaultCount.{last_count}
 use Rattle.bus_port.specs.Source.{SourceState}
-use Rattle.bus_port.specs.Sink.{Appended}
+use Rattle.bus_port.specs.Whole.{AppendedPart}
 use Rattle.program_edge.specs.Inputs.{Reading, SourceFailed}
-use Rattle.program_edge.specs.Endings.{Ending, PrintsWhole, SinkFailed}
+use Rattle.program_edge.specs.Endings.{SinkFailed}
 use Rattle.secoc_node.specs.State.{NodeState}
+use Rattle.watch_maps.specs.LogRuns.{IsUnwritten, WritesWhole, WatchEnding, on_output, on_errors}
 use Rattle.endpoint_commands.specs.declared.rules.FrameRule.{FrameRule}
 use Rattle.endpoint_commands.specs.Running.{LineMoment, answers_behind, closing_text, tells_failed_disk}
-use Rattle.endpoint_commands.specs.Logs.{EndsBehind, Unfailed, answer_behind, LogRead, LinesRead, StopsAt, by_sink, by_disk, EndsLines, done, failed, too_long, stopped, stopped_last}
+use Rattle.endpoint_commands.specs.Logs.{EndsBehind, TellsBehind, Unfailed, answer_behind, LogRead, LinesRead, StopsAt, by_sink, by_disk, EndsLines, done, failed, too_long, stopped, stopped_last}
 use Rattle.endpoint_commands.specs.Promises.{EndsBooted, not_opened, of_log}
 use Rattle.endpoint_commands.proofs.Going.{answers-append}
 
-module _ (rules : List FrameRule) (booted : NodeState) (opening : List ℕ) (log : Reading) (e : Ending) (now : NodeState) where
-  -- the answers to these lines, and then a text
+module _ (rules : List FrameRule) (booted : NodeState) (opening : List ℕ) (log : Reading) (e : WatchEnding) (now : NodeState) where
+  -- the answers to these lines
+  abbrev pub answered : List LineMoment → List ℕ
+  answered lines = opening ++ answers_behind rules 0 lines
+
+  -- and then a text
   abbrev pub printed : List LineMoment → List ℕ → List ℕ
   printed lines text = opening ++ answers_behind rules 0 lines ++ text
 
   -- 0
   abbrev pub TellsDone : List LineMoment → Type 0
-  TellsDone lines = LogRead rules booted log lines now × Unfailed lines × PrintsWhole e (printed lines (closing_text rules lines))
+  TellsDone lines = LogRead rules booted log lines now × Unfailed lines × WritesWhole e.output (printed lines (closing_text rules lines)) × IsUnwritten e.errors
 
   -- 5
   abbrev pub TellsFailed : List LineMoment → Type 0
-  TellsFailed lines = SourceFailed log × LinesRead rules booted log lines now × Unfailed lines × PrintsWhole e (printed lines (codes "read fault\n"))
+  TellsFailed lines = SourceFailed log × LinesRead rules booted log lines now × Unfailed lines × WritesWhole e.output (answered lines)
+      × WritesWhole e.errors (codes "read fault\n")
 
   -- 8
   abbrev pub TellsTooLong : List LineMoment → Type 0
   TellsTooLong lines = (log.after.faults ≡ log.before.faults) × (read : LinesRead rules booted log lines now) × (last_count ≤ length read.bytes) × Unfailed lines
-      × PrintsWhole e (printed lines (codes "input too long\n"))
+      × WritesWhole e.output (answered lines) × WritesWhole e.errors (codes "input too long\n")
 
   -- 11
   abbrev pub TellsStopped : List LineMoment → Type 0
   TellsStopped lines = (earlier : List LineMoment) × (last : LineMoment) × (lines ≡ earlier ++ last ∷ []) × Unfailed earlier × (tells_failed_disk last.line ≡ true)
-      × (log.after.faults ≡ log.before.faults) × PrintsWhole e (opening ++ answers_behind rules 0 lines)
+      × (log.after.faults ≡ log.before.faults) × WritesWhole e.output (answered lines) × IsUnwritten e.errors
 
   -- 6, and the log's count rose
   abbrev pub TellsFirst : List LineMoment → Type 0
-  TellsFirst lines = LinesRead rules booted log lines now × (size : ℕ) × (size < length (codes "read fault\n"))
-      × Appended e.before e.after (printed lines (take size (codes "read fault\n")))
+  TellsFirst lines = LinesRead rules booted log lines now × WritesWhole e.output (answered lines) × AppendedPart e.errors.before e.errors.after (codes "read fault\n")
 
   abbrev pub TellsSink : List LineMoment → Type 0
-  TellsSink lines = SinkFailed e × ((log.after.faults ≡ log.before.faults) ⊎ TellsFirst lines)
+  TellsSink lines = (SinkFailed (on_output e) ⊎ SinkFailed (on_errors e)) × ((log.after.faults ≡ log.before.faults) ⊎ TellsFirst lines)
 
   abbrev pub LogTells : List LineMoment → Type 0
   LogTells lines = ((e.status ≡ 0) × TellsDone lines) ⊎ (((e.status ≡ 5) × TellsFailed lines) ⊎ (((e.status ≡ 8) × TellsTooLong lines)
@@ -71,41 +76,40 @@ module _ (rules : List FrameRule) (booted : NodeState) (opening : List ℕ) (log
 
   -- ---- the ways
 
-  sink_failed : (lines : List LineMoment) → e.status ≡ 6 → SinkFailed e → log.after.faults ≡ log.before.faults → LogTells lines
-  sink_failed lines six fails calm = inr (inr (inr (inr (six, (fails, inl calm)))))
+  output_failed : (lines : List LineMoment) → e.status ≡ 6 → SinkFailed (on_output e) → log.after.faults ≡ log.before.faults → LogTells lines
+  output_failed lines six fails calm = inr (inr (inr (inr (six, (inl fails, inl calm)))))
 
   tells_done : (moments : List LineMoment) (last : LineMoment) → LogRead rules booted log (moments ++ last ∷ []) now → Unfailed (moments ++ last ∷ [])
-      → EndsBehind e (opening ++ answers_behind rules 0 moments) (record { status = 0; text = answer_behind rules (length moments) last ++ closing_text rules (moments ++ last ∷ []) })
-      → LogTells (moments ++ last ∷ [])
-  tells_done moments last read unfailed (inl (is, prints)) =
-      inl (is, (read, unfailed, subst (PrintsWhole e) (last_printed moments last (closing_text rules (moments ++ last ∷ []))) prints))
-  tells_done moments last read unfailed (inr (six, fails, front)) = sink_failed (moments ++ last ∷ []) six fails read.reads.no_fault
+      → EndsBehind (on_output e) (opening ++ answers_behind rules 0 moments)
+      (record { status = 0; text = answer_behind rules (length moments) last ++ closing_text rules (moments ++ last ∷ []) })
+      → IsUnwritten e.errors → LogTells (moments ++ last ∷ [])
+  tells_done moments last read unfailed (inl (is, prints)) untold =
+      inl (is, (read, unfailed, subst (WritesWhole e.output) (last_printed moments last (closing_text rules (moments ++ last ∷ []))) prints, untold))
+  tells_done moments last read unfailed (inr (six, fails, front)) untold = output_failed (moments ++ last ∷ []) six fails read.reads.no_fault
 
   tells_failed : (moments : List LineMoment) → LinesRead rules booted log moments now → Unfailed moments → SourceFailed log
-      → EndsBehind e (opening ++ answers_behind rules 0 moments) (record { status = 5; text = codes "read fault\n" }) → LogTells moments
-  tells_failed moments read unfailed fails (inl (is, prints)) =
-      inr (inl (is, (fails, read, unfailed, prints)))
-  tells_failed moments read unfailed fails (inr (six, sink, (n, less, part))) = inr (inr (inr (inr (six, (sink, inr (read, n, less, part))))))
+      → TellsBehind e (opening ++ answers_behind rules 0 moments) (record { status = 5; text = codes "read fault\n" }) → LogTells moments
+  tells_failed moments read unfailed fails (prints, inl (is, told)) = inr (inl (is, (fails, read, unfailed, prints, told)))
+  tells_failed moments read unfailed fails (prints, inr (six, rose, part)) = inr (inr (inr (inr (six, (inr rose, inr (read, prints, part))))))
 
   tells_too_long : (moments : List LineMoment) (read : LinesRead rules booted log moments now) → Unfailed moments → log.after.faults ≡ log.before.faults → last_count ≤ length read.bytes
-      → EndsBehind e (opening ++ answers_behind rules 0 moments) (record { status = 8; text = codes "input too long\n" }) → LogTells moments
-  tells_too_long moments read unfailed calm long (inl (is, prints)) =
-      inr (inr (inl (is, (calm, read, long, unfailed, prints))))
-  tells_too_long moments read unfailed calm long (inr (six, sink, front)) = sink_failed moments six sink calm
+      → TellsBehind e (opening ++ answers_behind rules 0 moments) (record { status = 8; text = codes "input too long\n" }) → LogTells moments
+  tells_too_long moments read unfailed calm long (prints, inl (is, told)) = inr (inr (inl (is, (calm, read, long, unfailed, prints, told))))
+  tells_too_long moments read unfailed calm long (prints, inr (six, rose, part)) = inr (inr (inr (inr (six, (inr rose, inl calm)))))
 
-  tells_stopped : (moments : List LineMoment) (last : LineMoment) → Unfailed moments → log.after.faults ≡ log.before.faults → StopsAt rules opening moments last e
-      → LogTells (moments ++ last ∷ [])
-  tells_stopped moments last unfailed calm (by_sink six fails n less front) = sink_failed (moments ++ last ∷ []) six fails calm
-  tells_stopped moments last unfailed calm (by_disk eleven tells prints) =
-      inr (inr (inr (inl (eleven, (moments, last, refl, unfailed, tells, calm, subst (PrintsWhole e) (answered_more moments last) prints)))))
+  tells_stopped : (moments : List LineMoment) (last : LineMoment) → Unfailed moments → log.after.faults ≡ log.before.faults → StopsAt rules opening moments last (on_output e)
+      → IsUnwritten e.errors → LogTells (moments ++ last ∷ [])
+  tells_stopped moments last unfailed calm (by_sink six fails n less front) untold = output_failed (moments ++ last ∷ []) six fails calm
+  tells_stopped moments last unfailed calm (by_disk eleven tells prints) untold =
+      inr (inr (inr (inl (eleven, (moments, last, refl, unfailed, tells, calm, subst (WritesWhole e.output) (answered_more moments last) prints, untold)))))
 
   log_tells : (lines : List LineMoment) → EndsLines rules booted opening log e now lines → LogTells lines
-  log_tells _ (done moments last read unfailed ends) = tells_done moments last read unfailed ends
+  log_tells _ (done moments last read unfailed ends untold) = tells_done moments last read unfailed ends untold
   log_tells _ (failed moments read unfailed fails ends) = tells_failed moments read unfailed fails ends
   log_tells _ (too_long moments read unfailed calm long ends) = tells_too_long moments read unfailed calm long ends
-  log_tells _ (stopped moments last read unfailed stops) = tells_stopped moments last unfailed read.calm stops
-  log_tells _ (stopped_last moments last read unfailed stops) = tells_stopped moments last unfailed read.reads.no_fault stops
+  log_tells _ (stopped moments last read unfailed stops untold) = tells_stopped moments last unfailed read.calm stops untold
+  log_tells _ (stopped_last moments last read unfailed stops untold) = tells_stopped moments last unfailed read.reads.no_fault stops untold
 
   pub booted_tells : (lines : List LineMoment) → EndsBooted rules booted opening log e now lines → LogTells lines
-  booted_tells _ (not_opened six fails part unread same) = sink_failed [] six fails (ap (λ (s : SourceState). s.faults) unread)
+  booted_tells _ (not_opened six fails part untold unread same) = output_failed [] six fails (ap (λ (s : SourceState). s.faults) unread)
   booted_tells _ (of_log lines ends) = log_tells lines ends

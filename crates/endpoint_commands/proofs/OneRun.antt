@@ -1,7 +1,8 @@
 -- What was done of an endpoint over a disk that tells its bytes is a run of the machine, and what holds of it
-use Rattle.std.specs.Prelude.{◌≡◌, ℕ, ◌<◌, ◌≤◌, Option, Some, List, [], ◌∷◌, ◌++◌, length, map, drop, get_or}
-use Rattle.std.proofs.Common.{refl, sym, ap, ◌∙◌, subst, arith}
+use Rattle.std.specs.Prelude.{◌≡◌, ℕ, ◌<◌, ◌≤◌, Option, Some, List, [], ◌∷◌, ◌++◌, length, map, drop, get_or, false, All}
+use Rattle.std.proofs.Common.{refl, sym, ap, ◌∙◌, subst, arith, inl, inr}
 use Rattle.std.proofs.lemmas.List.{length-drop}
+use Rattle.basics.specs.FaultCount.{Rose}
 use Rattle.machine_runs.specs.Run.{Run, commands_in, lines_in}
 use Rattle.machine_runs.proofs.CallerLemmas.{Run-seen_as}
 use Rattle.cut_disk.specs.State.{DiskState, Entry}
@@ -28,15 +29,15 @@ use Rattle.bus_world.specs.Turns.{Brings}
 use Rattle.bus_world.specs.Worlds.{BusState}
 use Rattle.bus_world.specs.Starts.{start_calls, Opened, Started}
 use Rattle.bus_world.proofs.CallerLemmas.{no_disk}
-use Rattle.bus_world.specs.NodeDisks.{AreQuiet, mark_at, most_at, fails_at, fits_at, DisksFollow}
+use Rattle.bus_world.specs.NodeDisks.{mark_at, most_at, tells_failure, fails_at, fits_at, DisksFollow}
 use Rattle.bus_world.specs.WorldRuns.{OneListOfLines}
 use Rattle.bus_world.specs.WorldTurns.{TellFirm, StartsGoOnFirst, GoesOnFirst}
 use Rattle.endpoint_commands.specs.declared.rules.FrameRule.{FrameRule}
 use Rattle.endpoint_commands.specs.Running.{LineMoment}
-use Rattle.endpoint_commands.specs.Headline.{RanEndpoint, OneEndpointRun, without_source, boot_events, events_asked}
+use Rattle.endpoint_commands.specs.Headline.{RanEndpoint, DisksServe, OneEndpointRun, without_source, boot_events, events_asked}
 use Rattle.endpoint_commands.proofs.AloneRun.{AloneState, alone_world, AloneStep, IsOfEndpoint, is_send, is_inject, is_load, is_boot, with_source, HoldsAlone, alone_step, alone_holds, alone_disk, alone_tells}
 use Rattle.endpoint_commands.proofs.LineRun.{AloneMoment, seen, begun, EndpointAlone, endpoint_alone}
-use Rattle.endpoint_commands.proofs.QuietRun.{one_list_alone}
+use Rattle.endpoint_commands.proofs.QuietRun.{no_line_fails, no_line_failed, one_list_alone}
 
 -- the laws of the crates below, as their public functions ensure them
 pub record Laws : Type 0 where
@@ -220,18 +221,28 @@ module _ (laws : Laws) (bus : NamedBus) (rules : List FrameRule) (image : Option
         → TracedSince (mark_at k) (most_at k) (fits_at l k) (alone_world (begun ran.start)) (seen ms) (get_or before k d) all) (traced_first d all) i inside tells;
   }
 
-  -- ---- over a quiet disk
+  -- ---- over a disk that serves
 
-  quiet_start : AreQuiet bus before → IsQuiet ran.start.store.disk
-  quiet_start quiet =
-      let was : IsQuiet (get_or before 0 no_disk) = quiet 0 no_disk (omega (arith, ran.one)) in
-      still_quiet (get_or before 0 no_disk) ran.start.store.disk was ((opened_disk no_disk).runs.quiet refl was)
+  quiet_start : IsQuiet (get_or before 0 no_disk) → IsQuiet ran.start.store.disk
+  quiet_start was = still_quiet (get_or before 0 no_disk) ran.start.store.disk was ((opened_disk no_disk).runs.quiet refl was)
 
-  one_list : AreQuiet bus before
+  -- the counts of a run are those of its disk
+  not_risen : (¬ Rose (get_or before 0 no_disk).faults (get_or after 0 no_disk).faults) → ¬ Rose ran.start.store.disk.faults alone.last.node.store.disk.faults
+  not_risen calm = λ rose. calm
+      (subst (λ (n : ℕ). Rose n (get_or after 0 no_disk).faults) (opened_disk no_disk).faults
+      (subst (λ (disk : DiskState). Rose ran.start.store.disk.faults disk.faults) (sym (disk_back no_disk)) rose))
+
+  unfailed : DisksServe bus before after → All (λ (m : Instant). tells_failure m.line ≡ false) (seen ms)
+  unfailed serves = elim (serves 0 no_disk (omega (arith, ran.one))) [
+    | inl calm ↦ no_line_failed (begun ran.start) ms alone.last (not_risen calm) alone.run
+    | inr quiet ↦ no_line_fails (begun ran.start) ms alone.last (quiet_start quiet) alone.run
+  ]
+
+  one_list : DisksServe bus before after
       → OneListOfLines (alone_world (begun ran.start)) (boot_events image ++ events_asked rules (commands_in lines)) (lines_in (seen ms))
-  one_list quiet =
+  one_list serves =
       subst (λ (es : List Event). OneListOfLines (alone_world (begun ran.start)) es (lines_in (seen ms))) (seen_commands ms ∙ alone.commands)
-      (one_list_alone laws.determine (begun ran.start) ms alone.last first.is_first.is_first (quiet_start quiet) alone.run run)
+      (one_list_alone laws.determine (begun ran.start) ms alone.last first.is_first.is_first (unfailed serves) alone.run run)
 
   pub one_run : OneEndpointRun bus rules image before after told lines
   one_run =

@@ -12,6 +12,7 @@ use Rattle.program_edge.specs.Rows.{row_of}
 use Rattle.program_edge.specs.Inputs.{Reading}
 use Rattle.secoc_node.specs.State.{NodeState}
 use Rattle.trace_audit.specs.Pieces.{in_64_bits}
+use Rattle.watch_maps.specs.LogRuns.{Writing, WatchEnding}
 use Rattle.endpoint_commands.specs.declared.rules.FrameRule.{FrameRule}
 use Rattle.endpoint_commands.specs.declared.endpoint.EndpointStop.{EndpointStop}
 use Rattle.endpoint_commands.specs.declared.endpoint.EndpointStop.TheVariants.{SinkFailed, DiskFailed}
@@ -56,24 +57,29 @@ stops_at rules opening moments last first before after some whole DiskFailed sta
 
 -- ---- before the log
 
-pub AnswersSoFar-none : (log : SourceState) (start sink : SinkState) (opening : List ℕ) (endpoint : EndpointState) → LogBehind endpoint endpoint.node [] [] → AppendedWell start sink opening
-    → AnswersSoFar (record { log = record { before = log; after = log }; before = start; after = sink }) opening endpoint endpoint.node [] []
-AnswersSoFar-none log start sink opening endpoint b prints = record {
+pub AnswersSoFar-none : (log : SourceState) (start sink told : SinkState) (opening : List ℕ) (endpoint : EndpointState) → LogBehind endpoint endpoint.node [] [] → AppendedWell start sink opening
+    → AnswersSoFar (record { log = record { before = log; after = log }; output = record { before = start; after = sink }; errors = record { before = told; after = told } }) opening endpoint endpoint.node [] []
+AnswersSoFar-none log start sink told opening endpoint b prints = record {
   came = Came-nothing log;
   calm = refl;
   behind = b;
   prints = subst (AppendedWell start sink) (sym (append-nil opening)) prints;
+  untold = refl;
 }
 
 -- ---- a turn
 
-module _ (first log later : SourceState) (start sink next : SinkState) (opening : List ℕ) (old new : EndpointState) (node : NodeState) (bytes : List ℕ) (moments : List LineMoment)
-    (same : new.rules ≡ old.rules) (so_far : AnswersSoFar (record { log = record { before = first; after = log }; before = start; after = sink }) opening old node bytes moments) where
+module _ (first log later : SourceState) (start sink next : SinkState) (errors : Writing) (opening : List ℕ) (old new : EndpointState) (node : NodeState) (bytes : List ℕ) (moments : List LineMoment)
+    (same : new.rules ≡ old.rules) (so_far : AnswersSoFar (record { log = record { before = first; after = log }; output = record { before = start; after = sink }; errors = errors }) opening old node bytes moments) where
   abbrev reading : Reading
   reading = record { before = first; after = later }
 
   abbrev ports : LogPorts
-  ports = record { log = reading; before = start; after = next }
+  ports = record { log = reading; output = record { before = start; after = next }; errors = errors }
+
+  -- an ending with this status, of which nothing was told on standard error
+  abbrev ended : ℕ → WatchEnding
+  ended status = record { output = record { before = start; after = next }; errors = errors; status = status }
 
   -- a piece came and was taken
   pub AnswersSoFar-more : (piece : List ℕ) → Came log later piece → later.faults ≡ log.faults → (goes : LogGoesOn old sink piece new next node bytes moments)
@@ -85,11 +91,12 @@ module _ (first log later : SourceState) (start sink next : SinkState) (opening 
     prints = subst (AppendedWell start next)
         (answers_more old.rules opening moments goes.more ∙ ap (λ (rules : List FrameRule). opening ++ answers_behind rules 0 (moments ++ goes.more)) (sym same))
         (AppendedWell-more start sink next (opening ++ answers_behind old.rules 0 moments) (answers_behind old.rules (length moments) goes.more) so_far.prints goes.prints);
+    untold = so_far.untold;
   }
 
   -- a piece came, and it stopped at one of its lines
   stopped_in : (piece : List ℕ) (stop : EndpointStop) (status : ℕ) → IsStop stop status → Came log later piece → later.faults ≡ log.faults → (s : StopsBehind old.rules node (bytes ++ piece) moments new.node sink next stop)
-      → EndsLines old.rules node opening reading (record { before = start; after = next; status = status }) new.node ((moments ++ s.more) ++ s.last ∷ [])
+      → EndsLines old.rules node opening reading (ended status) new.node ((moments ++ s.more) ++ s.last ∷ [])
   stopped_in piece stop status is came calm s =
       let before : List LineMoment = moments ++ s.more in
       let number : length moments + length s.more + 1 ≡ length before + 1 = omega (arith, length-append moments s.more) in
@@ -104,12 +111,13 @@ module _ (first log later : SourceState) (start sink next : SinkState) (opening 
       (stops_at old.rules opening before s.last start sink next (opening ++ answers_behind old.rules 0 moments) (answers_behind old.rules (length moments) s.more) stop status is so_far.prints
       (answers_more old.rules opening moments s.more)
       (subst (λ (n : ℕ). StopsWith stop sink next (answers_behind old.rules (length moments) s.more) (line_answer old.rules (in_64_bits n) s.last.command s.last.line) s.last.line) number s.stops))
+      so_far.untold
 
   pub Ends-stopped : (piece : List ℕ) (stop : EndpointStop) (status : ℕ) → IsStop stop status → Came log later piece → later.faults ≡ log.faults → StopsBehind old.rules node (bytes ++ piece) moments new.node sink next stop
       → EndsOverPorts ports opening new node status
   Ends-stopped piece stop status is came calm s = (
     (moments ++ s.more) ++ s.last ∷ [],
-    subst (λ (rules : List FrameRule). EndsLines rules node opening reading (record { before = start; after = next; status = status }) new.node ((moments ++ s.more) ++ s.last ∷ [])) (sym same)
+    subst (λ (rules : List FrameRule). EndsLines rules node opening reading (ended status) new.node ((moments ++ s.more) ++ s.last ∷ [])) (sym same)
         (stopped_in piece stop status is came calm s),
   )
 
@@ -132,21 +140,21 @@ module _ (first log later : SourceState) (start sink next : SinkState) (opening 
       → EndsOverPorts ports opening new node status
   Ends-done room left status hands some f = (
     moments ++ f.last ∷ [],
-    subst (λ (rules : List FrameRule). EndsLines rules node opening reading (record { before = start; after = next; status = status }) new.node (moments ++ f.last ∷ [])) (sym same)
+    subst (λ (rules : List FrameRule). EndsLines rules node opening reading (ended status) new.node (moments ++ f.last ∷ [])) (sym same)
         (done moments f.last (record { bytes = bytes; reads = all_read room left hands some; lines = f.all; run = f.run }) f.unfailed
         (told_behind start sink next (opening ++ answers_behind old.rules 0 moments)
-        (answer_behind old.rules (length moments) f.last ++ closing_text old.rules (moments ++ f.last ∷ [])) 0 status so_far.prints f.told)),
+        (answer_behind old.rules (length moments) f.last ++ closing_text old.rules (moments ++ f.last ∷ [])) 0 status so_far.prints f.told) so_far.untold),
   )
 
   pub Ends-stopped_last : (room left : List ℕ) (stop : EndpointStop) (status : ℕ) → IsStop stop status → HandsOut log later room left 0 → 0 < length room
       → LineEnded old sink new next (Err stop) node bytes moments
       → EndsOverPorts ports opening new node status
-  Ends-stopped_last room left stop status is hands some ended = (
-    moments ++ ended.last ∷ [],
-    subst (λ (rules : List FrameRule). EndsLines rules node opening reading (record { before = start; after = next; status = status }) new.node (moments ++ ended.last ∷ [])) (sym same)
-        (stopped_last moments ended.last (record { bytes = bytes; reads = all_read room left hands some; lines = ended.cut; run = ended.run }) so_far.behind.unfailed
-        (stops_at old.rules opening moments ended.last start sink next (opening ++ answers_behind old.rules 0 moments) [] stop status is so_far.prints
-        (append-nil (opening ++ answers_behind old.rules 0 moments)) ended.ends)),
+  Ends-stopped_last room left stop status is hands some at_end = (
+    moments ++ at_end.last ∷ [],
+    subst (λ (rules : List FrameRule). EndsLines rules node opening reading (ended status) new.node (moments ++ at_end.last ∷ [])) (sym same)
+        (stopped_last moments at_end.last (record { bytes = bytes; reads = all_read room left hands some; lines = at_end.cut; run = at_end.run }) so_far.behind.unfailed
+        (stops_at old.rules opening moments at_end.last start sink next (opening ++ answers_behind old.rules 0 moments) [] stop status is so_far.prints
+        (append-nil (opening ++ answers_behind old.rules 0 moments)) at_end.ends) so_far.untold),
   )
 
   -- the same, with the status of a run that ended so
@@ -162,24 +170,25 @@ abbrev lines_read : (log : Reading) (opening : List ℕ) (endpoint : EndpointSta
     → LinesRead endpoint.rules node log moments endpoint.node
 lines_read log opening endpoint node bytes moments came b = record { bytes = bytes; rest = b.rest; came = came; lines = b.cut; run = b.run }
 
-pub Ends-failed : (first log later : SourceState) (start sink next : SinkState) (opening : List ℕ) (endpoint : EndpointState) (node : NodeState) (bytes : List ℕ) (moments : List LineMoment)
-    (room left : List ℕ) (status : ℕ) → AnswersSoFar (record { log = record { before = first; after = log }; before = start; after = sink }) opening endpoint node bytes moments
-    → ReadFails log later room left → EndingTold sink next (codes "read fault\n") 5 status
-    → EndsOverPorts (record { log = record { before = first; after = later }; before = start; after = next }) opening endpoint node status
-Ends-failed first log later start sink next opening endpoint node bytes moments room left status so_far fails told = (
+pub Ends-failed : (first log later : SourceState) (start sink told next : SinkState) (opening : List ℕ) (endpoint : EndpointState) (node : NodeState) (bytes : List ℕ) (moments : List LineMoment)
+    (room left : List ℕ) (before : SinkState) (status : ℕ)
+    → AnswersSoFar (record { log = record { before = first; after = log }; output = record { before = start; after = sink }; errors = record { before = before; after = told } }) opening endpoint node bytes moments
+    → ReadFails log later room left → EndingTold told next (codes "read fault\n") 5 status
+    → EndsOverPorts (record { log = record { before = first; after = later }; output = record { before = start; after = sink }; errors = record { before = before; after = next } }) opening endpoint node status
+Ends-failed first log later start sink told next opening endpoint node bytes moments room left before status so_far fails tells = (
   moments,
   failed moments
       (lines_read (record { before = first; after = later }) opening endpoint node bytes moments (subst (Came first later) (append-nil bytes) (Came-more so_far.came fails.nothing)) so_far.behind)
       so_far.behind.unfailed (rose_after first.faults log.faults later.faults so_far.came.later fails.rose)
-      (told_behind start sink next (opening ++ answers_behind endpoint.rules 0 moments) (codes "read fault\n") 5 status so_far.prints told),
+      (so_far.prints, subst (λ (s : SinkState). EndingTold s next (codes "read fault\n") 5 status) so_far.untold tells),
 )
 
-pub Ends-too_long : (first log : SourceState) (start sink next : SinkState) (opening : List ℕ) (endpoint : EndpointState) (node : NodeState) (bytes : List ℕ) (moments : List LineMoment) (status : ℕ)
-    → AnswersSoFar (record { log = record { before = first; after = log }; before = start; after = sink }) opening endpoint node bytes moments → 18446744073709551615 ≤ length bytes
-    → EndingTold sink next (codes "input too long\n") 8 status
-    → EndsOverPorts (record { log = record { before = first; after = log }; before = start; after = next }) opening endpoint node status
-Ends-too_long first log start sink next opening endpoint node bytes moments status so_far long told = (
+pub Ends-too_long : (first log : SourceState) (start sink told next : SinkState) (opening : List ℕ) (endpoint : EndpointState) (node : NodeState) (bytes : List ℕ) (moments : List LineMoment) (before : SinkState) (status : ℕ)
+    → AnswersSoFar (record { log = record { before = first; after = log }; output = record { before = start; after = sink }; errors = record { before = before; after = told } }) opening endpoint node bytes moments
+    → 18446744073709551615 ≤ length bytes → EndingTold told next (codes "input too long\n") 8 status
+    → EndsOverPorts (record { log = record { before = first; after = log }; output = record { before = start; after = sink }; errors = record { before = before; after = next } }) opening endpoint node status
+Ends-too_long first log start sink told next opening endpoint node bytes moments before status so_far long tells = (
   moments,
   too_long moments (lines_read (record { before = first; after = log }) opening endpoint node bytes moments so_far.came so_far.behind) so_far.behind.unfailed so_far.calm (omega (arith, long))
-      (told_behind start sink next (opening ++ answers_behind endpoint.rules 0 moments) (codes "input too long\n") 8 status so_far.prints told),
+      (so_far.prints, subst (λ (s : SinkState). EndingTold s next (codes "input too long\n") 8 status) so_far.untold tells),
 )

@@ -1,13 +1,15 @@
 -- What a run promises that ends in a row before the log, or took lines of it
 use Rattle.std.specs.Prelude.{◌≡◌, ◌≢◌, ◌⊎◌, ◌<◌, ◌≤◌, ℕ, ◌==◌, false, Option, List, length, codes}
-use Rattle.std.proofs.Common.{refl, sym, ◌∙◌, subst, arith, inl, inr}
+use Rattle.std.proofs.Common.{refl, sym, ap, ◌∙◌, subst, arith, inl, inr}
 use Rattle.bus_port.specs.Fault.{last_count}
+use Rattle.bus_port.specs.Sink.{SinkState}
 use Rattle.text_lines.specs.Readings.{Fault}
 use Rattle.text_lines.specs.Texts.{fault_text_of}
 use Rattle.program_edge.specs.Rows.{Row}
 use Rattle.program_edge.specs.Inputs.{IsUnread, SourceFailed, CountsFault, CountsTooMuch}
-use Rattle.program_edge.specs.Endings.{Ending, EndsIn, EndsInRow, PrintsWhole, SinkFailed, CountsWriteFault}
+use Rattle.program_edge.specs.Endings.{EndsIn, EndsInRow, SinkFailed, CountsWriteFault}
 use Rattle.program_edge.proofs.CallerLemmas.{EndsInRow-more, EndsInRow-at, EndsInRow-front, EndsInRow-rose, EndsInRow-well, EndsInRow-only, EndsInRow-may}
+use Rattle.watch_maps.specs.LogRuns.{IsUnwritten, WatchEnding, on_output, on_errors}
 use Rattle.bus_config.specs.Buses.{NamedBus}
 use Rattle.bus_world.specs.declared.start.Start.TheVariants.{Attach}
 use Rattle.bus_world.specs.Starts.{HasRoom, FindsRoom}
@@ -16,10 +18,10 @@ use Rattle.bus_world.specs.StartRows.{start_row, StoreCause, LeavesEach}
 use Rattle.bus_world.specs.StartAnswers.{DiskStates, CountsDiskFault, BusHasDisks}
 use Rattle.bus_world.proofs.CallerLemmas.{no_disk, no_line}
 use Rattle.endpoint_commands.specs.declared.rules.FrameRule.{FrameRule}
-use Rattle.endpoint_commands.specs.Rows.{EndpointInputs, OverEndpoint, SetsEndpoint, HasMapFault, OffersEndpoint}
+use Rattle.endpoint_commands.specs.Rows.{EndpointInputs, OverEndpoint, SetsEndpoint, HasMapFault, ComesBeforeLog, OffersEndpoint}
 use Rattle.endpoint_commands.specs.Logs.{Unfailed}
-use Rattle.endpoint_commands.specs.Promises.{opening_of, DidEndpoint, DoesEndpoint, not_started, did, ComesUnlogged, unstarted, EndsEndpoint}
-use Rattle.endpoint_commands.specs.Table.{AnswersWholeLog, AnswersComplete, LogFailsFirst, StopsAtDisk, FirstDiskFailed, HoldsNoStore, TellsEndpointUsage, TellsRefused, by_fault, by_nodes, by_image}
+use Rattle.endpoint_commands.specs.Promises.{opening_of, DidEndpoint, DoesEndpoint, not_started, did, ComesUnlogged, of_inputs, unstarted, EndsEndpoint}
+use Rattle.endpoint_commands.specs.Table.{AnswersWholeLog, AnswersComplete, LogFailsFirst, StopsAtDisk, FirstDiskFailed, HoldsNoStore, TellsText, TellsEndpointUsage, TellsRefused, by_fault, by_nodes, by_image}
 use Rattle.endpoint_commands.specs.Table.{RefusesEndpoint, TellsEndpointPorts, TellsEndpointDisk, RunsEndpoint}
 use Rattle.endpoint_commands.proofs.RowTells.{pick, Tells3, Tells4, Tells9, Tells10, unlogged, tells_at, row_range, row_failure}
 use Rattle.endpoint_commands.proofs.LogTells.{TellsFirst, LogTells, booted_tells}
@@ -28,10 +30,10 @@ use Rattle.endpoint_commands.proofs.Causes.{sets_calm, faults_5, too_much_8, onl
 
 -- ---- a run that ends in a row
 
-module _ (same : Type 0) (i : EndpointInputs) (d : DiskStates) (e : Ending) (ends : EndsInRow (ComesUnlogged same i d) e) where
+module _ (same : Type 0) (i : EndpointInputs) (d : DiskStates) (e : WatchEnding) (ends : EndsInRow (ComesUnlogged same i d) (on_errors e)) (unwritten : IsUnwritten e.output) where
   -- the status isn't 6, and a row that comes tells this of it
-  at : (n : ℕ) → (n == 6) ≡ false → {A : Type 0} → ((row : Row) → ComesUnlogged same i d row → row.status ≡ n → PrintsWhole e row.text → A) → e.status ≡ n → A
-  at n other each is = EndsInRow-at ends n other each is
+  at : (n : ℕ) → (n == 6) ≡ false → {A : Type 0} → ((row : Row) → ComesUnlogged same i d row → row.status ≡ n → TellsText e row.text → A) → e.status ≡ n → A
+  at n other each is = EndsInRow-at ends n other (λ row comes told printed. each row comes told (unwritten, printed)) is
 
   status_6 : (row : Row) → ComesUnlogged same i d row → row.status ≢ 6
   status_6 row comes = λ is. tells_at same i d 6 row comes is
@@ -39,15 +41,15 @@ module _ (same : Type 0) (i : EndpointInputs) (d : DiskStates) (e : Ending) (end
   row_usage : e.status ≡ 2 → TellsEndpointUsage i e
   row_usage = at 2 refl (λ row comes is printed.
       let (text, other, unread, before) = tells_at same i d 2 row comes is in
-      (other, unread, subst (PrintsWhole e) text printed))
+      (other, unread, subst (TellsText e) text printed))
 
-  told_3 : (row : Row) → Tells3 same i d row → PrintsWhole e row.text → TellsRefused i e
+  told_3 : (row : Row) → Tells3 same i d row → TellsText e row.text → TellsRefused i e
   told_3 row (inl (fault, has, text), before) printed = by_fault fault row.text has text printed
-  told_3 row (inr (inl (has, text)), before) printed = by_nodes has (subst (PrintsWhole e) text printed)
-  told_3 row (inr (inr (has, text)), before) printed = by_image has (subst (PrintsWhole e) text printed)
+  told_3 row (inr (inl (has, text)), before) printed = by_nodes has (subst (TellsText e) text printed)
+  told_3 row (inr (inr (has, text)), before) printed = by_image has (subst (TellsText e) text printed)
 
-  told_4 : (row : Row) → Tells4 same i d row → PrintsWhole e row.text → (fault : Fault) × HasMapFault i fault × PrintsWhole e (fault_text_of fault)
-  told_4 row ((fault, has, text), before) printed = (fault, has, subst (PrintsWhole e) text printed)
+  told_4 : (row : Row) → Tells4 same i d row → TellsText e row.text → (fault : Fault) × HasMapFault i fault × TellsText e (fault_text_of fault)
+  told_4 row ((fault, has, text), before) printed = (fault, has, subst (TellsText e) text printed)
 
   row_inputs : RefusesEndpoint i e
   row_inputs = record {
@@ -61,21 +63,25 @@ module _ (same : Type 0) (i : EndpointInputs) (d : DiskStates) (e : Ending) (end
     map_refused_only = λ bus text fault offered offers err. EndsInRow-may ends 4 (map_only i bus offered text fault offers err same d);
   }
 
+  row_rose : CountsWriteFault (on_output e) ⊎ CountsWriteFault (on_errors e) → e.status ≡ 6
+  row_rose (inl output) = absurd (let no : ⊥ = omega (arith, ap (λ (s : SinkState). s.faults) unwritten, output) in no)
+  row_rose (inr errors) = EndsInRow-rose ends errors
+
   row_ports : TellsEndpointPorts same i d e
   row_ports = record {
     read_fault = at 5 refl (λ row comes is printed.
         let (lacks, text) = tells_at same i d 5 row comes is in
-        inl (lacks, subst (PrintsWhole e) text printed));
+        inl (lacks, subst (TellsText e) text printed));
     read_fault_only = λ counts. EndsInRow-only ends 5 (λ row comes. faults_5 i same d row comes counts);
-    write_fault = λ six. let (fails, front) = EndsInRow-front ends status_6 six in (fails, inl front);
-    write_fault_only = EndsInRow-rose ends;
+    write_fault = λ six. let (fails, front) = EndsInRow-front ends status_6 six in inl (fails, unwritten, front);
+    write_fault_only = row_rose;
     log_fails_first = λ six rose. absurd (let no : ⊥ = omega (arith, unlogged same i d ends.row ends.comes, rose) in no);
     no_memory = at 7 refl (λ row comes is printed.
         let (memory, unread) = tells_at same i d 7 row comes is in
-        (subst (ComesUnlogged same i d) memory comes, unread, subst (λ (r : Row). PrintsWhole e r.text) memory printed));
+        (subst (ComesUnlogged same i d) memory comes, unread, subst (λ (r : Row). TellsText e r.text) memory printed));
     too_long = at 8 refl (λ row comes is printed.
         let (lacks, text) = tells_at same i d 8 row comes is in
-        inl (lacks, subst (PrintsWhole e) text printed));
+        inl (lacks, subst (TellsText e) text printed));
     too_long_only = λ counts. EndsInRow-only ends 8 (λ row comes. too_much_8 i same d row comes counts);
   }
 
@@ -85,15 +91,15 @@ module _ (same : Type 0) (i : EndpointInputs) (d : DiskStates) (e : Ending) (end
   row_unused (inr (inr (inl four))) = at 4 refl (λ row comes is printed. (tells_at same i d 4 row comes is).1) four
   row_unused (inr (inr (inr nine))) = at 9 refl (λ row comes is printed. (tells_at same i d 9 row comes is).2) nine
 
-  told_9 : (row : Row) → Tells9 same i d row → PrintsWhole e row.text → IsUnread i.log × OverEndpoint i (λ bus rules image.
-      (fault : StartFault) × FindsRoom bus d.before fault × (d.after ≡ d.before) × PrintsWhole e (start_row fault).text)
+  told_9 : (row : Row) → Tells9 same i d row → TellsText e row.text → IsUnread i.log × OverEndpoint i (λ bus rules image.
+      (fault : StartFault) × FindsRoom bus d.before fault × (d.after ≡ d.before) × TellsText e (start_row fault).text)
   told_9 row (log, (bus, rules, image, sets, (fault, finds, left, text)), before) printed =
-      (log, (bus, rules, image, sets, (fault, finds, left, subst (PrintsWhole e) text printed)))
+      (log, (bus, rules, image, sets, (fault, finds, left, subst (TellsText e) text printed)))
 
-  told_10 : (row : Row) → Tells10 same i d row → PrintsWhole e row.text → IsUnread i.log × OverEndpoint i (λ bus rules image.
-      (fault : StartFault) × HasRoom bus d.before × StoreCause Attach bus d.before d.after fault × LeavesEach Attach bus d.before d.after × PrintsWhole e (start_row fault).text)
+  told_10 : (row : Row) → Tells10 same i d row → TellsText e row.text → IsUnread i.log × OverEndpoint i (λ bus rules image.
+      (fault : StartFault) × HasRoom bus d.before × StoreCause Attach bus d.before d.after fault × LeavesEach Attach bus d.before d.after × TellsText e (start_row fault).text)
   told_10 row (log, (bus, rules, image, sets, (fault, room, cause, leaves, text))) printed =
-      (log, (bus, rules, image, sets, (fault, room, cause, leaves, subst (PrintsWhole e) text printed)))
+      (log, (bus, rules, image, sets, (fault, room, cause, leaves, subst (TellsText e) text printed)))
 
   row_disk : (same → d.after ≡ d.before) → TellsEndpointDisk same i d e
   row_disk kept = record {
@@ -103,7 +109,7 @@ module _ (same : Type 0) (i : EndpointInputs) (d : DiskStates) (e : Ending) (end
     store_refused = at 10 refl (λ row comes is printed. told_10 row (tells_at same i d 10 row comes is) printed);
     store_refused_only = λ bus rules image offered room none. EndsInRow-may ends 10 (store_only i bus rules image offered same d room);
     disk_failed = at 11 refl (λ row comes is printed. absurd (tells_at same i d 11 row comes is));
-    disk_failed_only = λ rose. inl (record { row = ends.row; comes = row_failure same i d kept ends.row ends.comes rose; told = ends.told });
+    disk_failed_only = λ rose. inl (record { row = ends.row; comes = row_failure same i d kept ends.row ends.comes rose; told = ends.told }, unwritten);
   }
 
   row_statuses : (e.status ≡ 0) ⊎ ((2 ≤ e.status) × (e.status ≤ 11))
@@ -114,10 +120,10 @@ module _ (same : Type 0) (i : EndpointInputs) (d : DiskStates) (e : Ending) (end
 
   pub ended_in_row : (same → d.after ≡ d.before) → RunsEndpoint same i d e
   ended_in_row kept = record {
-    ends = inl ends;
+    ends = inl (ends, unwritten);
     statuses = row_statuses;
     answered = at 0 refl (λ row comes is printed. absurd (tells_at same i d 0 row comes is));
-    complete = λ bus rules image offered able log few well.
+    complete = λ bus rules image offered able log few output well.
         let (row, comes, status_is, prints) = EndsInRow-well ends well in
         inr (status_is ∙ valid_7 i bus rules image offered same d able row comes);
     inputs = row_inputs;
@@ -127,7 +133,7 @@ module _ (same : Type 0) (i : EndpointInputs) (d : DiskStates) (e : Ending) (end
 
 -- ---- a run that took lines of the log
 
-module _ (same : Type 0) (i : EndpointInputs) (d : DiskStates) (e : Ending) (bus : NamedBus) (rules : List FrameRule) (image : Option (List ℕ)) (sets : SetsEndpoint i bus rules image)
+module _ (same : Type 0) (i : EndpointInputs) (d : DiskStates) (e : WatchEnding) (bus : NamedBus) (rules : List FrameRule) (image : Option (List ℕ)) (sets : SetsEndpoint i bus rules image)
     (x : DidEndpoint bus rules image i.log d e) where
   tells : LogTells rules x.ran.booted (opening_of x.told) i.log e x.ran.now x.lines
   tells = booted_tells rules x.ran.booted (opening_of x.told) i.log e x.ran.now x.lines x.ends
@@ -138,21 +144,22 @@ module _ (same : Type 0) (i : EndpointInputs) (d : DiskStates) (e : Ending) (bus
       (pick (n == 5) (SourceFailed i.log × AnswersComplete bus rules image i.log d e (codes "read fault\n"))
       (pick (n == 8) ((answers : AnswersComplete bus rules image i.log d e (codes "input too long\n")) × (last_count ≤ length answers.read.bytes))
       (pick (n == 11) (FirstDiskFailed d × StopsAtDisk bus rules image i.log d e)
-      (pick (n == 6) (SinkFailed e × (CountsFault i.log → LogFailsFirst bus rules image i.log d e)) ⊥))))
+      (pick (n == 6) ((SinkFailed (on_output e) ⊎ SinkFailed (on_errors e)) × (CountsFault i.log → LogFailsFirst bus rules image i.log d e)) ⊥))))
 
   fails_first : (i.log.after.faults ≡ i.log.before.faults) ⊎ TellsFirst rules x.ran.booted (opening_of x.told) i.log e x.ran.now x.lines → CountsFault i.log
       → LogFailsFirst bus rules image i.log d e
   fails_first (inl calm) rose = absurd (let no : ⊥ = omega (arith, calm, rose) in no)
-  fails_first (inr (read, n, less, part)) rose = record { did = x; read = read; size = n; proper = less; prints = part }
+  fails_first (inr (read, prints, part)) rose = record { did = x; read = read; prints = prints; tells = part }
 
   log_at : LogAt e.status
   log_at = elim tells [
-    | inl (is, (read, unfailed, prints)) ↦ subst LogAt (sym is) (record { did = x; read = read; unfailed = unfailed; prints = prints })
-    | inr (inl (is, (fails, read, unfailed, prints))) ↦ subst LogAt (sym is) (fails, record { did = x; read = read; unfailed = unfailed; prints = prints })
-    | inr (inr (inl (is, (calm, read, long, unfailed, prints)))) ↦ subst LogAt (sym is) (record { did = x; read = read; unfailed = unfailed; prints = prints }, long)
-    | inr (inr (inr (inl (is, (earlier, last, lines, unfailed, fails, calm, prints))))) ↦ subst LogAt (sym is) (
+    | inl (is, (read, unfailed, prints, untold)) ↦ subst LogAt (sym is) (record { did = x; read = read; unfailed = unfailed; prints = prints; untold = untold })
+    | inr (inl (is, (fails, read, unfailed, prints, told))) ↦ subst LogAt (sym is) (fails, record { did = x; read = read; unfailed = unfailed; prints = prints; tells = told })
+    | inr (inr (inl (is, (calm, read, long, unfailed, prints, told)))) ↦
+        subst LogAt (sym is) (record { did = x; read = read; unfailed = unfailed; prints = prints; tells = told }, long)
+    | inr (inr (inr (inl (is, (earlier, last, lines, unfailed, fails, calm, prints, untold))))) ↦ subst LogAt (sym is) (
       ran_rose bus rules image d x.told x.lines x.ran earlier last lines fails,
-      record { did = x; earlier = earlier; last = last; lines_are = lines; unfailed = unfailed; tells = fails; calm = calm; prints = prints },
+      record { did = x; earlier = earlier; last = last; lines_are = lines; unfailed = unfailed; tells = fails; calm = calm; prints = prints; untold = untold },
     )
     | inr (inr (inr (inr (is, (fails, first))))) ↦ subst LogAt (sym is) (fails, fails_first first)
   ]
@@ -169,31 +176,40 @@ module _ (same : Type 0) (i : EndpointInputs) (d : DiskStates) (e : Ending) (bus
     | inr (inr (inr (inr sink))) ↦ inr (omega (arith, sink.0), omega (arith, sink.0))
   ]
 
-  did_writes : CountsWriteFault e → e.status ≡ 6
+  -- neither count of a sink rose
+  both_calm : e.output.after.faults ≡ e.output.before.faults → e.errors.after.faults ≡ e.errors.before.faults
+      → CountsWriteFault (on_output e) ⊎ CountsWriteFault (on_errors e) → ⊥
+  both_calm output errors (inl rose) = omega (arith, output, rose)
+  both_calm output errors (inr rose) = omega (arith, errors, rose)
+
+  silent : IsUnwritten e.errors → e.errors.after.faults ≡ e.errors.before.faults
+  silent untold = ap (λ (s : SinkState). s.faults) untold
+
+  did_writes : CountsWriteFault (on_output e) ⊎ CountsWriteFault (on_errors e) → e.status ≡ 6
   did_writes rose = elim tells [
-    | inl (is, (read, unfailed, prints)) ↦ absurd (let no : ⊥ = omega (arith, prints.0, rose) in no)
-    | inr (inl (is, (fails, read, unfailed, prints))) ↦ absurd (let no : ⊥ = omega (arith, prints.0, rose) in no)
-    | inr (inr (inl (is, (calm, read, long, unfailed, prints)))) ↦ absurd (let no : ⊥ = omega (arith, prints.0, rose) in no)
-    | inr (inr (inr (inl (is, (earlier, last, lines, unfailed, fails, calm, prints))))) ↦ absurd (let no : ⊥ = omega (arith, prints.0, rose) in no)
+    | inl (is, (read, unfailed, prints, untold)) ↦ absurd (both_calm prints.0 (silent untold) rose)
+    | inr (inl (is, (fails, read, unfailed, prints, told))) ↦ absurd (both_calm prints.0 told.0 rose)
+    | inr (inr (inl (is, (calm, read, long, unfailed, prints, told)))) ↦ absurd (both_calm prints.0 told.0 rose)
+    | inr (inr (inr (inl (is, (earlier, last, lines, unfailed, fails, calm, prints, untold))))) ↦ absurd (both_calm prints.0 (silent untold) rose)
     | inr (inr (inr (inr sink))) ↦ sink.0
   ]
 
-  log_faults : CountsFault i.log → EndsIn 5 e
+  log_faults : CountsFault i.log → EndsIn 5 (on_errors e)
   log_faults rose = elim tells [
-    | inl (is, (read, unfailed, prints)) ↦ absurd (let no : ⊥ = omega (arith, read.reads.no_fault, rose) in no)
+    | inl (is, (read, unfailed, prints, untold)) ↦ absurd (let no : ⊥ = omega (arith, read.reads.no_fault, rose) in no)
     | inr (inl failed) ↦ inl failed.0
-    | inr (inr (inl (is, (calm, read, long, unfailed, prints)))) ↦ absurd (let no : ⊥ = omega (arith, calm, rose) in no)
-    | inr (inr (inr (inl (is, (earlier, last, lines, unfailed, fails, calm, prints))))) ↦ absurd (let no : ⊥ = omega (arith, calm, rose) in no)
+    | inr (inr (inl (is, (calm, read, long, unfailed, prints, told)))) ↦ absurd (let no : ⊥ = omega (arith, calm, rose) in no)
+    | inr (inr (inr (inl (is, (earlier, last, lines, unfailed, fails, calm, prints, untold))))) ↦ absurd (let no : ⊥ = omega (arith, calm, rose) in no)
     | inr (inr (inr (inr sink))) ↦ inr sink.0
   ]
 
-  did_faults : CountsFault i.config ⊎ CountsFault i.map ⊎ CountsFault i.image ⊎ CountsFault i.log → EndsIn 5 e
+  did_faults : CountsFault i.config ⊎ CountsFault i.map ⊎ CountsFault i.image ⊎ CountsFault i.log → EndsIn 5 (on_errors e)
   did_faults (inl config) = absurd (let no : ⊥ = omega (arith, (sets_calm i bus rules image sets).0.0, config) in no)
   did_faults (inr (inl map)) = absurd (let no : ⊥ = omega (arith, (sets_calm i bus rules image sets).1.0, map) in no)
   did_faults (inr (inr (inl had))) = absurd (let no : ⊥ = omega (arith, (sets_calm i bus rules image sets).2.0, had) in no)
   did_faults (inr (inr (inr log))) = log_faults log
 
-  did_too_much : CountsTooMuch i.config ⊎ CountsTooMuch i.map ⊎ CountsTooMuch i.image → EndsIn 8 e
+  did_too_much : CountsTooMuch i.config ⊎ CountsTooMuch i.map ⊎ CountsTooMuch i.image → EndsIn 8 (on_errors e)
   did_too_much (inl config) = absurd (let no : ⊥ = omega (arith, (sets_calm i bus rules image sets).0.1 config.0, config.1) in no)
   did_too_much (inr (inl map)) = absurd (let no : ⊥ = omega (arith, (sets_calm i bus rules image sets).1.1 map.0, map.1) in no)
   did_too_much (inr (inr had)) = absurd (let no : ⊥ = omega (arith, (sets_calm i bus rules image sets).2.1 had.0, had.1) in no)
@@ -202,11 +218,11 @@ module _ (same : Type 0) (i : EndpointInputs) (d : DiskStates) (e : Ending) (bus
   unraised : Unfailed x.lines → CountsDiskFault d 0 → ⊥
   unraised unfailed rose = omega (arith, ran_calm bus rules image d x.told x.lines x.ran unfailed no_disk, rose no_disk)
 
-  did_raise : CountsDiskFault d 0 → EndsIn 11 e
+  did_raise : CountsDiskFault d 0 → EndsIn 11 (on_output e)
   did_raise rose = elim tells [
-    | inl (is, (read, unfailed, prints)) ↦ absurd (unraised unfailed rose)
-    | inr (inl (is, (fails, read, unfailed, prints))) ↦ absurd (unraised unfailed rose)
-    | inr (inr (inl (is, (calm, read, long, unfailed, prints)))) ↦ absurd (unraised unfailed rose)
+    | inl (is, (read, unfailed, prints, untold)) ↦ absurd (unraised unfailed rose)
+    | inr (inl (is, (fails, read, unfailed, prints, told))) ↦ absurd (unraised unfailed rose)
+    | inr (inr (inl (is, (calm, read, long, unfailed, prints, told)))) ↦ absurd (unraised unfailed rose)
     | inr (inr (inr (inl stopped))) ↦ inl stopped.0
     | inr (inr (inr (inr sink))) ↦ inr sink.0
   ]
@@ -218,14 +234,16 @@ module _ (same : Type 0) (i : EndpointInputs) (d : DiskStates) (e : Ending) (bus
     | inr calm ↦ calm (failed no_disk)
   ]
 
-  did_complete : ¬ FirstDiskFailed d → ¬ SourceFailed i.log → i.log.after.taken < last_count → ¬ SinkFailed e → (e.status ≡ 0) ⊎ (e.status ≡ 7)
-  did_complete disk log few well = elim tells [
+  did_complete : ¬ FirstDiskFailed d → ¬ SourceFailed i.log → i.log.after.taken < last_count → ¬ SinkFailed (on_output e) → ¬ SinkFailed (on_errors e)
+      → (e.status ≡ 0) ⊎ (e.status ≡ 7)
+  did_complete disk log few output errors = elim tells [
     | inl done ↦ inl done.0
-    | inr (inl (is, (fails, read, unfailed, prints))) ↦ absurd (log fails)
-    | inr (inr (inl (is, (calm, read, long, unfailed, prints)))) ↦ absurd (let no : ⊥ = omega (arith, read.came.counted, long, few) in no)
-    | inr (inr (inr (inl (is, (earlier, last, lines, unfailed, fails, calm, prints))))) ↦
+    | inr (inl (is, (fails, read, unfailed, prints, told))) ↦ absurd (log fails)
+    | inr (inr (inl (is, (calm, read, long, unfailed, prints, told)))) ↦ absurd (let no : ⊥ = omega (arith, read.came.counted, long, few) in no)
+    | inr (inr (inr (inl (is, (earlier, last, lines, unfailed, fails, calm, prints, untold))))) ↦
         absurd (disk (ran_rose bus rules image d x.told x.lines x.ran earlier last lines fails))
-    | inr (inr (inr (inr (is, (fails, first))))) ↦ absurd (well fails)
+    | inr (inr (inr (inr (is, (inl fails, first))))) ↦ absurd (output fails)
+    | inr (inr (inr (inr (is, (inr fails, first))))) ↦ absurd (errors fails)
   ]
 
   -- the node was started over the bytes of its disk
@@ -257,7 +275,7 @@ module _ (same : Type 0) (i : EndpointInputs) (d : DiskStates) (e : Ending) (bus
   did_ports = record {
     read_fault = λ is. let (fails, answers) = here 5 is in inr (fails, (bus, rules, image, sets, answers));
     read_fault_only = did_faults;
-    write_fault = λ is. let (fails, first) = here 6 is in (fails, inr (bus, rules, image, sets, x));
+    write_fault = λ is. let (fails, first) = here 6 is in inr (fails, (bus, rules, image, sets, x));
     write_fault_only = did_writes;
     log_fails_first = λ is rose. let (fails, first) = here 6 is in (bus, rules, image, sets, first rose);
     no_memory = λ is. absurd (here 7 is);
@@ -286,19 +304,23 @@ module _ (same : Type 0) (i : EndpointInputs) (d : DiskStates) (e : Ending) (bus
     ends = inr (bus, rules, image, sets, x);
     statuses = did_statuses;
     answered = λ is. (bus, rules, image, sets, here 0 is);
-    complete = λ other some had offered able log few well. did_complete (disk_serves other some had offered able) log few well;
+    complete = λ other some had offered able log few output errors. did_complete (disk_serves other some had offered able) log few output errors;
     inputs = did_inputs;
     ports = did_ports;
     disk = did_disk;
   }
 
 -- however it ends; `same` says so of what is known of the disks, too
-pub runs_endpoint : (same : Type 0) (i : EndpointInputs) (d : DiskStates) (e : Ending) → (same → d.after ≡ d.before) → EndsEndpoint same i d e → RunsEndpoint same i d e
-runs_endpoint same i d e kept (inl ends) = ended_in_row same i d e ends kept
+pub runs_endpoint : (same : Type 0) (i : EndpointInputs) (d : DiskStates) (e : WatchEnding) → (same → d.after ≡ d.before) → EndsEndpoint same i d e → RunsEndpoint same i d e
+runs_endpoint same i d e kept (inl (ends, unwritten)) = ended_in_row same i d e ends unwritten kept
 runs_endpoint same i d e kept (inr (bus, rules, image, sets, x)) = took_lines same i d e bus rules image sets x
 
 -- a node that isn't started over inputs that were read whole, or that took lines
-pub ends_does : (same : Type 0) (i : EndpointInputs) (d : DiskStates) (e : Ending) (bus : NamedBus) (rules : List FrameRule) (image : Option (List ℕ)) → SetsEndpoint i bus rules image
+pub ends_does : (same : Type 0) (i : EndpointInputs) (d : DiskStates) (e : WatchEnding) (bus : NamedBus) (rules : List FrameRule) (image : Option (List ℕ)) → SetsEndpoint i bus rules image
     → DoesEndpoint same bus rules image i.log d e → EndsEndpoint same i d e
-ends_does same i d e bus rules image sets (not_started ends unread) = inl (EndsInRow-more (λ row comes. unstarted row (bus, rules, image, sets, comes) unread) ends)
+ends_does same i d e bus rules image sets (not_started ends unwritten unread) = inl (EndsInRow-more (λ row comes. unstarted row (bus, rules, image, sets, comes) unread) ends, unwritten)
 ends_does same i d e bus rules image sets (did x) = inr (bus, rules, image, sets, x)
+
+-- a row that comes before the log was told, and nothing was printed
+pub ends_refused : (i : EndpointInputs) (e : WatchEnding) → (same : Type 0) (d : DiskStates) → same → EndsInRow (ComesBeforeLog i) (on_errors e) → IsUnwritten e.output → EndsEndpoint same i d e
+ends_refused i e same d known ends unwritten = inl (EndsInRow-more (λ row comes. of_inputs row comes known) ends, unwritten)

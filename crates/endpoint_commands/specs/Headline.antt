@@ -1,10 +1,12 @@
 -- What holds of an endpoint over a disk that tells its bytes, none of them loose: all of it is said of one run of the
 -- machine of its bus
-use Rattle.std.specs.Prelude.{◌≡◌, ℕ, ◌<◌, Option, None, Some, List, [], ◌∷◌, ◌++◌, length, map, drop, get_or}
+use Rattle.std.specs.Prelude.{◌≡◌, ◌⊎◌, ℕ, ◌<◌, Option, None, Some, List, [], ◌∷◌, ◌++◌, length, map, drop, get_or}
 use Rattle.std.specs.List.{flat_map}
 use Rattle.std.specs.Option.{option_to_list}
+use Rattle.basics.specs.FaultCount.{Rose}
 use Rattle.machine_runs.specs.Run.{Run, commands_in, lines_in}
 use Rattle.cut_disk.specs.State.{DiskState}
+use Rattle.cut_disk.specs.Calls.{IsQuiet}
 use Rattle.store_keeping.specs.DiskTurns.{FailuresTold}
 use Rattle.freshness_routes.specs.declared.routes.Direction.TheVariants.{Receives}
 use Rattle.bus_machine.specs.declared.events.Event.{Event}
@@ -23,7 +25,7 @@ use Rattle.secoc_node.specs.State.{NodeState}
 use Rattle.bus_world.specs.declared.start.Start.TheVariants.{Attach}
 use Rattle.bus_world.specs.Turns.{Brings}
 use Rattle.bus_world.specs.Starts.{HasRoom, Opened, StartsOver}
-use Rattle.bus_world.specs.NodeDisks.{AreQuiet, mark_at, fails_at, DisksFollow}
+use Rattle.bus_world.specs.NodeDisks.{mark_at, fails_at, DisksFollow}
 use Rattle.bus_world.specs.WorldRuns.{IsFirstOf, OneListOfLines}
 use Rattle.bus_world.specs.WorldTurns.{TellFirm}
 use Rattle.endpoint_commands.specs.declared.rules.FrameRule.{FrameRule}
@@ -82,6 +84,11 @@ EachBroughtIsHeard first moments =
     → IsInTime (node_at (state_after first front) 0) s (place_of (node_at (state_after first front) 0) s.id Receives)
     → IsHeard s m.line
 
+-- the disk of each node serves: its count of faults didn't rise, or it is quiet, so that none of its calls fails
+abbrev pub DisksServe : NamedBus → List DiskState → List DiskState → Type 0
+DisksServe bus before after = (i : ℕ) (d : DiskState) → i < length bus.nodes
+    → (¬ Rose (get_or before i d).faults (get_or after i d).faults) ⊎ IsQuiet (get_or before i d)
+
 -- ---- all of one run
 
 pub record OneEndpointRun (bus : NamedBus) (rules : List FrameRule) (image : Option (List ℕ))
@@ -112,8 +119,9 @@ pub record OneEndpointRun (bus : NamedBus) (rules : List FrameRule) (image : Opt
   pub failures : (i : ℕ) (disk : DiskState) → i < length bus.nodes
       → FailuresTold (mark_at i) (fails_at i) moments (get_or before i disk) (get_or after i disk)
   pub heard : EachBroughtIsHeard first moments
-  -- Over a quiet disk the first world, the image and the lines of the log alone determine what the machine tells.
-  pub one_list : AreQuiet bus before
+  -- If no count of the disk rose, the first world, the image and the lines of the log alone determine what the machine
+  -- tells.
+  pub one_list : DisksServe bus before after
       → OneListOfLines first (boot_events image ++ events_asked rules (commands_in lines)) (lines_in moments)
 
 -- what was done of an endpoint over disks that tell their bytes, none of them loose, has all of this

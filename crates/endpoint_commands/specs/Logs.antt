@@ -6,20 +6,28 @@ use Rattle.bus_port.specs.Sink.{Appended}
 use Rattle.bus_port.specs.Whole.{ReadsAll}
 use Rattle.program_edge.specs.Rows.{Row, row_of}
 use Rattle.program_edge.specs.Inputs.{Reading, SourceFailed}
+use Rattle.program_edge.specs.Told.{EndingTold}
 use Rattle.program_edge.specs.Endings.{Ending, PrintsWhole, SinkFailed}
 use Rattle.machine_runs.specs.Run.{Run, commands_in}
 use Rattle.secoc_node.specs.State.{NodeState}
 use Rattle.trace_audit.specs.Pieces.{log_lines, in_64_bits}
+use Rattle.watch_maps.specs.LogRuns.{IsUnwritten, WritesWhole, WatchEnding, on_output}
 use Rattle.endpoint_commands.specs.declared.rules.FrameRule.{FrameRule}
 use Rattle.endpoint_commands.specs.Running.{LineMoment, TakesLine, LinesDone, line_answer, answers_behind, closing_text}
 use Rattle.endpoint_commands.specs.Running.{tells_failed_disk}
 
--- the text of a row was printed behind these answers, and the run ends with its status; or the sink failed within it
+-- the text of a row was printed behind these answers, and the run ends with its status; or its sink failed within it
 abbrev pub EndsBehind : Ending → List ℕ → Row → Type 0
 EndsBehind e answers row =
     ((e.status ≡ row.status) × PrintsWhole e (answers ++ row.text))
     ⊎ ((e.status ≡ 6) × SinkFailed e
     × ((n : ℕ) × (n < length row.text) × Appended e.before e.after (answers ++ take n row.text)))
+
+-- these answers were printed, and a row's text on standard error, and the run ends with its status; or standard error
+-- failed within it
+abbrev pub TellsBehind : WatchEnding → List ℕ → Row → Type 0
+TellsBehind e answers row =
+    WritesWhole e.output answers × EndingTold e.errors.before e.errors.after row.text row.status e.status
 
 -- no answer tells that the disk failed
 abbrev pub Unfailed : List LineMoment → Type 0
@@ -66,27 +74,28 @@ pub data StopsAt (rules : List FrameRule) (opening : List ℕ) (moments : List L
       → StopsAt rules opening moments last e
 
 -- the ways in which a log ends, behind an opening that was printed before it: these lines were taken
-pub data EndsLines (rules : List FrameRule) (start : NodeState) (opening : List ℕ) (log : Reading) (e : Ending)
+pub data EndsLines (rules : List FrameRule) (start : NodeState) (opening : List ℕ) (log : Reading) (e : WatchEnding)
     (now : NodeState) : List LineMoment → Type 0 where
   -- its end came: all its lines were answered, and the counts were printed
   done : (moments : List LineMoment) (last : LineMoment) → LogRead rules start log (moments ++ last ∷ []) now
       → Unfailed (moments ++ last ∷ [])
-      → EndsBehind e (opening ++ answers_behind rules 0 moments)
+      → EndsBehind (on_output e) (opening ++ answers_behind rules 0 moments)
       (row_of 0 (answer_behind rules (length moments) last ++ closing_text rules (moments ++ last ∷ [])))
+      → IsUnwritten e.errors
       → EndsLines rules start opening log e now (moments ++ last ∷ [])
-  -- it failed, or 2^64 - 1 bytes and more came: all its complete lines were answered
+  -- it failed, or 2^64 - 1 bytes and more came: all its complete lines were answered, and standard error tells it
   failed : (moments : List LineMoment) → LinesRead rules start log moments now → Unfailed moments → SourceFailed log
-      → EndsBehind e (opening ++ answers_behind rules 0 moments) (row_of 5 (codes "read fault\n"))
+      → TellsBehind e (opening ++ answers_behind rules 0 moments) (row_of 5 (codes "read fault\n"))
       → EndsLines rules start opening log e now moments
   too_long : (moments : List LineMoment) → (read : LinesRead rules start log moments now) → Unfailed moments
       → log.after.faults ≡ log.before.faults → last_count ≤ length read.bytes
-      → EndsBehind e (opening ++ answers_behind rules 0 moments) (row_of 8 (codes "input too long\n"))
+      → TellsBehind e (opening ++ answers_behind rules 0 moments) (row_of 8 (codes "input too long\n"))
       → EndsLines rules start opening log e now moments
-  -- the sink or the disk failed at a line: nothing was asked of the log after it
+  -- standard output or the disk failed at a line: nothing was asked of the log after it
   stopped : (moments : List LineMoment) (last : LineMoment)
       → FirstLinesRead rules start log (moments ++ last ∷ []) now → Unfailed moments
-      → StopsAt rules opening moments last e
+      → StopsAt rules opening moments last (on_output e) → IsUnwritten e.errors
       → EndsLines rules start opening log e now (moments ++ last ∷ [])
   stopped_last : (moments : List LineMoment) (last : LineMoment) → LogRead rules start log (moments ++ last ∷ []) now
-      → Unfailed moments → StopsAt rules opening moments last e
+      → Unfailed moments → StopsAt rules opening moments last (on_output e) → IsUnwritten e.errors
       → EndsLines rules start opening log e now (moments ++ last ∷ [])

@@ -4,11 +4,12 @@ use Rattle.std.specs.List.{flat_map}
 use Rattle.bus_port.specs.Whole.{AppendedPart}
 use Rattle.program_edge.specs.Inputs.{Reading, IsUnread}
 use Rattle.program_edge.specs.Rows.{Row}
-use Rattle.program_edge.specs.Endings.{Ending, EndsInRow, SinkFailed}
+use Rattle.program_edge.specs.Endings.{EndsInRow, SinkFailed}
 use Rattle.bus_machine.specs.declared.lines.Line.{Line}
 use Rattle.bus_config.specs.Buses.{NamedBus}
 use Rattle.bus_script.specs.LineTexts.{told_words}
 use Rattle.secoc_node.specs.State.{NodeState}
+use Rattle.watch_maps.specs.LogRuns.{IsUnwritten, WatchEnding, on_output, on_errors}
 use Rattle.bus_world.specs.declared.start.Start.TheVariants.{Attach}
 use Rattle.bus_world.specs.StartAnswers.{DiskStates, ComesUnstarted}
 use Rattle.bus_world.specs.WorldTurns.{TellFirm}
@@ -23,18 +24,19 @@ use Rattle.endpoint_commands.specs.Rows.{EndpointInputs, OverEndpoint, ComesBefo
 abbrev pub opening_of : List Line → List ℕ
 opening_of told = flat_map (λ l. comment_text (told_words l)) told
 
--- how an endpoint ends behind its boot: the sink failed within the opening, and nothing was asked of the log; or the
--- log ended
-pub data EndsBooted (rules : List FrameRule) (booted : NodeState) (opening : List ℕ) (log : Reading) (e : Ending)
+-- how an endpoint ends behind its boot: standard output failed within the opening, and nothing was asked of the log; or
+-- the log ended
+pub data EndsBooted (rules : List FrameRule) (booted : NodeState) (opening : List ℕ) (log : Reading) (e : WatchEnding)
     (now : NodeState) : List LineMoment → Type 0 where
-  not_opened : e.status ≡ 6 → SinkFailed e → AppendedPart e.before e.after opening → IsUnread log → now ≡ booted
+  not_opened : e.status ≡ 6 → SinkFailed (on_output e) → AppendedPart e.output.before e.output.after opening
+      → IsUnwritten e.errors → IsUnread log → now ≡ booted
       → EndsBooted rules booted opening log e now []
   of_log : (lines : List LineMoment) → EndsLines rules booted opening log e now lines
       → EndsBooted rules booted opening log e now lines
 
 -- the node booted, if there is an image, and took these lines
 pub record AnswersAll (image : Option (List ℕ)) (rules : List FrameRule) (start : NodeState) (log : Reading)
-    (e : Ending) (now : NodeState) : Type 0 where
+    (e : WatchEnding) (now : NodeState) : Type 0 where
   pub told : List Line
   pub booted : NodeState
   pub lines : List LineMoment
@@ -44,17 +46,17 @@ pub record AnswersAll (image : Option (List ℕ)) (rules : List FrameRule) (star
 -- what was done over the first disk, and printed. Over a disk that tells its bytes, none of them loose, it is one run
 -- of the machine of the bus, and all of `OneEndpointRun` holds of it
 pub record DidEndpoint (bus : NamedBus) (rules : List FrameRule) (image : Option (List ℕ)) (log : Reading)
-    (d : DiskStates) (e : Ending) : Type 0 where
+    (d : DiskStates) (e : WatchEnding) : Type 0 where
   pub told : List Line
   pub lines : List LineMoment
   pub ran : RanEndpoint bus rules image d.before d.after told lines
   pub ends : EndsBooted rules ran.booted (opening_of told) log e ran.now lines
   pub one_run : TellFirm bus d.before → OneEndpointRun bus rules image d.before d.after told lines
 
--- the node isn't started, and the row that says why is printed; or it took the lines of the log
+-- the node isn't started, and the row that says why is printed on standard error; or it took the lines of the log
 pub data DoesEndpoint (same : Type 0) (bus : NamedBus) (rules : List FrameRule) (image : Option (List ℕ))
-    (log : Reading) (d : DiskStates) (e : Ending) : Type 0 where
-  not_started : EndsInRow (ComesUnstarted same Attach bus d) e → IsUnread log
+    (log : Reading) (d : DiskStates) (e : WatchEnding) : Type 0 where
+  not_started : EndsInRow (ComesUnstarted same Attach bus d) (on_errors e) → IsUnwritten e.output → IsUnread log
       → DoesEndpoint same bus rules image log d e
   did : DidEndpoint bus rules image log d e → DoesEndpoint same bus rules image log d e
 
@@ -66,14 +68,14 @@ pub data ComesUnlogged (same : Type 0) (i : EndpointInputs) (d : DiskStates) : R
       → ComesUnlogged same i d row
 
 -- all but the log was read whole, and the node was started and took lines of the log
-abbrev pub DidLines : EndpointInputs → DiskStates → Ending → Type 0
+abbrev pub DidLines : EndpointInputs → DiskStates → WatchEnding → Type 0
 DidLines i d e = OverEndpoint i (λ bus rules image. DidEndpoint bus rules image i.log d e)
 
--- how a run ends: in a row that comes before the log; or over inputs that were read whole
-abbrev pub EndsEndpoint : Type 0 → EndpointInputs → DiskStates → Ending → Type 0
-EndsEndpoint same i d e = EndsInRow (ComesUnlogged same i d) e ⊎ DidLines i d e
+-- how a run ends: in a row that comes before the log, on standard error alone; or over inputs that were read whole
+abbrev pub EndsEndpoint : Type 0 → EndpointInputs → DiskStates → WatchEnding → Type 0
+EndsEndpoint same i d e = (EndsInRow (ComesUnlogged same i d) (on_errors e) × IsUnwritten e.output) ⊎ DidLines i d e
 
 -- what was done over inputs that were read whole is one run of the machine
-abbrev pub IsOneRun : EndpointInputs → DiskStates → Ending → Type 0
+abbrev pub IsOneRun : EndpointInputs → DiskStates → WatchEnding → Type 0
 IsOneRun i d e = OverEndpoint i (λ bus rules image. (did : DidEndpoint bus rules image i.log d e)
     × OneEndpointRun bus rules image d.before d.after did.told did.lines)

@@ -1,5 +1,5 @@
 -- The lines of a map of `endpoint`: which frames a node takes, and where its answers go
-use Rattle.std.specs.Prelude.{ℕ, ◌+◌, ◌&&◌, nat_lt, Bool, true, if◌then◌else◌, List, length, codes}
+use Rattle.std.specs.Prelude.{ℕ, ◌+◌, ◌&&◌, not, nat_lt, Bool, true, if◌then◌else◌, List, length, codes}
 use Rattle.std.specs.Prelude.{Option, None, Some, option_and_then, Result, Ok}
 use Rattle.std.specs.List.{list_any, position}
 use Rattle.std.specs.Option.{ok_or}
@@ -14,6 +14,7 @@ use Rattle.freshness_routes.specs.declared.routes.Direction.TheVariants.{Sends, 
 use Rattle.freshness_routes.specs.declared.routes.Route.{Route}
 use Rattle.bus_machine.specs.Node.{place_in}
 use Rattle.trace_audit.specs.MapLines.{can_form, hears}
+use Rattle.trace_audit.specs.Frames.{is_data_can}
 use Rattle.endpoint_commands.specs.declared.rules.FrameRule.{FrameRule}
 
 -- ---- a line: `send CANID ID LEN FROM TO` or `receive CANID ID LEN FROM TO`
@@ -39,10 +40,14 @@ may_meet (Some own) (Some other) = bytes_eq own other
 abbrev pub takes_also : List ℕ → Option (List ℕ) → FrameRule → Bool
 takes_also can from rule = bytes_eq rule.can can && may_meet rule.from from
 
--- CANID: a CAN identifier of which no rule before takes a frame that may come on this FROM
+-- a CAN identifier that some data frame can have, and of which no rule before takes a frame that may come on this FROM
+abbrev pub is_free_can : List FrameRule → Option (List ℕ) → List ℕ → Bool
+is_free_can before from can = is_data_can can && not (list_any (takes_also can from) before)
+
+-- CANID: such a CAN identifier
 unfoldable pub free_can_form : List FrameRule → Option (List ℕ) → List ℕ → Option (List ℕ)
 free_can_form before from word =
-    option_and_then (λ can. if list_any (takes_also can from) before then None else Some can) (can_form word)
+    option_and_then (λ can. if is_free_can before from can then Some can else None) (can_form word)
 
 -- ID: the Data ID of a route in this direction
 unfoldable pub routed_id_form : List Route → Direction → List ℕ → Option ℕ

@@ -3,7 +3,6 @@ use Rattle.std.specs.Prelude.{◌≡◌, ℕ, ◌<◌, Bool, true, false, Option
 use Rattle.std.specs.Prelude.{List, ◌++◌, length, codes, Vec}
 use Rattle.std.specs.declared.alloc.Global.{Global}
 use Rattle.bus_port.specs.Source.{Came}
-use Rattle.bus_port.specs.Sink.{SinkState}
 use Rattle.text_lines.specs.LineRows.{NoLines}
 use Rattle.text_lines.specs.Texts.{line}
 use Rattle.program_edge.specs.declared.input.InputFault.{InputFault}
@@ -15,6 +14,7 @@ use Rattle.secoc_node.specs.Words.{IsImage}
 use Rattle.bus_config.specs.Buses.{IsNamedBus}
 use Rattle.secoc_node.specs.State.{NodeState}
 use Rattle.bus_programs.specs.Scripts.{LacksLines, ReadsLinesAs}
+use Rattle.watch_maps.specs.LogRuns.{Writing, IsUnwritten}
 use Rattle.endpoint_commands.specs.declared.rules.FrameRule.{FrameRule}
 use Rattle.endpoint_commands.specs.declared.endpoint.EndpointStop.{EndpointStop}
 use Rattle.endpoint_commands.specs.declared.endpoint.EndpointStop.TheVariants as stop
@@ -65,11 +65,11 @@ PreparesEndpoint i (Err row) = ComesBeforeLog i row
 
 -- ---- the log
 
--- the source and the sink of a log before any of it came, and now
+-- the source and the sinks of a log before any of it came, and now
 pub record LogPorts : Type 0 where
   pub log : Reading
-  pub before : SinkState
-  pub after : SinkState
+  pub output : Writing
+  pub errors : Writing
 
 -- these bytes came of the log without a fault, and the answers to their complete lines were printed behind an opening
 pub record AnswersSoFar (ports : LogPorts) (opening : List ℕ) (endpoint : EndpointState) (start : NodeState)
@@ -77,13 +77,14 @@ pub record AnswersSoFar (ports : LogPorts) (opening : List ℕ) (endpoint : Endp
   pub came : Came ports.log.before ports.log.after bytes
   pub calm : ports.log.after.faults ≡ ports.log.before.faults
   pub behind : LogBehind endpoint start bytes moments
-  pub prints : AppendedWell ports.before ports.after (opening ++ answers_behind endpoint.rules 0 moments)
+  pub prints : AppendedWell ports.output.before ports.output.after (opening ++ answers_behind endpoint.rules 0 moments)
+  pub untold : IsUnwritten ports.errors
 
 -- a log ended so, and these lines were taken
 abbrev pub EndsOverPorts : LogPorts → List ℕ → EndpointState → NodeState → ℕ → Type 0
 EndsOverPorts ports opening endpoint start status =
     (done : List LineMoment) × EndsLines endpoint.rules start opening ports.log
-    (record { before = ports.before; after = ports.after; status = status }) endpoint.node done
+    (record { output = ports.output; errors = ports.errors; status = status }) endpoint.node done
 
 -- what a turn of the loop leaves: one more byte at least came and was taken; or the log ended with a status
 abbrev pub AnswersTurn : LogPorts → List ℕ → EndpointState → NodeState → List ℕ → List LineMoment → Option ℕ → Type 0

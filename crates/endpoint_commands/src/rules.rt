@@ -3,7 +3,8 @@ ghost use Rattle.std.specs.Prelude.{◌≡◌, ◌<◌, ◌^◌, length, IfOk};
 ghost use Rattle.std.specs.List.{list_any};
 ghost use Rattle.text_lines.specs.Readings.{Gives, GivesLine};
 ghost use Rattle.endpoint_commands.specs.Rules.{rule_direction_form, named_channel, may_meet, takes_also as also_taken};
-ghost use Rattle.endpoint_commands.specs.Rules.{free_can_form, routed_id_form, rule_with, rules_of, takes_frame};
+ghost use Rattle.endpoint_commands.specs.Rules.{is_free_can, free_can_form, routed_id_form, rule_with, rules_of};
+ghost use Rattle.endpoint_commands.specs.Rules.{takes_frame};
 ghost use Rattle.endpoint_commands.specs.Rules.{place_of_rule as rule_place, taken_size as size_taken};
 
 use basics::Bytes;
@@ -13,7 +14,7 @@ use std::alloc::Global;
 use text_lines::reader::{LineReader, expect_count, read_lines, value_at};
 use text_lines::words::Words;
 use text_lines::{Cause, LineFault, Memory, ScriptFault, forms};
-use trace_audit::{CanId, PayloadSize, can_id};
+use trace_audit::{CanId, PayloadSize, can_id, has_data_can};
 
 /// The most lines that a map has.
 pub const MOST_RULES: usize = 512;
@@ -99,13 +100,21 @@ fn is_taken(rules: &[FrameRule], can: &[u8], from: &Option<Bytes>) -> bool
     rules.iter().any(|rule| takes_also(rule, can, from))
 }
 
-/// A CAN identifier of which no rule before takes a frame that may come on this channel.
+/// Whether some data frame can have a CAN identifier, and no rule before takes one that may come on this channel.
+fn can_be_taken(before: &[FrameRule], from: &Option<Bytes>, can: &[u8]) -> bool
+    ensures { result ≡ is_free_can before.now from.now can.now }
+{
+    has_data_can(can) && !is_taken(before, can, from)
+}
+
+/// A CAN identifier that some data frame can have, and of which no rule before takes a frame that may come on this
+/// channel.
 #[tactic(auto, unfolding(crate::specs::Rules::free_can_form))]
 fn free_can(before: &[FrameRule], from: &Option<Bytes>, word: &[u8]) -> Option<CanId>
     ensures { result ≡ free_can_form before.now from.now word.now }
 {
     let can = can_id(word)?;
-    if is_taken(before, can.digits(), from) {
+    if !can_be_taken(before, from, can.digits()) {
         return None;
     }
     Some(can)

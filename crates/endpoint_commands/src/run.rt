@@ -79,12 +79,13 @@ fn boots(form: EndpointForm) -> bool
 
 /// Runs a node between the channels of a log, and gives the status that the program ends with. The arguments name the
 /// bus file, the map, the log, the disk and an image, if the node is to boot with one first. The node goes on over the
-/// first disk. Each complete line of the log is answered before the log is read again.
+/// first disk. Each complete line of the log is answered on `sink` before the log is read again. The usage line,
+/// refusals and faults are told on `errors`, and nowhere else.
 ///
 /// The statuses are looked for in this order: 2; 5, 8 and 3 of the bus file; 5, 8 and 4 of the map; 5, 8 and 3 of the
 /// image; 7, 9 and 10. After that it is 0 if the log ended, 5 if it failed, 8 if it has 2^64 - 1 bytes, and 11 if the
 /// disk failed at a line. A sink that fails makes the status 6, and nothing more is asked of the log.
-pub fn run_endpoint<S: Source, M: Source, T: Source, I: Source, K: Sink, D: CutDisk>(
+pub fn run_endpoint<S: Source, M: Source, T: Source, I: Source, K: Sink, E: Sink, D: CutDisk>(
     alloc: Global,
     words: &[String],
     config: &mut S,
@@ -92,6 +93,7 @@ pub fn run_endpoint<S: Source, M: Source, T: Source, I: Source, K: Sink, D: CutD
     log: &mut T,
     image: &mut I,
     sink: &mut K,
+    errors: &mut E,
     disks: &mut Vec<D>,
 ) -> u8
     // `RunsEndpoint` of specs/Table.antt has a member for each promise.
@@ -104,42 +106,20 @@ pub fn run_endpoint<S: Source, M: Source, T: Source, I: Source, K: Sink, D: CutD
           log = record { before = T.state log.old; after = T.state log.new };
         })
         (record { before = each D.state disks.old.items; after = each D.state disks.new.items })
-        (record { before = K.state sink.old; after = K.state sink.new; status = result }) }
-{
-    run_asked(alloc, form_of(words), config, map, log, image, sink, disks)
-}
-
-/// Runs what arguments of this form ask for, or tells the usage line, as [`run_endpoint`] does.
-pub(crate) fn run_asked<S: Source, M: Source, T: Source, I: Source, K: Sink, D: CutDisk>(
-    alloc: Global,
-    form: Option<EndpointForm>,
-    config: &mut S,
-    map: &mut M,
-    log: &mut T,
-    image: &mut I,
-    sink: &mut K,
-    disks: &mut Vec<D>,
-) -> u8
-    requires { (words : List (List ℕ)) × AsksForm words form }
-    ensures { (words : List (List ℕ)) → AsksForm words form → RunsEndpoint (disks.new ≡ disks.old)
         (record {
-          words = words;
-          config = record { before = S.state config.old; after = S.state config.new };
-          map = record { before = M.state map.old; after = M.state map.new };
-          image = record { before = I.state image.old; after = I.state image.new };
-          log = record { before = T.state log.old; after = T.state log.new };
-        })
-        (record { before = each D.state disks.old.items; after = each D.state disks.new.items })
-        (record { before = K.state sink.old; after = K.state sink.new; status = result }) }
+          output = record { before = K.state sink.old; after = K.state sink.new };
+          errors = record { before = E.state errors.old; after = E.state errors.new };
+          status = result;
+        }) }
 {
-    match prepare(alloc, form, config, map, image) {
-        Ok(job) => do_endpoint(alloc, job, log, sink, disks),
-        Err(refusal) => tell_refusal(sink, &refusal),
+    match prepare(alloc, form_of(words), config, map, image) {
+        Ok(job) => do_endpoint(alloc, job, log, sink, errors, disks),
+        Err(refusal) => tell_refusal(errors, &refusal),
     }
 }
 
 /// The form of the arguments, and all inputs except the log.
-fn prepare<S: Source, M: Source, I: Source>(
+pub(crate) fn prepare<S: Source, M: Source, I: Source>(
     alloc: Global,
     form: Option<EndpointForm>,
     config: &mut S,
@@ -196,18 +176,23 @@ fn prepare_inputs<S: Source, M: Source, I: Source>(
 }
 
 /// Opens the node over the first disk, and lets it answer the log. The disk is handed back.
-fn do_endpoint<T: Source, K: Sink, D: CutDisk>(
+pub(crate) fn do_endpoint<T: Source, K: Sink, E: Sink, D: CutDisk>(
     alloc: Global,
     job: EndpointJob,
     log: &mut T,
     sink: &mut K,
+    errors: &mut E,
     disks: &mut Vec<D>,
 ) -> u8
     requires { IsWholeEndpoint job }
     ensures { DoesEndpoint (disks.new ≡ disks.old) job.bus job.rules.items job.image
         (record { before = T.state log.old; after = T.state log.new })
         (record { before = each D.state disks.old.items; after = each D.state disks.new.items })
-        (record { before = K.state sink.old; after = K.state sink.new; status = result }) }
+        (record {
+          output = record { before = K.state sink.old; after = K.state sink.new };
+          errors = record { before = E.state errors.old; after = E.state errors.new };
+          status = result;
+        }) }
 {
     endpoints_are_runs();
     let EndpointJob {
@@ -218,77 +203,88 @@ fn do_endpoint<T: Source, K: Sink, D: CutDisk>(
     } = job;
     let mut nodes = match open_nodes(alloc, &bus, disks, Start::Attach) {
         Ok(nodes) => nodes,
-        Err(fault) => return tell_refusal(sink, &start_refusal(alloc, &fault)),
+        Err(fault) => return tell_refusal(errors, &start_refusal(alloc, &fault)),
     };
     let node = nodes.take_last();
     let mut endpoint = Endpoint::new(node, rules, room);
-    let status = answer_all(&mut endpoint, image, log, sink);
+    let status = answer_all(&mut endpoint, image, log, sink, errors);
     nodes.push_reserved(endpoint.release());
     close_nodes(nodes, disks);
     status
 }
 
 /// Boots the node, if it has an image, and answers the log.
-fn answer_all<C: CutCells, T: Source, K: Sink>(
+fn answer_all<C: CutCells, T: Source, K: Sink, E: Sink>(
     endpoint: &mut Endpoint<C>,
     image: Option<Bytes>,
     log: &mut T,
     sink: &mut K,
+    errors: &mut E,
 ) -> u8
     requires image { (bytes : List ℕ) → image ≡ Some bytes → IsImage bytes }
     requires before { LogBehind endpoint.old endpoint.old.node [] [] }
     ensures { AnswersAll image endpoint.old.rules endpoint.old.node
         (record { before = T.state log.old; after = T.state log.new })
-        (record { before = K.state sink.old; after = K.state sink.new; status = result }) endpoint.new.node }
+        (record {
+          output = record { before = K.state sink.old; after = K.state sink.new };
+          errors = record { before = E.state errors.old; after = E.state errors.new };
+          status = result;
+        }) endpoint.new.node }
 {
     match image {
-        Some(image) => boot_and_answer(endpoint, &image, log, sink),
-        None => answer_log(endpoint, log, sink),
+        Some(image) => boot_and_answer(endpoint, &image, log, sink, errors),
+        None => answer_log(endpoint, log, sink, errors),
     }
 }
 
 /// Boots the node with an image, and answers the log.
-fn boot_and_answer<C: CutCells, T: Source, K: Sink>(
+fn boot_and_answer<C: CutCells, T: Source, K: Sink, E: Sink>(
     endpoint: &mut Endpoint<C>,
     image: &Bytes,
     log: &mut T,
     sink: &mut K,
+    errors: &mut E,
 ) -> u8
     requires image { IsImage image.now }
     requires before { LogBehind endpoint.old endpoint.old.node [] [] }
     ensures { AnswersAll (Some image.now) endpoint.old.rules endpoint.old.node
         (record { before = T.state log.old; after = T.state log.new })
-        (record { before = K.state sink.old; after = K.state sink.new; status = result }) endpoint.new.node }
+        (record {
+          output = record { before = K.state sink.old; after = K.state sink.new };
+          errors = record { before = E.state errors.old; after = E.state errors.new };
+          status = result;
+        }) endpoint.new.node }
 {
     match endpoint.boot(image.bytes(), sink) {
-        Ok(()) => answer_log(endpoint, log, sink),
+        Ok(()) => answer_log(endpoint, log, sink, errors),
         Err(PortFailed) => WRITE_FAULT,
     }
 }
 
 /// Answers a log to its end.
-fn answer_log<C: CutCells, T: Source, K: Sink>(
+fn answer_log<C: CutCells, T: Source, K: Sink, E: Sink>(
     endpoint: &mut Endpoint<C>,
     log: &mut T,
     sink: &mut K,
+    errors: &mut E,
 ) -> u8
     requires { LogBehind endpoint.old endpoint.old.node [] [] }
     ensures rules { endpoint.new.rules ≡ endpoint.old.rules }
     ensures ends { (opening : List ℕ) (start : SinkState) → AppendedWell start (K.state sink.old) opening
         → EndsOverPorts (record {
           log = record { before = T.state log.old; after = T.state log.new };
-          before = start;
-          after = K.state sink.new;
+          output = record { before = start; after = K.state sink.new };
+          errors = record { before = E.state errors.old; after = E.state errors.new };
         }) opening endpoint.new endpoint.old.node result }
 {
     let mut piece = [0u8; PIECE];
     for _ in 0..u64::MAX {
-        match next_piece(endpoint, log, &mut piece, sink) {
+        match next_piece(endpoint, log, &mut piece, sink, errors) {
             Some(status) => return status,
             None => (),
         }
     }
-    tell_refusal(sink, &Refusal::from(InputFault::TooLong))
+    tell_refusal(errors, &Refusal::from(InputFault::TooLong))
 }
 
 /// The status of a run that stopped.
@@ -312,30 +308,31 @@ fn status_of(ended: Result<u8, EndpointStop>) -> u8
 }
 
 /// Takes the next piece of the log. It gives a status if the log ended, or a port or the disk failed.
-fn next_piece<C: CutCells, T: Source, K: Sink>(
+fn next_piece<C: CutCells, T: Source, K: Sink, E: Sink>(
     endpoint: &mut Endpoint<C>,
     log: &mut T,
     piece: &mut [u8; PIECE],
     sink: &mut K,
+    errors: &mut E,
 ) -> Option<u8>
     ensures rules { endpoint.new.rules ≡ endpoint.old.rules }
-    ensures turns { (first : SourceState) (start : SinkState) (opening : List ℕ) (node : NodeState) (bytes : List ℕ)
-        (moments : List LineMoment)
+    ensures turns { (first : SourceState) (start told : SinkState) (opening : List ℕ) (node : NodeState)
+        (bytes : List ℕ) (moments : List LineMoment)
         → AnswersSoFar (record {
           log = record { before = first; after = T.state log.old };
-          before = start;
-          after = K.state sink.old;
+          output = record { before = start; after = K.state sink.old };
+          errors = record { before = told; after = E.state errors.old };
         }) opening endpoint.old node bytes moments
         → AnswersTurn (record {
           log = record { before = first; after = T.state log.new };
-          before = start;
-          after = K.state sink.new;
+          output = record { before = start; after = K.state sink.new };
+          errors = record { before = told; after = E.state errors.new };
         }) opening endpoint.new node bytes moments result }
 {
     let count = match log.read(piece) {
         Ok(count) => count,
         Err(PortFailed) => {
-            return Some(tell_refusal(sink, &Refusal::from(InputFault::ReadFault)));
+            return Some(tell_refusal(errors, &Refusal::from(InputFault::ReadFault)));
         }
     };
     if count == 0 {

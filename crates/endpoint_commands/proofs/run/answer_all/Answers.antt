@@ -2,7 +2,7 @@ use Rattle.std.proofs.Common.{ℕ, List, [], sym, subst}
 use Rattle.std.specs.Prelude.{Option}
 use Rattle.bus_port.specs.Sink.{SinkState}
 use Rattle.program_edge.specs.Inputs.{Reading}
-use Rattle.program_edge.specs.Endings.{Ending}
+use Rattle.watch_maps.specs.LogRuns.{WatchEnding}
 use Rattle.endpoint_commands.specs.declared.rules.FrameRule.{FrameRule}
 use Rattle.endpoint_commands.specs.Logs.{EndsLines}
 use Rattle.endpoint_commands.specs.Promises.{AnswersAll}
@@ -13,7 +13,11 @@ pub returns-in-None : goal.returns-in-None
 returns-in-None g c =
     let sink : SinkState = g.K.Sink.state c.args.sink.now in
     let log : Reading = record { before = g.T.Source.state c.args.log.now; after = g.T.Source.state c.answer_log.new.log } in
-    let e : Ending = record { before = sink; after = g.K.Sink.state c.answer_log.new.sink; status = c.answer_log.result } in
+    let e : WatchEnding = record {
+      output = record { before = sink; after = g.K.Sink.state c.answer_log.new.sink };
+      errors = record { before = g.E.Sink.state c.args.errors.now; after = g.E.Sink.state c.answer_log.new.errors };
+      status = c.answer_log.result;
+    } in
     let ended = c.answer_log.ensures.ends [] sink (nothing_printed sink) in
     subst (λ (image : Option (List ℕ)). AnswersAll image c.args.endpoint.now.rules c.args.endpoint.now.node log e c.answer_log.new.endpoint.node) (sym c.in-None.is)
     (answers_unbooted c.args.endpoint.now.rules c.args.endpoint.now.node c.answer_log.new.endpoint.node log e ended.0

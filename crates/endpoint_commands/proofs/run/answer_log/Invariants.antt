@@ -12,7 +12,7 @@ invariant-loop g l = record {
   so_far : (opening : List ℕ) (start : SinkState) → AppendedWell start (g.K.Sink.state l.fn.sink) opening
       → (bytes : List ℕ) × (moments : List LineMoment) × AnswersSoFar (record {
         log = record { before = g.T.Source.state l.fn.log; after = g.T.Source.state l.log };
-        before = start;
-        after = g.K.Sink.state l.sink;
+        output = record { before = start; after = g.K.Sink.state l.sink };
+        errors = record { before = g.E.Sink.state l.fn.errors; after = g.E.Sink.state l.errors };
       }) opening l.endpoint l.fn.endpoint.node bytes moments × (l.counter ≤ length bytes);
 }

@@ -3,7 +3,7 @@ use Rattle.bus_machine.specs.declared.events.Event.TheVariants as event
 use Rattle.endpoint_commands.specs.Alone.{TurnsAlone}
 use Rattle.bus_port.specs.Sink.{SinkState}
 use Rattle.program_edge.specs.Inputs.{Reading}
-use Rattle.program_edge.specs.Endings.{Ending}
+use Rattle.watch_maps.specs.LogRuns.{WatchEnding}
 use Rattle.bus_script.specs.LineTexts.{told_words}
 use Rattle.endpoint_commands.specs.declared.rules.FrameRule.{FrameRule}
 use Rattle.endpoint_commands.specs.Lines.{comment_text}
@@ -19,7 +19,11 @@ pub returns-in-Ok : goal.returns-in-Ok
 returns-in-Ok g c =
     let sink : SinkState = g.K.Sink.state c.args.sink.now in
     let log : Reading = record { before = g.T.Source.state c.args.log.now; after = g.T.Source.state c.answer_log.new.log } in
-    let e : Ending = record { before = sink; after = g.K.Sink.state c.answer_log.new.sink; status = c.answer_log.result } in
+    let e : WatchEnding = record {
+      output = record { before = sink; after = g.K.Sink.state c.answer_log.new.sink };
+      errors = record { before = g.E.Sink.state c.args.errors.now; after = g.E.Sink.state c.answer_log.new.errors };
+      status = c.answer_log.result;
+    } in
     let told = c.in-Ok.ensures.told in
     let ended = c.answer_log.ensures.ends (comment_text (told_words told)) sink c.in-Ok.ensures.puts in
     answers_booted c.args.image.now c.args.endpoint.now.rules c.args.endpoint.now.node c.boot.new.self.node c.answer_log.new.endpoint.node told log e ended.0
@@ -31,7 +35,12 @@ pub returns-in-Err : goal.returns-in-Err
 returns-in-Err g c =
     let sink : SinkState = g.K.Sink.state c.args.sink.now in
     let log : Reading = record { before = g.T.Source.state c.args.log.now; after = g.T.Source.state c.args.log.now } in
-    let e : Ending = record { before = sink; after = g.K.Sink.state c.boot.new.sink; status = 6 } in
+    let errors : SinkState = g.E.Sink.state c.args.errors.now in
+    let e : WatchEnding = record {
+      output = record { before = sink; after = g.K.Sink.state c.boot.new.sink };
+      errors = record { before = errors; after = errors };
+      status = 6;
+    } in
     answers_unopened c.args.image.now c.args.endpoint.now.rules c.args.endpoint.now.node c.boot.new.self.node c.in-Err.ensures.told log e
     (subst (λ (image : List ℕ). TurnsAlone c.args.endpoint.now.node (event.Boot 0 image) c.in-Err.ensures.told c.boot.new.self.node) c.bytes.ensures.value c.in-Err.ensures.turn)
-    (not_opened refl c.in-Err.ensures.puts.0 c.in-Err.ensures.puts.1 refl refl)
+    (not_opened refl c.in-Err.ensures.puts.0 c.in-Err.ensures.puts.1 refl refl refl)

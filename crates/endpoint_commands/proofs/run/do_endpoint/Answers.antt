@@ -1,7 +1,7 @@
 use Rattle.std.proofs.Common.{◌≡◌, ℕ, List, [], ◌∷◌, ◌++◌, length, drop, map, ap, ◌∙◌, subst, refl}
 use Rattle.std.specs.Prelude.{Option}
 use Rattle.program_edge.specs.Inputs.{Reading}
-use Rattle.program_edge.specs.Endings.{Ending}
+use Rattle.watch_maps.specs.LogRuns.{WatchEnding}
 use Rattle.bus_config.specs.Buses.{NamedBus}
 use Rattle.cut_disk.specs.State.{DiskState}
 use Rattle.secoc_node.specs.State.{NodeState}
@@ -18,7 +18,7 @@ returns-in-Err g c = not_started (record {
   row = c.start_refusal.result;
   comes = Comes-unstarted _ Attach c.args.job.bus _ c.in-Err.fault c.start_refusal.result c.requires.is_bus.most c.in-Err.ensures.refused c.in-Err.ensures.unread c.start_refusal.ensures;
   told = c.tell_refusal-in-Err.ensures;
-}) refl
+}) refl refl
 
 pub new-endpoint-requires : goal.new-endpoint-requires
 new-endpoint-requires g c = c.requires.room
@@ -34,7 +34,11 @@ returns g c =
     let rules : List FrameRule = c.args.job.rules.items in
     let image : Option (List ℕ) = c.args.job.image in
     let log : Reading = record { before = g.T.Source.state c.args.log.now; after = g.T.Source.state c.answer_all-status.new.log } in
-    let e : Ending = record { before = g.K.Sink.state c.args.sink.now; after = g.K.Sink.state c.answer_all-status.new.sink; status = c.answer_all-status.result } in
+    let e : WatchEnding = record {
+      output = record { before = g.K.Sink.state c.args.sink.now; after = g.K.Sink.state c.answer_all-status.new.sink };
+      errors = record { before = g.E.Sink.state c.args.errors.now; after = g.E.Sink.state c.answer_all-status.new.errors };
+      status = c.answer_all-status.result;
+    } in
     let one : length nodes ≡ 1 = c.in-Ok.ensures.opened.opened.count ∙ c.requires.one in
     let a : AnswersAll image rules node log e now =
     subst (λ (n : NodeState). AnswersAll image rules n log e now) c.new-endpoint.ensures.node

@@ -1,14 +1,13 @@
 use Rattle.std.proofs.Common.{◌≡◌, ℕ, List, map, refl}
 use Rattle.std.specs.Prelude.{string_bytes, option_map}
 use Rattle.bus_port.specs.Source.{SourceState}
-use Rattle.program_edge.specs.NamedSources.{Openings, openings, word_source, behind}
+use Rattle.program_edge.specs.NamedSources.{Openings, openings, behind}
 use Rattle.endpoint_commands.specs.Named.{word_of_form}
 use Rattle.endpoint_commands.proofs.Naming.{named_earlier, left_after}
-use Rattle.endpoint_commands.proofs.start.run_over.Goals as goal
+use Rattle.endpoint_commands.proofs.start.open_sources.Goals as goal
 
 pub returns : goal.returns
 returns g c =
-    let state = word_source g.O.Opened.Source.state g.I.Source.state in
     let words : List (List ℕ) = map string_bytes c.args.words.now in
     let o0 : Openings = openings (g.O.Opener.opened c.args.opener.now) (option_map g.I.Source.state c.args.input.now) in
     let o1 : Openings = openings (g.O.Opener.opened c.open_word-config.new.opener) (option_map g.I.Source.state c.open_word-config.new.input) in
@@ -27,25 +26,9 @@ returns g c =
     let keep3 : (next : List ℕ) (s : SourceState) → g.O.Opener.opens c.open_word-log.new.opener next s → g.O.Opener.opens c.args.opener.now next s =
     λ next s is. keep2 next s (c.open_word-log.ensures.keeps next s is) in
     record {
-      inputs = record {
-        words = words;
-        config = record { before = state c.open_word-config.result; after = state c.run_asked-status.new.config };
-        map = record { before = state c.open_word-map.result; after = state c.run_asked-status.new.map };
-        image = record { before = state c.open_word-image.result; after = state c.run_asked-status.new.image };
-        log = record { before = state c.open_word-log.result; after = state c.run_asked-status.new.log };
-      };
-      words_are = refl;
       config_named = named_earlier _ _ o0 o0 _ (word_of_form words 0) _ (λ next s is. is) refl c.word_at.ensures c.open_word-config.ensures.named;
       map_named = named_earlier _ _ o1 p1 _ (word_of_form words 1) _ keep1 left1 c.word_at-2.ensures c.open_word-map.ensures.named;
       log_named = named_earlier _ _ o2 p2 _ (word_of_form words 2) _ keep2 left2 c.word_at-3.ensures c.open_word-log.ensures.named;
       image_named = named_earlier _ _ o3 p3 _ (word_of_form words 4) _ keep3 left3 c.word_at-4.ensures c.open_word-image.ensures.named;
       opened_once = left_after o3 p3 o4 _ (word_of_form words 4) c.open_word-image.ensures.left left3 c.word_at-4.ensures;
-      config_left = refl;
-      map_left = refl;
-      log_left = refl;
-      image_left = refl;
-      runs = c.run_asked-status.ensures words c.requires;
     }
-
-pub run_asked-status-requires : goal.run_asked-status-requires
-run_asked-status-requires g c = (map string_bytes c.args.words.now, c.requires)
