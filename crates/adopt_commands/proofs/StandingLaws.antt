@@ -1,5 +1,5 @@
 -- A ledger that stands on a disk, which is only read, and why none does
-use Rattle.std.proofs.Common.{◌≡◌, ◌≢◌, ◌∙◌, ℕ, ◌≤◌, List, [], length, refl, sym, ap, subst, arith}
+use Rattle.std.proofs.Common.{◌≡◌, ◌∙◌, ℕ, ◌≤◌, List, [], length, refl, sym, ap, subst, arith}
 use Rattle.cut_disk.specs.State.{DiskState}
 use Rattle.cut_disk.specs.Images.{firm}
 use Rattle.cut_disk.specs.Calls.{Runs}
