@@ -3,7 +3,8 @@
 
 station_model slots list|check FILE, slots check FILE BUS, slots reply FILE UID ID AUTH, ledger list|open FILE.., ledger export FILE, ledger
 show FILE UID SLOT: prints the text, and ends with the status. Replies are made by bus_model (python3-cryptography).
-ledger adopt FILE UID SLOT COUNTER, ledger import FILE BACKUP, ledger merge FILE OTHER: the same, without writing FILE.
+ledger adopt [--new] FILE UID SLOT COUNTER, ledger import [--new] FILE BACKUP, ledger merge [--new] FILE OTHER: the same,
+without writing FILE.
 """
 import sys
 
@@ -335,13 +336,15 @@ def take_over(places, entries, strict):
     return places, int(refused), "".join(f"{line}\n" for line in lines)
 
 
-def adoption(name, disk, values):
-    """The places of the ledger of these bytes after `ledger NAME`, the status and the text; values are bytes or words."""
+def adoption(name, disk, values, is_new):
+    """The places of the ledger of these bytes after `ledger NAME`, the status and the text; values are bytes or words.
+
+    With `--new` a blank disk is a ledger without entries."""
     if name == "adopt":
         entries = [(bytes.fromhex(values[0]), int(values[1]), int(values[2]), True)]
     else:
         entries = backup_of(values[0]) if name == "import" else entries_of(values[0])
-    blank = len(disk) >= 32 + 68 * 256 and not any(disk[:32])
+    blank = is_new and len(disk) >= 32 + 68 * 256 and not any(disk[:32])
     return take_over([None] * 256 if blank else places_of(disk), entries, name == "adopt")
 
 
@@ -363,6 +366,8 @@ def read(name):
 
 
 def main(words):
+    is_new = words[:1] == ["ledger"] and words[2:3] == ["--new"]
+    words = words[:2] + words[3:] if is_new else words
     several = words[:1] == ["ledger"] and words[1] in ("list", "open")
     files = [read(name) for name in (words[2:] if several else words[2:3])]
     over_bus = words[:2] == ["slots", "check"] and len(words) == 4
@@ -373,7 +378,7 @@ def main(words):
             status, text = slots(words[1], files[0], words[3:])
         elif words[1] in ("adopt", "import", "merge"):
             values = words[3:] if words[1] == "adopt" else [read(words[3])]
-            _, status, text = adoption(words[1], files[0], values)
+            _, status, text = adoption(words[1], files[0], values, is_new)
         else:
             status, text = ledger(words[1], files, words[3:])
     except No as no:

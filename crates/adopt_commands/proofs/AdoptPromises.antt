@@ -19,7 +19,7 @@ use Rattle.adopt_commands.specs.declared.tasks.AdoptTask.{AdoptTask}
 use Rattle.adopt_commands.specs.declared.tasks.AdoptTask.TheVariants as adopt
 use Rattle.adopt_commands.specs.declared.tasks.EntryFile.{EntryFile}
 use Rattle.adopt_commands.specs.declared.tasks.EntryFile.TheVariants.{Backup, Ledger}
-use Rattle.adopt_commands.specs.AdoptTasks.{adoption_asked}
+use Rattle.adopt_commands.specs.AdoptTasks.{may_make, adoption_asked}
 use Rattle.adopt_commands.specs.AdoptTurns.{adopt_text, is_refused}
 use Rattle.campaign_commands.specs.Opening.{LedgerOpened}
 use Rattle.adopt_commands.specs.Adoptions.{EndsAdopting, WritesBefore, adopt_texts, all_adopted, not_put, cut_short, cut_and_not_put}
@@ -29,7 +29,7 @@ use Rattle.adopt_commands.specs.AdoptRuns.{AdoptInputs, OpensNoLedger, OverEntri
 use Rattle.adopt_commands.specs.AdoptRuns.{ComesOfAdoption, answers_none, answers_all, fails_at_one, adoption_row, failed_put_row, EndsAtEntry, FailsToOpen, HasNoBackup, OffersNoBackup, OffersEntries, OffersLedgerDisk, RefusesLedgers, RunsAdoption}
 use Rattle.adopt_commands.proofs.GivenFiles.{IsFileStatus, any_none, any_one, one_has, backup_none, of_file_status, of_file_4, of_file_5, of_file_7, of_file_8, of_file_9, of_file_fault, of_file_long, of_file_offered}
 use Rattle.adopt_commands.proofs.GivenFiles.{given_no_fault, given_not_long, given_backup, given_ledger}
-use Rattle.adopt_commands.proofs.LedgerDisks.{IsDiskStatus, disk_status, disk_7, disk_10, disk_calm, disk_counted, disk_keeps, disk_offered, not_opened_of_none}
+use Rattle.adopt_commands.proofs.LedgerDisks.{IsDiskStatus, disk_status, disk_7, disk_10, disk_calm, disk_counted, disk_keeps, disk_stays, disk_offered, not_opened_of_none}
 use Rattle.adopt_commands.proofs.Taken.{took_all, all_keeps, stopped_at, stopped_keeps}
 
 -- ---- one thing is asked, and one disk opened
@@ -130,14 +130,14 @@ module _ (i : AdoptInputs) (e : Ending) where
   row_status row (wrong_value number wrong files unopened) = inr (inl refl)
   row_status row (no_entries_given asked _ is lacks unopened) = from_file row.status (lacks_status asked i.files row lacks)
   row_status row (no_disk_room asked entries is gives unopened) = inr (inr (inr (inr (inl refl))))
-  row_status row (refused_disk _ (asked, entries, is, gives, on)) = from_disk row.status (disk_status on.old on.new row on.holds)
+  row_status row (refused_disk _ (asked, entries, is, gives, on)) = from_disk row.status (disk_status (may_make i.words) on.old on.new row on.holds)
 
   at_2 : (row : Row) → ComesToAdopt i row → row.status ≡ 2 → PrintsWhole e row.text → (adoption_asked i.words ≡ None) × (i.files ≡ []) × PrintsWhole e ledger_usage
   at_2 row (malformed none files unopened) at prints = (none, files, prints)
   at_2 row (wrong_value number wrong files unopened) at prints = absurd (omega (arith, at))
   at_2 row (no_entries_given asked _ is lacks unopened) at prints = absurd (omega (arith, at, lacks_status asked i.files row lacks))
   at_2 row (no_disk_room asked entries is gives unopened) at prints = absurd (omega (arith, at))
-  at_2 row (refused_disk _ (asked, entries, is, gives, on)) at prints = absurd (omega (arith, at, disk_status on.old on.new row on.holds))
+  at_2 row (refused_disk _ (asked, entries, is, gives, on)) at prints = absurd (omega (arith, at, disk_status (may_make i.words) on.old on.new row on.holds))
 
   at_3 : (row : Row) → ComesToAdopt i row → row.status ≡ 3 → PrintsWhole e row.text
       → (number : ℕ) × (adoption_asked i.words ≡ Some (Err number)) × (i.files ≡ []) × PrintsWhole e (ledger_value_text number)
@@ -145,14 +145,14 @@ module _ (i : AdoptInputs) (e : Ending) where
   at_3 row (wrong_value number wrong files unopened) at prints = (number, wrong, files, prints)
   at_3 row (no_entries_given asked _ is lacks unopened) at prints = absurd (omega (arith, at, lacks_status asked i.files row lacks))
   at_3 row (no_disk_room asked entries is gives unopened) at prints = absurd (omega (arith, at))
-  at_3 row (refused_disk _ (asked, entries, is, gives, on)) at prints = absurd (omega (arith, at, disk_status on.old on.new row on.holds))
+  at_3 row (refused_disk _ (asked, entries, is, gives, on)) at prints = absurd (omega (arith, at, disk_status (may_make i.words) on.old on.new row on.holds))
 
   at_4 : (row : Row) → ComesToAdopt i row → row.status ≡ 4 → PrintsWhole e row.text → (told : Row) × Any (HasNoBackup told) i.files × PrintsWhole e told.text
   at_4 row (malformed none files unopened) at prints = absurd (omega (arith, at))
   at_4 row (wrong_value number wrong files unopened) at prints = absurd (omega (arith, at))
   at_4 row (no_entries_given asked _ is lacks unopened) at prints = (row, lacks_4 asked i.files row lacks at, prints)
   at_4 row (no_disk_room asked entries is gives unopened) at prints = absurd (omega (arith, at))
-  at_4 row (refused_disk _ (asked, entries, is, gives, on)) at prints = absurd (omega (arith, at, disk_status on.old on.new row on.holds))
+  at_4 row (refused_disk _ (asked, entries, is, gives, on)) at prints = absurd (omega (arith, at, disk_status (may_make i.words) on.old on.new row on.holds))
 
   at_5 : (row : Row) → ComesToAdopt i row → row.status ≡ 5 → PrintsWhole e row.text → Any SourceFailed i.files × PrintsWhole e (codes "read fault\n")
   at_5 row (malformed none files unopened) at prints = absurd (omega (arith, at))
@@ -160,14 +160,14 @@ module _ (i : AdoptInputs) (e : Ending) where
   at_5 row (no_entries_given asked _ is lacks unopened) at prints =
       let failed = lacks_5 asked i.files row lacks at in (failed.0, subst (PrintsWhole e) failed.1 prints)
   at_5 row (no_disk_room asked entries is gives unopened) at prints = absurd (omega (arith, at))
-  at_5 row (refused_disk _ (asked, entries, is, gives, on)) at prints = absurd (omega (arith, at, disk_status on.old on.new row on.holds))
+  at_5 row (refused_disk _ (asked, entries, is, gives, on)) at prints = absurd (omega (arith, at, disk_status (may_make i.words) on.old on.new row on.holds))
 
   at_7 : (row : Row) → ComesToAdopt i row → row.status ≡ 7 → PrintsWhole e row.text → PrintsWhole e []
   at_7 row (malformed none files unopened) at prints = absurd (omega (arith, at))
   at_7 row (wrong_value number wrong files unopened) at prints = absurd (omega (arith, at))
   at_7 row (no_entries_given asked _ is lacks unopened) at prints = subst (PrintsWhole e) (lacks_7 asked i.files row lacks at) prints
   at_7 row (no_disk_room asked entries is gives unopened) at prints = prints
-  at_7 row (refused_disk _ (asked, entries, is, gives, on)) at prints = subst (PrintsWhole e) (disk_7 on.old on.new row on.holds at) prints
+  at_7 row (refused_disk _ (asked, entries, is, gives, on)) at prints = subst (PrintsWhole e) (disk_7 (may_make i.words) on.old on.new row on.holds at) prints
 
   at_8 : (row : Row) → ComesToAdopt i row → row.status ≡ 8 → PrintsWhole e row.text → Any GivesTooMuch i.files × PrintsWhole e (codes "input too long\n")
   at_8 row (malformed none files unopened) at prints = absurd (omega (arith, at))
@@ -175,7 +175,7 @@ module _ (i : AdoptInputs) (e : Ending) where
   at_8 row (no_entries_given asked _ is lacks unopened) at prints =
       let long = lacks_8 asked i.files row lacks at in (long.0, subst (PrintsWhole e) long.1 prints)
   at_8 row (no_disk_room asked entries is gives unopened) at prints = absurd (omega (arith, at))
-  at_8 row (refused_disk _ (asked, entries, is, gives, on)) at prints = absurd (omega (arith, at, disk_status on.old on.new row on.holds))
+  at_8 row (refused_disk _ (asked, entries, is, gives, on)) at prints = absurd (omega (arith, at, disk_status (may_make i.words) on.old on.new row on.holds))
 
   at_9 : (row : Row) → ComesToAdopt i row → row.status ≡ 9 → PrintsWhole e row.text → RefusesLedgers i e
   at_9 row (malformed none files unopened) at prints = absurd (omega (arith, at))
@@ -202,7 +202,7 @@ module _ (i : AdoptInputs) (e : Ending) where
   at_10 row (no_entries_given asked _ is lacks unopened) at prints = absurd (omega (arith, at, lacks_status asked i.files row lacks))
   at_10 row (no_disk_room asked entries is gives unopened) at prints = absurd (omega (arith, at))
   at_10 row (refused_disk _ (asked, entries, is, gives, on)) at prints =
-      let failed = disk_10 on.old on.new row on.holds at in (
+      let failed = disk_10 (may_make i.words) on.old on.new row on.holds at in (
         asked,
         entries,
         is,
@@ -221,7 +221,7 @@ module _ (i : AdoptInputs) (e : Ending) where
   unopened_at row (wrong_value number wrong files unopened) at = unopened
   unopened_at row (no_entries_given asked _ is lacks unopened) at = unopened
   unopened_at row (no_disk_room asked entries is gives unopened) at = unopened
-  unopened_at row (refused_disk _ (asked, entries, is, gives, on)) at = absurd (omega (arith, at, disk_status on.old on.new row on.holds))
+  unopened_at row (refused_disk _ (asked, entries, is, gives, on)) at = absurd (omega (arith, at, disk_status (may_make i.words) on.old on.new row on.holds))
 
   row_keeps : (row : Row) → ComesToAdopt i row → (old new : DiskState) → i.before ≡ old ∷ [] → i.after ≡ new ∷ [] → KeepsLedgers old new
   row_keeps row (malformed none files unopened) old new before after = absurd (no_first i.before old unopened.none_before before)
@@ -230,7 +230,17 @@ module _ (i : AdoptInputs) (e : Ending) where
   row_keeps row (no_disk_room asked entries is gives unopened) old new before after = absurd (no_first i.before old unopened.none_before before)
   row_keeps row (refused_disk _ (asked, entries, is, gives, on)) old new before after =
       subst (λ (d : DiskState). KeepsLedgers d new) (one_first i.before on.old old on.before_is before)
-      (subst (λ (d : DiskState). KeepsLedgers on.old d) (one_first i.after on.new new on.after_is after) (disk_keeps on.old on.new row on.holds))
+      (subst (λ (d : DiskState). KeepsLedgers on.old d) (one_first i.after on.new new on.after_is after) (disk_keeps (may_make i.words) on.old on.new row on.holds))
+
+  row_stays : may_make i.words ≡ false → (row : Row) → ComesToAdopt i row → (old new : DiskState) → i.before ≡ old ∷ [] → i.after ≡ new ∷ [] → new.told ≡ old.told
+  row_stays none row (malformed _ files unopened) old new before after = absurd (no_first i.before old unopened.none_before before)
+  row_stays none row (wrong_value number wrong files unopened) old new before after = absurd (no_first i.before old unopened.none_before before)
+  row_stays none row (no_entries_given asked _ is lacks unopened) old new before after = absurd (no_first i.before old unopened.none_before before)
+  row_stays none row (no_disk_room asked entries is gives unopened) old new before after = absurd (no_first i.before old unopened.none_before before)
+  row_stays none row (refused_disk _ (asked, entries, is, gives, on)) old new before after =
+      subst (λ (d : DiskState). new.told ≡ d.told) (one_first i.before on.old old on.before_is before)
+      (subst (λ (d : DiskState). d.told ≡ on.old.told) (one_first i.after on.new new on.after_is after)
+      (disk_stays (may_make i.words) on.old on.new row none on.holds))
 
   -- ---- which rows come
 
@@ -291,7 +301,7 @@ module _ (i : AdoptInputs) (e : Ending) where
   disk_9 old new before after calm row (no_entries_given asked _ is lacks unopened) = absurd (no_first i.before old unopened.none_before before)
   disk_9 old new before after calm row (no_disk_room asked entries is gives unopened) = absurd (no_first i.before old unopened.none_before before)
   disk_9 old new before after calm row (refused_disk _ (asked, entries, is, gives, on)) =
-      disk_calm on.old on.new row on.holds
+      disk_calm (may_make i.words) on.old on.new row on.holds
       (subst (λ (d : DiskState). CountsNone d on.new) (one_first i.before old on.old before on.before_is)
       (subst (λ (d : DiskState). CountsNone old d) (one_first i.after new on.new after on.after_is) calm))
 
@@ -301,7 +311,7 @@ module _ (i : AdoptInputs) (e : Ending) where
   counted_10 old new before after counts row (no_entries_given asked _ is lacks unopened) = absurd (no_first i.before old unopened.none_before before)
   counted_10 old new before after counts row (no_disk_room asked entries is gives unopened) = absurd (no_first i.before old unopened.none_before before)
   counted_10 old new before after counts row (refused_disk _ (asked, entries, is, gives, on)) =
-      disk_counted on.old on.new row on.holds
+      disk_counted (may_make i.words) on.old on.new row on.holds
       (subst (λ (d : DiskState). d.faults < on.new.faults) (one_first i.before old on.old before on.before_is)
       (subst (λ (d : DiskState). old.faults < d.faults) (one_first i.after new on.new after on.after_is) counts))
 
@@ -314,7 +324,7 @@ module _ (i : AdoptInputs) (e : Ending) where
   row_offered asked it offers disk row (no_disk_room other entries is gives unopened) = refl
   row_offered asked it offers disk row (refused_disk _ (other, entries, is, gives, on)) =
       let has = disk on.old on.new on.before_is on.after_is in
-      disk_offered on.old on.new row on.holds has.0 has.1
+      disk_offered (may_make i.words) on.old on.new row on.holds has.0 has.1 has.2
 
   pub runs_row : EndsInRow (ComesToAdopt i) e → RunsAdoption i e
   runs_row ends =
@@ -347,6 +357,10 @@ module _ (i : AdoptInputs) (e : Ending) where
         no_ledger = EndsInRow-at ends 9 refl at_9;
         no_ledger_only = λ it any. EndsInRow-may ends 9 (may_9 it any);
         no_disk_only = λ old new cause before after tells. EndsInRow-may ends 9 (disk_9 old new before after tells.calm);
+        none_made = λ none old new before after blank. record {
+          kept = row_stays none ends.row ends.comes old new before after;
+          refused = λ calm. EndsInRow-may ends 9 (disk_9 old new before after calm);
+        };
         unopened = λ is. row_unopened is;
         write_fault = λ six. (EndsInRow-front ends no_6 six).0;
         write_fault_only = EndsInRow-rose ends;
@@ -384,8 +398,8 @@ data EndsTaken (strict : Bool) (entries : List LedgerEntry) (e : Ending) (old ne
       × PrintsWhole e (adopt_texts lines ++ adopt_text 0 Failed)) → EndsTaken strict entries e old new
   cut_off : IsCut e → OneCut e entries old new → EndsTaken strict entries e old new
 
-ends_taken : (strict : Bool) (entries : List LedgerEntry) (e : Ending) (old new : DiskState) → AdoptsInto strict entries e old new → EndsTaken strict entries e old new
-ends_taken strict entries e old new into = by_end into.ends
+ends_taken : (may strict : Bool) (entries : List LedgerEntry) (e : Ending) (old new : DiskState) → AdoptsInto may strict entries e old new → EndsTaken strict entries e old new
+ends_taken may strict entries e old new into = by_end into.ends
   where
     by_end : EndsAdopting (first_keeper into.opened strict) entries into.left e → EndsTaken strict entries e old new
     by_end (all_adopted lines status all printed) =
@@ -400,8 +414,8 @@ ends_taken strict entries e old new into = by_end into.ends
         cut_off (is_cut e lines Failed writes)
         (first, entry, rest, is, inr (lines, stopped_at old strict into.opened into.opens first lines entry into.left stopped new into.handed_back, writes))
 
-lines_keep : (strict : Bool) (entries : List LedgerEntry) (e : Ending) (old new : DiskState) → AdoptsInto strict entries e old new → KeepsLedgers old new
-lines_keep strict entries e old new into = by_end into.ends
+lines_keep : (may strict : Bool) (entries : List LedgerEntry) (e : Ending) (old new : DiskState) → AdoptsInto may strict entries e old new → KeepsLedgers old new
+lines_keep may strict entries e old new into = by_end into.ends
   where
     by_end : EndsAdopting (first_keeper into.opened strict) entries into.left e → KeepsLedgers old new
     by_end (all_adopted lines status all printed) = all_keeps old strict into.opened into.opens entries lines into.left all new into.handed_back
@@ -490,10 +504,10 @@ abbrev HoldsOneRow : Row → Bool → List LedgerEntry → DiskState → DiskSta
 HoldsOneRow row strict entries old new =
     UpToEntry entries (λ first entry. (lines : List AdoptLine) × StoppedAt first lines entry old new × (row ≡ failed_put_row lines))
 
-pub runs_lines : (i : AdoptInputs) (e : Ending) → OverEntries i (λ strict entries old new. AdoptsInto strict entries e old new) → RunsAdoption i e
+pub runs_lines : (i : AdoptInputs) (e : Ending) → OverEntries i (λ strict entries old new. AdoptsInto (may_make i.words) strict entries e old new) → RunsAdoption i e
 runs_lines i e (asked, entries, is, gives, on) =
     let strict = is_strict asked in
-    let taken = ends_taken strict entries e on.old on.new on.holds in
+    let taken = ends_taken (may_make i.words) strict entries e on.old on.new on.holds in
     let among = line_status strict entries e on.old on.new taken in
     record {
       ends = table taken;
@@ -506,7 +520,7 @@ runs_lines i e (asked, entries, is, gives, on) =
       keeps = λ old new before after.
           subst (λ (d : DiskState). KeepsLedgers d new) (one_first i.before on.old old on.before_is before)
           (subst (λ (d : DiskState). KeepsLedgers on.old d) (one_first i.after on.new new on.after_is after)
-          (lines_keep strict entries e on.old on.new on.holds));
+          (lines_keep (may_make i.words) strict entries e on.old on.new on.holds));
       early_ends = λ early. inr (over (HoldsCut e) (cut_at strict entries e on.old on.new taken early));
       usage = λ at. absurd (omega (arith, at, among));
       usage_only = λ none. absurd (not_none (adoption_asked i.words) (Ok asked) none is);
@@ -521,11 +535,13 @@ runs_lines i e (asked, entries, is, gives, on) =
       no_ledger = λ at. absurd (omega (arith, at, among));
       no_ledger_only = λ it any. absurd (given_ledger i.files entries (gives_kind i e Ledger asked entries it is gives) any);
       no_disk_only = λ old new cause before after tells. absurd (none_opened old new cause before tells);
+      none_made = λ none old new before after blank.
+          absurd (on.holds.stood none blank.now (ap (λ (d : DiskState). d.told) (one_first i.before on.old old on.before_is before) ∙ blank.told) blank.blank);
       unopened = λ at. absurd (omega (arith, at, among));
       write_fault = sink_at strict entries e on.old on.new taken;
       write_fault_only = counts_at strict entries e on.old on.new taken;
       complete = λ other it offers disk well.
-          calm_at strict entries e on.old on.new taken (disk on.old on.new on.before_is on.after_is).1 well;
+          calm_at strict entries e on.old on.new taken (disk on.old on.new on.before_is on.after_is).2 well;
     }
   where
     over : (Holds : Bool → List LedgerEntry → DiskState → DiskState → Type 0) → Holds (is_strict asked) entries on.old on.new → OverEntries i Holds

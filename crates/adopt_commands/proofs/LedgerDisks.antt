@@ -1,8 +1,9 @@
 -- A disk that gives no ledger: the rows that say so, and when they come
-use Rattle.std.proofs.Common.{◌≡◌, ◌⊎◌, ◌∙◌, ℕ, ◌<◌, List, [], length, refl, sym, ap, subst, inl, inr, arith}
+use Rattle.std.proofs.Common.{◌≡◌, ◌⊎◌, ◌∙◌, ℕ, ◌<◌, Bool, true, false, List, [], length, refl, sym, ap, subst, inl, inr, arith}
 use Rattle.std.specs.Prelude.{Option, None, Some}
 use Rattle.std.proofs.lemmas.List.{length-map, length-replicate}
 use Rattle.std.proofs.lemmas.Option.{same_Some}
+use Rattle.std.proofs.lemmas.Bool.{false≢true}
 use Rattle.cut_disk.specs.State.{DiskState, Told}
 use Rattle.cut_disk.specs.Images.{Image, firm}
 use Rattle.cut_disk.specs.Calls.{Rose}
@@ -20,11 +21,12 @@ use Rattle.key_campaign.specs.State.{LedgerState}
 use Rattle.key_campaign.proofs.CallerLemmas.{none_bad}
 use Rattle.campaign_commands.specs.declared.opening.NoLedgerCause.{NoLedgerCause}
 use Rattle.campaign_commands.specs.declared.opening.NoLedgerCause.TheVariants.{Store, BadEntry}
-use Rattle.campaign_commands.specs.Opening.{ledger_layout, ledger_size, HasNoHeader, StandsForEntries, LedgerOpened, IsNoLedger, LacksLedger, HasLedger}
+use Rattle.campaign_commands.specs.Opening.{ledger_layout, ledger_size, HasNoHeader, StandsForEntries, LedgerOpened, IsNoLedger, LacksLedger, HasLedger, HasEntries}
 use Rattle.campaign_commands.specs.Campaigns.{CountsNone, TellsNoLedger}
 use Rattle.ledger_commands.specs.LedgerBytes.{bad_entry_row}
 use Rattle.ledger_commands.specs.StoreRows.{IsStoreRow, disk_failed_row}
-use Rattle.adopt_commands.specs.AdoptRows.{IsLedgerRow, RefusesLedger}
+use Rattle.adopt_commands.specs.AdoptRows.{IsLedgerRow, LacksAsked, RefusesLedger, IsNotBlank}
+use Rattle.adopt_commands.specs.StandingLedgers.{NoneStands, LacksStanding}
 use Rattle.adopt_commands.specs.AdoptRuns.{StandsForLater, KeepsLedgers}
 use Rattle.adopt_commands.proofs.AdoptLaws.{keeps_same}
 use Rattle.adopt_commands.proofs.Taken.{headed}
@@ -52,8 +54,8 @@ cause_status : (cause : NoLedgerCause) (row : Row) → IsLedgerRow cause row →
 cause_status (Store fault) row is = store_status fault row is
 cause_status (BadEntry bad) row is = or_memory row (bad_entry_row bad) is refl
 
-pub disk_status : (old new : DiskState) (row : Row) → RefusesLedger old new row → IsDiskStatus row.status
-disk_status old new row (cause, lacks, is) = cause_status cause row is
+pub disk_status : (may : Bool) (old new : DiskState) (row : Row) → RefusesLedger may old new row → IsDiskStatus row.status
+disk_status may old new row (cause, lacks, is) = cause_status cause row is
 
 -- 7 is out of memory
 memory_at_7 : (row other : Row) → (row ≡ other) ⊎ (row ≡ memory_row) → other.status ≡ 9 → row.status ≡ 7 → row ≡ memory_row
@@ -71,29 +73,38 @@ cause_7 : (cause : NoLedgerCause) (row : Row) → IsLedgerRow cause row → row.
 cause_7 (Store fault) row is seven = store_7 fault row is seven
 cause_7 (BadEntry bad) row is seven = memory_at_7 row (bad_entry_row bad) is refl seven
 
-pub disk_7 : (old new : DiskState) (row : Row) → RefusesLedger old new row → row.status ≡ 7 → row.text ≡ []
-disk_7 old new row (cause, lacks, is) seven = ap (λ (r : Row). r.text) (cause_7 cause row is seven)
+pub disk_7 : (may : Bool) (old new : DiskState) (row : Row) → RefusesLedger may old new row → row.status ≡ 7 → row.text ≡ []
+disk_7 may old new row (cause, lacks, is) seven = ap (λ (r : Row). r.text) (cause_7 cause row is seven)
 
 -- 10 is a disk that failed
 not_10 : (row other : Row) → (row ≡ other) ⊎ (row ≡ memory_row) → other.status ≡ 9 → row.status ≡ 10 → ⊥
 not_10 row other (inl is) nine ten = omega (arith, ten, nine, status_of is)
 not_10 row other (inr memory) nine ten = omega (arith, ten, status_of memory)
 
-pub disk_10 : (old new : DiskState) (row : Row) → RefusesLedger old new row → row.status ≡ 10 → Rose old.faults new.faults × (row ≡ disk_failed_row)
-disk_10 old new row (Store store.DiskFailed, lacks, is) ten = (lacks.cause, is)
-disk_10 old new row (Store store.NotFormatted, lacks, is) ten = absurd (omega (arith, ten, status_of is))
-disk_10 old new row (Store store.TooSmall, lacks, is) ten = absurd (omega (arith, ten, status_of is))
-disk_10 old new row (Store store.Memory, lacks, is) ten = absurd (omega (arith, ten, status_of is))
-disk_10 old new row (Store (store.Damaged cell), lacks, is) ten = absurd (not_10 row _ is refl ten)
-disk_10 old new row (BadEntry bad, lacks, is) ten = absurd (not_10 row (bad_entry_row bad) is refl ten)
+cause_10 : (cause : NoLedgerCause) (row : Row) → IsLedgerRow cause row → row.status ≡ 10 → (cause ≡ Store store.DiskFailed) × (row ≡ disk_failed_row)
+cause_10 (Store store.DiskFailed) row is ten = (refl, is)
+cause_10 (Store store.NotFormatted) row is ten = absurd (omega (arith, ten, status_of is))
+cause_10 (Store store.TooSmall) row is ten = absurd (omega (arith, ten, status_of is))
+cause_10 (Store store.Memory) row is ten = absurd (omega (arith, ten, status_of is))
+cause_10 (Store (store.Damaged cell)) row is ten = absurd (not_10 row _ is refl ten)
+cause_10 (BadEntry bad) row is ten = absurd (not_10 row (bad_entry_row bad) is refl ten)
+
+failed_rose : (may : Bool) (old new : DiskState) → LacksAsked may old new (Store store.DiskFailed) → Rose old.faults new.faults
+failed_rose true old new lacks = lacks.cause
+failed_rose false old new lacks = lacks.why
+
+pub disk_10 : (may : Bool) (old new : DiskState) (row : Row) → RefusesLedger may old new row → row.status ≡ 10 → Rose old.faults new.faults × (row ≡ disk_failed_row)
+disk_10 may old new row (cause, lacks, is) ten =
+    let failed = cause_10 cause row is ten in
+    (failed_rose may old new (subst (LacksAsked may old new) failed.0 lacks), failed.1)
 
 -- a disk whose count didn't rise comes to 9 or 7
-pub disk_calm : (old new : DiskState) (row : Row) → RefusesLedger old new row → CountsNone old new → (row.status ≡ 9) ⊎ (row.status ≡ 7)
-disk_calm old new row refuses calm = by_status (disk_status old new row refuses)
+pub disk_calm : (may : Bool) (old new : DiskState) (row : Row) → RefusesLedger may old new row → CountsNone old new → (row.status ≡ 9) ⊎ (row.status ≡ 7)
+disk_calm may old new row refuses calm = by_status (disk_status may old new row refuses)
   where
     by_status : IsDiskStatus row.status → (row.status ≡ 9) ⊎ (row.status ≡ 7)
     by_status (inl nine) = inl nine
-    by_status (inr (inl ten)) = absurd (calm (disk_10 old new row refuses ten).0)
+    by_status (inr (inl ten)) = absurd (calm (disk_10 may old new row refuses ten).0)
     by_status (inr (inr seven)) = inr seven
 
 -- a disk whose count rose comes to 10
@@ -106,9 +117,20 @@ store_counted old new store.TooSmall row lacks is counts =
 store_counted old new store.Memory row lacks is counts = (let same = lacks.cause.0 in absurd (omega (arith, counts, same)))
 store_counted old new (store.Damaged cell) row lacks is counts = (let same = lacks.cause.0 in absurd (omega (arith, counts, same)))
 
-pub disk_counted : (old new : DiskState) (row : Row) → RefusesLedger old new row → old.faults < new.faults → row.status ≡ 10
-disk_counted old new row (Store fault, lacks, is) counts = store_counted old new fault row lacks is counts
-disk_counted old new row (BadEntry bad, lacks, is) counts = (let same = lacks.reads.faults in absurd (omega (arith, counts, same)))
+standing_counted : (old new : DiskState) (cause : NoLedgerCause) (row : Row) → LacksStanding old new cause → IsLedgerRow cause row → old.faults < new.faults
+    → row.status ≡ 10
+standing_counted old new (Store store.DiskFailed) row lacks is counts = status_of is
+standing_counted old new (Store store.NotFormatted) row lacks is counts = (let same = lacks.why.0 in absurd (omega (arith, counts, same)))
+standing_counted old new (Store store.TooSmall) row lacks is counts =
+    let same : new.faults ≡ old.faults = ap (λ (d : DiskState). d.faults) lacks.why.1 in absurd (omega (arith, counts, same))
+standing_counted old new (Store store.Memory) row lacks is counts = (let same = lacks.why in absurd (omega (arith, counts, same)))
+standing_counted old new (Store (store.Damaged cell)) row lacks is counts = (let same = lacks.why.0 in absurd (omega (arith, counts, same)))
+standing_counted old new (BadEntry bad) row lacks is counts = (let same = lacks.why.0 in absurd (omega (arith, counts, same)))
+
+pub disk_counted : (may : Bool) (old new : DiskState) (row : Row) → RefusesLedger may old new row → old.faults < new.faults → row.status ≡ 10
+disk_counted true old new row (Store fault, lacks, is) counts = store_counted old new fault row lacks is counts
+disk_counted true old new row (BadEntry bad, lacks, is) counts = (let same = lacks.reads.faults in absurd (omega (arith, counts, same)))
+disk_counted false old new row (cause, lacks, is) counts = standing_counted old new cause row lacks is counts
 
 -- ---- what is left of the disk
 
@@ -119,9 +141,15 @@ kept_ledgers old new kept x places told holds t now y image =
     let y_is : y ≡ x = image_of_firm (subst (λ (s : Told). Image s y) t_is image) in
     subst (StandsForLater places) (sym y_is) (record { later = places; stands = holds.stands; keeps = keeps_same (powered_ledger places) })
 
-pub disk_keeps : (old new : DiskState) (row : Row) → RefusesLedger old new row → KeepsLedgers old new
-disk_keeps old new row (Store fault, lacks, is) = kept_ledgers old new lacks.kept
-disk_keeps old new row (BadEntry bad, lacks, is) = kept_ledgers old new (λ t told not. lacks.reads.told)
+pub disk_keeps : (may : Bool) (old new : DiskState) (row : Row) → RefusesLedger may old new row → KeepsLedgers old new
+disk_keeps true old new row (Store fault, lacks, is) = kept_ledgers old new lacks.kept
+disk_keeps true old new row (BadEntry bad, lacks, is) = kept_ledgers old new (λ t told not. lacks.reads.told)
+disk_keeps false old new row (cause, lacks, is) = kept_ledgers old new (λ t told not. lacks.kept)
+
+-- if none may be made its bytes stay
+pub disk_stays : (may : Bool) (old new : DiskState) (row : Row) → may ≡ false → RefusesLedger may old new row → new.told ≡ old.told
+disk_stays true old new row none refuses = absurd (false≢true (sym none))
+disk_stays false old new row none (cause, lacks, is) = lacks.kept
 
 -- ---- bytes of a ledger, or of none
 
@@ -132,7 +160,7 @@ size_of_none = length-map no_entries place_cell ∙ length-replicate {A = Option
 size_of : (places : List (Option LedgerEntry)) → length places ≡ place_count → length (ledger_cells places) ≡ place_count
 size_of places count = length-map places place_cell ∙ count
 
-blank_head : (x : List ℕ) (n : ℕ) → HasHeader ledger_layout n x → HasNoHeader x → ⊥
+pub blank_head : (x : List ℕ) (n : ℕ) → HasHeader ledger_layout n x → HasNoHeader x → ⊥
 blank_head x n head blank = header-not_blank ledger_layout n (sym head ∙ blank)
 
 module _ (x : List ℕ) (places : List (Option LedgerEntry)) (count : length places ≡ place_count) (are : AreLedgerEntries places) (stands : StandsForEntries x places) where
@@ -192,9 +220,38 @@ store_offered old new (store.Damaged cell) row lacks is has calm =
       | inr held ↦ none_damaged has.now.bytes held.entries held.count held.are held.stands cell (subst (λ n. FirstDamaged ledger_layout has.now.bytes n cell) size_of_none none.1)
     ])
 
-pub disk_offered : (old new : DiskState) (row : Row) → RefusesLedger old new row → HasLedger old → CountsNone old new → row.status ≡ 7
-disk_offered old new row (Store fault, lacks, is) has calm = store_offered old new fault row lacks is has calm
-disk_offered old new row (BadEntry bad, lacks, is) has calm =
+-- bytes of a ledger, that aren't blank, stand for one
+stands_or_not : (old : DiskState) (cause : NoLedgerCause) → (has : HasLedger old) → IsNotBlank old → NoneStands has.now.bytes cause → ⊥
+stands_or_not old cause has not none = elim has.is [
+  | inl blank ↦ not has.now has.told blank
+  | inr held ↦ by_cause held cause none
+]
+  where
+    by_cause : HasEntries has.now.bytes → (cause : NoLedgerCause) → NoneStands has.now.bytes cause → ⊥
+    by_cause held (Store store.NotFormatted) none = none (has_head has.now.bytes held.entries held.count held.are held.stands)
+    by_cause held (Store (store.Damaged cell)) none = none_damaged has.now.bytes held.entries held.count held.are held.stands cell none.1
+    by_cause held (BadEntry bad) (cells, number, also, first) =
+        none_is_bad has.now.bytes held.entries held.count held.are held.stands cells bad also first
+    by_cause held (Store store.DiskFailed) none = none
+    by_cause held (Store store.TooSmall) none = none
+    by_cause held (Store store.Memory) none = none
+
+standing_offered : (old new : DiskState) (cause : NoLedgerCause) (row : Row) → LacksStanding old new cause → IsLedgerRow cause row → (has : HasLedger old) → IsNotBlank old
+    → CountsNone old new → row.status ≡ 7
+standing_offered old new (Store store.TooSmall) row lacks is has not calm = (let small = lacks.why.0 in let room = has.room in absurd (omega (arith, small, room)))
+standing_offered old new (Store store.Memory) row lacks is has not calm = status_of is
+standing_offered old new (Store store.DiskFailed) row lacks is has not calm = absurd (calm lacks.why)
+standing_offered old new (Store store.NotFormatted) row lacks is has not calm =
+    absurd (stands_or_not old (Store store.NotFormatted) has not (lacks.why.1 has.now has.told))
+standing_offered old new (Store (store.Damaged cell)) row lacks is has not calm =
+    absurd (stands_or_not old (Store (store.Damaged cell)) has not (lacks.why.1 has.now has.told))
+standing_offered old new (BadEntry bad) row lacks is has not calm = absurd (stands_or_not old (BadEntry bad) has not (lacks.why.1 has.now has.told))
+
+pub disk_offered : (may : Bool) (old new : DiskState) (row : Row) → RefusesLedger may old new row → HasLedger old → (may ≡ false → IsNotBlank old) → CountsNone old new
+    → row.status ≡ 7
+disk_offered false old new row (cause, lacks, is) has not calm = standing_offered old new cause row lacks is has (not refl) calm
+disk_offered true old new row (Store fault, lacks, is) has not calm = store_offered old new fault row lacks is has calm
+disk_offered true old new row (BadEntry bad, lacks, is) has not calm =
     let none = lacks.bytes has.now has.told in
     absurd (elim has.is [
       | inl blank ↦ none.0 blank

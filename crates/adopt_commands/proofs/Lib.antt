@@ -8,3 +8,4 @@ pub mod GivenFiles
 pub mod LedgerDisks
 pub mod AdoptPromises
 pub mod OverWords
+pub mod StandingLaws

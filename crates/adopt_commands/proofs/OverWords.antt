@@ -4,7 +4,6 @@ use Rattle.std.specs.Prelude.{Option, Some, None, Result, Ok, Err, take}
 use Rattle.bus_port.specs.Source.{SourceState}
 use Rattle.cut_disk.specs.State.{DiskState}
 use Rattle.file_disk.specs.NamedDisks.{IsOpenedBy, OpenedByWords}
-use Rattle.text_lines.specs.Readings.{nth_word}
 use Rattle.program_edge.specs.Inputs.{Reading}
 use Rattle.program_edge.specs.Rows.{Row}
 use Rattle.program_edge.specs.Endings.{Ending}
@@ -12,9 +11,9 @@ use Rattle.program_edge.proofs.CallerLemmas.{EndsInRow-more}
 use Rattle.key_campaign.specs.declared.entries.LedgerEntry.{LedgerEntry}
 use Rattle.ledger_commands.specs.Named.{AllNamed}
 use Rattle.adopt_commands.specs.declared.tasks.AdoptTask.{AdoptTask}
-use Rattle.adopt_commands.specs.AdoptTasks.{adoption_asked}
+use Rattle.adopt_commands.specs.AdoptTasks.{may_make, adoption_asked}
 use Rattle.adopt_commands.specs.AdoptRows.{AsksNoAdoption, GivesEntries, EndsOnLedger, EndsOverLedgers, not_opened, adopts_into, without_disk, on_first_disk}
-use Rattle.adopt_commands.specs.AdoptFiles.{files_of, adoption_files, is_strict, EndsInto, EndsAdoptTask, EndsAdoptWords, no_room, over_disk, in_row, with_entries, asks_nothing, asks_it}
+use Rattle.adopt_commands.specs.AdoptFiles.{files_of, adoption_files, ledger_word, is_strict, EndsInto, EndsAdoptTask, EndsAdoptWords, no_room, over_disk, in_row, with_entries, asks_nothing, asks_it}
 use Rattle.adopt_commands.specs.AdoptRuns.{AdoptInputs, OpensNoLedger, ComesToAdopt, RunsAdoption, malformed, wrong_value, no_entries_given, no_disk_room, refused_disk}
 use Rattle.adopt_commands.specs.AdoptsOver.{OpensDisk, AdoptsOver, none_opened, one_opened}
 use Rattle.adopt_commands.proofs.Naming.{over_none_named}
@@ -41,7 +40,7 @@ module _ (words : List (List ℕ)) (files : List Reading) (disks : List DiskStat
   abbrev inputs : List DiskState → AdoptInputs
   inputs before = record { words = words; files = files; before = before; after = disks }
 
-  on_disk : (before : List DiskState) (old new : DiskState) → before ≡ old ∷ [] → disks ≡ new ∷ [] → EndsOnLedger (is_strict asked) entries e old new
+  on_disk : (before : List DiskState) (old new : DiskState) → before ≡ old ∷ [] → disks ≡ new ∷ [] → EndsOnLedger (may_make words) (is_strict asked) entries e old new
       → RunsAdoption (inputs before) e
   on_disk before old new before_is after_is (not_opened ends) =
       runs_row (inputs before) e
@@ -53,8 +52,8 @@ module _ (words : List (List ℕ)) (files : List Reading) (disks : List DiskStat
       runs_lines (inputs before) e
       (asked, entries, is, gives, record { old = old; new = new; before_is = before_is; after_is = after_is; holds = into })
 
-  over_it : (opens : List ℕ → DiskState → Type 0) (before : List DiskState) → IsOpenedBy opens (nth_word words 2) before
-      → EndsOverLedgers (is_strict asked) entries e before disks → RunsAdoption (inputs before) e
+  over_it : (opens : List ℕ → DiskState → Type 0) (before : List DiskState) → IsOpenedBy opens (ledger_word words) before
+      → EndsOverLedgers (may_make words) (is_strict asked) entries e before disks → RunsAdoption (inputs before) e
   over_it opens before opened (without_disk none left ends) = absurd (is_there before opened.disk opened.one none)
   over_it opens before opened (on_first_disk old new others before_is after_is ends) =
       let alone = lone_disk before opened.disk old others opened.one before_is in
@@ -63,12 +62,12 @@ module _ (words : List (List ℕ)) (files : List Reading) (disks : List DiskStat
 -- what was had over these files, and the disk that was opened
 record HadOver (opens : List ℕ → DiskState → Type 0) (o : OpenedByWords) (words : List (List ℕ)) (files : List Reading) (disks : List DiskState) (e : Ending) : Type 0 where
   pub before : List DiskState
-  pub disk_named : OpensDisk opens o.disks_before o.disks_after (nth_word words 2) before
+  pub disk_named : OpensDisk opens o.disks_before o.disks_after (ledger_word words) before
   pub runs : RunsAdoption (record { words = words; files = files; before = before; after = disks }) e
 
 had_into : (opens : List ℕ → DiskState → Type 0) (o : OpenedByWords) (words : List (List ℕ)) (files : List Reading) (disks : List DiskState) (e : Ending) (asked : AdoptTask)
     (entries : List LedgerEntry) → adoption_asked words ≡ Some (Ok asked) → GivesEntries asked files entries
-    → EndsInto opens o.disks_before o.disks_after (nth_word words 2) (is_strict asked) entries disks e → HadOver opens o words files disks e
+    → EndsInto opens o.disks_before o.disks_after (ledger_word words) (may_make words) (is_strict asked) entries disks e → HadOver opens o words files disks e
 had_into opens o words files disks e asked entries is gives (no_room same none ends) = record {
   before = [];
   disk_named = none_opened same;

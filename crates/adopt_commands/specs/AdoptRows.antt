@@ -1,6 +1,6 @@
 -- The table of answers of `ledger adopt`, `import` and `merge`: its rows, and when each comes
-use Rattle.std.specs.Prelude.{◌≡◌, ◌⊎◌, ℕ, Bool, false, Option, Some, None, List, [], ◌∷◌, Result, Ok, Err, codes}
-use Rattle.cut_disk.specs.State.{DiskState}
+use Rattle.std.specs.Prelude.{◌≡◌, ◌⊎◌, ℕ, Bool, true, false, Option, Some, None, List, [], ◌∷◌, Result, Ok, Err, codes}
+use Rattle.cut_disk.specs.State.{DiskState, Told}
 use Rattle.program_edge.specs.declared.input.InputFault.{InputFault}
 use Rattle.program_edge.specs.Rows.{Row, row_of, input_row, memory_row}
 use Rattle.program_edge.specs.Inputs.{Reading, ReadsWhole, Lacks}
@@ -9,7 +9,7 @@ use Rattle.key_campaign.specs.declared.entries.LedgerEntry.{LedgerEntry}
 use Rattle.key_campaign.specs.State.{LedgerState}
 use Rattle.campaign_commands.specs.declared.opening.NoLedgerCause.{NoLedgerCause}
 use Rattle.campaign_commands.specs.declared.opening.NoLedgerCause.TheVariants.{Store, BadEntry}
-use Rattle.campaign_commands.specs.Opening.{LedgerOpened, LacksLedger}
+use Rattle.campaign_commands.specs.Opening.{HasNoHeader, LedgerOpened, LacksLedger}
 use Rattle.ledger_commands.specs.EntryTexts.{held_entries}
 use Rattle.ledger_commands.specs.LedgerBytes.{cause_row, bad_entry_row}
 use Rattle.ledger_commands.specs.LedgerRows.{ReadsLedger, LacksLedgerFile, ledger_usage, ledger_value_text}
@@ -21,6 +21,7 @@ use Rattle.adopt_commands.specs.declared.tasks.EntryFile.{EntryFile}
 use Rattle.adopt_commands.specs.declared.tasks.EntryFile.TheVariants.{Backup, Ledger}
 use Rattle.adopt_commands.specs.AdoptTurns.{KeeperState}
 use Rattle.adopt_commands.specs.Adoptions.{EndsAdopting}
+use Rattle.adopt_commands.specs.StandingLedgers.{LacksStanding}
 
 -- ---- arguments
 
@@ -74,31 +75,44 @@ abbrev pub IsLedgerRow : NoLedgerCause → Row → Type 0
 IsLedgerRow (Store fault) row = IsStoreRow fault row
 IsLedgerRow (BadEntry bad) row = (row ≡ bad_entry_row bad) ⊎ (row ≡ memory_row)
 
--- why a disk gives no ledger, by what was known of it before and after
-abbrev pub RefusesLedger : DiskState → DiskState → Row → Type 0
-RefusesLedger before after row = (cause : NoLedgerCause) × LacksLedger before after cause × IsLedgerRow cause row
+-- why a disk gives no ledger, by what was known of it before and after. If none may be made there it was only read,
+-- and a blank disk gives none.
+abbrev pub LacksAsked : Bool → DiskState → DiskState → NoLedgerCause → Type 0
+LacksAsked true before after cause = LacksLedger before after cause
+LacksAsked false before after cause = LacksStanding before after cause
+
+abbrev pub RefusesLedger : Bool → DiskState → DiskState → Row → Type 0
+RefusesLedger may before after row =
+    (cause : NoLedgerCause) × LacksAsked may before after cause × IsLedgerRow cause row
+
+-- the disk isn't blank, if it tells its bytes
+abbrev pub IsNotBlank : DiskState → Type 0
+IsNotBlank disk = (t : Told) → disk.told ≡ Some t → HasNoHeader t.bytes → ⊥
 
 -- a ledger that is to take over entries, of which none was refused yet
 abbrev pub first_keeper : LedgerState → Bool → KeeperState
 first_keeper ledger strict = record { ledger = ledger; strict = strict; refused = false }
 
--- the ledger of the disk was opened, and taking over these entries ends so
-pub record AdoptsInto (strict : Bool) (entries : List LedgerEntry) (e : Ending) (old new : DiskState) : Type 0 where
+-- The ledger of the disk was opened, and taking over these entries ends so. If none may be made it stood there.
+pub record AdoptsInto (may strict : Bool) (entries : List LedgerEntry) (e : Ending) (old new : DiskState)
+    : Type 0 where
   pub opened : LedgerState
   pub left : KeeperState
   pub opens : LedgerOpened old opened
+  pub stood : may ≡ false → IsNotBlank old
   pub ends : EndsAdopting (first_keeper opened strict) entries left e
   pub handed_back : new ≡ left.ledger.store.disk
 
 -- how it ends over a disk: in a row, or in lines
-pub data EndsOnLedger (strict : Bool) (entries : List LedgerEntry) (e : Ending) (old new : DiskState) : Type 0 where
-  not_opened : EndsInRow (RefusesLedger old new) e → EndsOnLedger strict entries e old new
-  adopts_into : AdoptsInto strict entries e old new → EndsOnLedger strict entries e old new
+pub data EndsOnLedger (may strict : Bool) (entries : List LedgerEntry) (e : Ending) (old new : DiskState)
+    : Type 0 where
+  not_opened : EndsInRow (RefusesLedger may old new) e → EndsOnLedger may strict entries e old new
+  adopts_into : AdoptsInto may strict entries e old new → EndsOnLedger may strict entries e old new
 
 -- how it ends over these disks: in the row if there is none, or over the first; the others are as before
-pub data EndsOverLedgers (strict : Bool) (entries : List LedgerEntry) (e : Ending)
+pub data EndsOverLedgers (may strict : Bool) (entries : List LedgerEntry) (e : Ending)
     (before after : List DiskState) : Type 0 where
   without_disk : before ≡ [] → after ≡ [] → EndsInRow (λ row. row ≡ no_ledger_disk_row) e
-      → EndsOverLedgers strict entries e before after
+      → EndsOverLedgers may strict entries e before after
   on_first_disk : (old new : DiskState) (others : List DiskState) → before ≡ old ∷ others → after ≡ new ∷ others
-      → EndsOnLedger strict entries e old new → EndsOverLedgers strict entries e before after
+      → EndsOnLedger may strict entries e old new → EndsOverLedgers may strict entries e before after

@@ -1,8 +1,8 @@
 -- What `ledger adopt`, `import` and `merge` promise
-use Rattle.std.specs.Prelude.{◌≡◌, ◌⊎◌, ◌+◌, ◌*◌, ◌<◌, ℕ, Bool, if◌then◌else◌, All, Any, Option, Some, None, List, []}
+use Rattle.std.specs.Prelude.{◌≡◌, ◌⊎◌, ◌+◌, ◌*◌, ◌<◌, ℕ, Bool, false, if◌then◌else◌, All, Any, Option, Some, None, List, []}
 use Rattle.std.specs.Prelude.{◌∷◌, ◌++◌, length, Ok, Err, codes}
 use Rattle.std.specs.List.{list_any}
-use Rattle.cut_disk.specs.State.{DiskState}
+use Rattle.cut_disk.specs.State.{DiskState, Told}
 use Rattle.cut_disk.specs.Images.{EachImage, firm}
 use Rattle.cut_disk.specs.Calls.{Rose, Runs}
 use Rattle.program_edge.specs.Inputs.{Reading, ReadsWhole, SourceFailed, CountsFault, GivesTooMuch, CountsTooMuch}
@@ -16,7 +16,7 @@ use Rattle.key_campaign.specs.Entries.{with_change}
 use Rattle.key_campaign.specs.Campaign.{powered_ledger}
 use Rattle.key_campaign.specs.Claims.{KeepsEntries}
 use Rattle.key_campaign.specs.Adopting.{MakesAdopt}
-use Rattle.campaign_commands.specs.Opening.{calls_to_open, StandsForEntries, StartsFrom, TellsFirm, HasLedger}
+use Rattle.campaign_commands.specs.Opening.{calls_to_open, HasNoHeader, StandsForEntries, StartsFrom, TellsFirm, HasLedger}
 use Rattle.campaign_commands.specs.declared.opening.NoLedgerCause.{NoLedgerCause}
 use Rattle.campaign_commands.specs.Campaigns.{CountsNone, TellsNoLedger}
 use Rattle.ledger_commands.specs.LedgerBytes.{HoldsLedger}
@@ -29,10 +29,10 @@ use Rattle.adopt_commands.specs.declared.lines.AdoptLine.TheVariants.{Failed}
 use Rattle.adopt_commands.specs.declared.tasks.AdoptTask.{AdoptTask}
 use Rattle.adopt_commands.specs.declared.tasks.AdoptTask.TheVariants as adopt
 use Rattle.adopt_commands.specs.declared.tasks.EntryFile.TheVariants.{Backup, Ledger}
-use Rattle.adopt_commands.specs.AdoptTasks.{adoption_asked}
+use Rattle.adopt_commands.specs.AdoptTasks.{may_make, adoption_asked}
 use Rattle.adopt_commands.specs.AdoptTurns.{adopt_text, is_refused}
 use Rattle.adopt_commands.specs.Adoptions.{AdoptsEach, NoneLast, adopt_texts, WritesBefore}
-use Rattle.adopt_commands.specs.AdoptRows.{GivesEntries, LacksEntries, RefusesLedger}
+use Rattle.adopt_commands.specs.AdoptRows.{GivesEntries, LacksEntries, RefusesLedger, IsNotBlank}
 use Rattle.adopt_commands.specs.AdoptFiles.{is_strict}
 
 -- the arguments after `ledger`; what was known of the source of the file that was opened, if one was; and of the disk
@@ -131,7 +131,7 @@ pub data ComesToAdopt (i : AdoptInputs) : Row → Type 0 where
       → LacksEntries asked i.files row → OpensNoLedger i → ComesToAdopt i row
   no_disk_room : (asked : AdoptTask) (entries : List LedgerEntry) → adoption_asked i.words ≡ Some (Ok asked)
       → GivesEntries asked i.files entries → OpensNoLedger i → ComesToAdopt i memory_row
-  refused_disk : (row : Row) → OverEntries i (λ strict entries old new. RefusesLedger old new row)
+  refused_disk : (row : Row) → OverEntries i (λ strict entries old new. RefusesLedger (may_make i.words) old new row)
       → ComesToAdopt i row
 
 -- ---- how it ends
@@ -198,17 +198,29 @@ OffersEntries (adopt.One entry) files = Unit {0}
 OffersEntries (adopt.All Backup) files = All OffersBackup files
 OffersEntries (adopt.All Ledger) files = All OffersLedger files
 
--- the disk, if one was opened, tells a ledger, or none of its first 32 bytes is set, and its count didn't rise
+-- the disk, if one was opened, tells a ledger, or, if one may be made, none of its first 32 bytes is set; and its count
+-- didn't rise
 abbrev pub OffersLedgerDisk : AdoptInputs → Type 0
 OffersLedgerDisk i = (old new : DiskState) → i.before ≡ old ∷ [] → i.after ≡ new ∷ []
-    → HasLedger old × CountsNone old new
+    → HasLedger old × (may_make i.words ≡ false → IsNotBlank old) × CountsNone old new
+
+-- the disk tells its bytes, and none of the first 32 is set
+pub record IsBlankDisk (disk : DiskState) : Type 0 where
+  pub now : Told
+  pub told : disk.told ≡ Some now
+  pub blank : HasNoHeader now.bytes
+
+-- no ledger is made: a blank disk is refused, unless it failed, and its bytes stay
+pub record StaysBlank (e : Ending) (old new : DiskState) : Type 0 where
+  pub kept : new.told ≡ old.told
+  pub refused : CountsNone old new → MayEndIn 9 e
 
 -- the file of `merge` was read whole and has no ledger, or the disk has none: the first cause is printed
 abbrev pub RefusesLedgers : AdoptInputs → Ending → Type 0
 RefusesLedgers i e =
     ((row : Row) × Any (HasNoLedger row) i.files × OpensNoLedger i × PrintsWhole e row.text)
     ⊎ OverEntries i (λ strict entries old new.
-    (row : Row) × RefusesLedger old new row × PrintsWhole e row.text)
+    (row : Row) × RefusesLedger (may_make i.words) old new row × PrintsWhole e row.text)
 
 -- what is promised of these arguments, file and disk if it ends so, in the order of the table of answers
 pub record RunsAdoption (i : AdoptInputs) (e : Ending) : Type 0 where
@@ -241,12 +253,15 @@ pub record RunsAdoption (i : AdoptInputs) (e : Ending) : Type 0 where
   pub read_fault_only : Any CountsFault i.files → EndsIn 5 e
   pub too_long : e.status ≡ 8 → Any GivesTooMuch i.files × PrintsWhole e (codes "input too long\n")
   pub too_long_only : Any CountsTooMuch i.files → EndsIn 8 e
-  -- 9: the file of `merge` was read whole and has no ledger, or the disk has none. It comes if such a file is offered,
-  -- or such a disk.
+  -- 9: the file of `merge` was read whole and has no ledger, or the disk has none, of which a blank one is taken with
+  -- `--new`. It comes if such a file is offered, or such a disk.
   pub no_ledger : e.status ≡ 9 → RefusesLedgers i e
   pub no_ledger_only : adoption_asked i.words ≡ Some (Ok (adopt.All Ledger)) → Any OffersNone i.files → MayEndIn 9 e
   pub no_disk_only : (old new : DiskState) (cause : NoLedgerCause) → i.before ≡ old ∷ [] → i.after ≡ new ∷ []
       → TellsNoLedger cause old new → MayEndIn 9 e
+  -- Without `--new` no ledger is made: a blank disk stays blank, and is refused with 9, or 10 if it failed.
+  pub none_made : may_make i.words ≡ false → (old new : DiskState) → i.before ≡ old ∷ [] → i.after ≡ new ∷ []
+      → IsBlankDisk old → StaysBlank e old new
   -- 2 to 5 and 8: no disk was opened, so no file was made.
   pub unopened : (e.status ≡ 2) ⊎ (e.status ≡ 3) ⊎ (e.status ≡ 4) ⊎ (e.status ≡ 5) ⊎ (e.status ≡ 8) → OpensNoLedger i
   -- 6: exactly if the sink's count of faults rose.

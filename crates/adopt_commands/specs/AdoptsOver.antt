@@ -3,10 +3,9 @@ use Rattle.std.specs.Prelude.{◌≡◌, ℕ, List, [], ◌∷◌, ◌++◌}
 use Rattle.bus_port.specs.Source.{SourceState}
 use Rattle.cut_disk.specs.State.{DiskState}
 use Rattle.file_disk.specs.NamedDisks.{IsOpenedBy, OpenedByWords}
-use Rattle.text_lines.specs.Readings.{nth_word}
 use Rattle.program_edge.specs.Endings.{Ending}
 use Rattle.ledger_commands.specs.Named.{OverAllNamed}
-use Rattle.adopt_commands.specs.AdoptFiles.{adoption_files}
+use Rattle.adopt_commands.specs.AdoptFiles.{adoption_files, ledger_word}
 use Rattle.adopt_commands.specs.AdoptRuns.{RunsAdoption}
 
 -- no disk was opened; or the one that this argument opens, once, which tells its bytes, none of them loose
@@ -16,13 +15,13 @@ pub data OpensDisk (opens : List ℕ → DiskState → Type 0) (before after : L
   one_opened : (disks : List DiskState) → IsOpenedBy opens word disks → after ≡ before ++ word ∷ []
       → OpensDisk opens before after word disks
 
--- All that is promised was had over the file that the third argument names, if a backup or another ledger is taken
--- over, and over the disk that the second names. Each was opened at most once, and no other; they were left as those
--- that are handed back.
+-- All that is promised was had over the file that the argument after the ledger names, if a backup or another ledger is
+-- taken over, and over the disk that the ledger's argument names. Each was opened at most once, and no other; they were
+-- left as those that are handed back.
 pub record AdoptsOver (opens : List ℕ → SourceState → Type 0) (disk_opens : List ℕ → DiskState → Type 0)
     (o : OpenedByWords) (words : List (List ℕ)) (left : List SourceState) (disks : List DiskState)
     (e : Ending) : Type 0 where
   pub before : List DiskState
-  pub disk_named : OpensDisk disk_opens o.disks_before o.disks_after (nth_word words 2) before
+  pub disk_named : OpensDisk disk_opens o.disks_before o.disks_after (ledger_word words) before
   pub over_files : OverAllNamed opens o.before o.after (adoption_files words) left
       (λ files. RunsAdoption (record { words = words; files = files; before = before; after = disks }) e)

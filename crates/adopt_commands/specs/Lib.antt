@@ -1,4 +1,5 @@
 pub mod AdoptTasks
+pub mod StandingLedgers
 pub mod AdoptTurns
 pub mod Adoptions
 pub mod AdoptRows

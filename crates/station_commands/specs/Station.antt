@@ -1,5 +1,5 @@
 -- What the arguments of `station` ask for, and what a run promises
-use Rattle.std.specs.Prelude.{◌≡◌, ℕ, Bool, List, Option, Some, None, if◌then◌else◌, ◌||◌, bytes_eq, codes}
+use Rattle.std.specs.Prelude.{◌≡◌, ◌⊎◌, ℕ, Bool, true, List, Option, Some, None, if◌then◌else◌, ◌||◌, bytes_eq, codes}
 use Rattle.std.specs.Prelude.{drop, map, option_map}
 use Rattle.bus_port.specs.Source.{SourceState}
 use Rattle.cut_disk.specs.State.{DiskState}
@@ -19,6 +19,7 @@ use Rattle.bus_store_commands.specs.MakesUnitStore.{MakesUnitStore}
 use Rattle.ledger_commands.specs.LedgerRows.{words_named}
 use Rattle.ledger_commands.specs.LedgerReads.{ReadsLedgerFiles}
 use Rattle.ledger_commands.specs.Named.{OverAllNamed}
+use Rattle.adopt_commands.specs.AdoptTasks.{may_make}
 use Rattle.adopt_commands.specs.AdoptsOver.{AdoptsOver}
 use Rattle.keyfile_commands.specs.Calls.{first_file, second_file}
 use Rattle.keyfile_commands.specs.KeyFilesRuns.{KeyFilesRuns}
@@ -55,6 +56,13 @@ part_named word next checks_over_bus =
 
 abbrev pub part_of : List (List ℕ) → Option StationPart
 part_of words = part_named (nth_word words 1) (nth_word words 2) (asks_over_bus (codes "check") (drop 1 words))
+
+-- the arguments with which a file may be made: `slots make` and `grow`, and `ledger adopt`, `import` and `merge` with
+-- `--new`
+abbrev pub MayMakeFile : List (List ℕ) → Type 0
+MayMakeFile words =
+    (part_of words ≡ Some Making) ⊎ (part_of words ≡ Some Growth)
+    ⊎ ((part_of words ≡ Some Adoption) × (may_make (drop 1 words) ≡ true))
 
 -- What is promised of these arguments after the first, of a run that left such sources and disks: all that the part
 -- promises, over the files and disks that they name, each opened once, and no other. For no part the usage line was

@@ -3,7 +3,7 @@ ghost use Rattle.std.specs.Prelude.{◌≡◌, drop, map as each, string_bytes, 
 ghost use Rattle.program_edge.specs.NamedSources.{word_source, openings};
 ghost use Rattle.program_edge.specs.Told.{EndingTold};
 ghost use Rattle.station_commands.specs.Station.{part_named, part_of, slot_part, ledger_part, RunsStation};
-ghost use Rattle.station_commands.specs.Station.{station_usage};
+ghost use Rattle.station_commands.specs.Station.{station_usage, MayMakeFile};
 
 use adopt_commands::adopts_words;
 use bus_port::{Sink, Source};
@@ -59,7 +59,7 @@ pub enum StationFiles<O: Source, I: Source, D: CutDisk> {
 /// Runs what the arguments ask for over the files that they name. It gives the status that the program ends with, and
 /// the sources of the files and the disks as the run left them. `-` names the input, which is taken then; a second `-`
 /// is a missing source. If the first argument is another one nothing is opened, and the status is 2, or 6 if the sink
-/// failed.
+/// failed. Only `slots make` and `grow`, and `ledger` with `--new`, may make a file.
 pub fn station_words<O: Opener, P: DiskOpener, I: Source + Drop, K: Sink>(
     alloc: Global,
     opener: &mut O,
@@ -68,7 +68,7 @@ pub fn station_words<O: Opener, P: DiskOpener, I: Source + Drop, K: Sink>(
     words: &[String],
     sink: &mut K,
 ) -> (u8, StationFiles<O::Opened, I, P::Opened>)
-    ensures { RunsStation (O.opens opener.old) (P.opens disk_opener.old) (word_source O.Opened.state I.state)
+    ensures promises { RunsStation (O.opens opener.old) (P.opens disk_opener.old) (word_source O.Opened.state I.state)
         P.Opened.state (each string_bytes words.now)
         (record {
           before = openings (O.opened opener.old) (option_map I.state input.old);
@@ -77,6 +77,7 @@ pub fn station_words<O: Opener, P: DiskOpener, I: Source + Drop, K: Sink>(
           disks_after = P.opened disk_opener.new;
         })
         result.1 (record { before = K.state sink.old; after = K.state sink.new; status = result.0 }) }
+    ensures none_made { ¬ MayMakeFile (each string_bytes words.now) → P.made disk_opener.new ≡ P.made disk_opener.old }
 {
     let rest = after_part(words);
     let Some(part) = part_of(words) else {

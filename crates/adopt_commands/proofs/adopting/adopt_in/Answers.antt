@@ -9,7 +9,7 @@ use Rattle.adopt_commands.proofs.AdoptEnds.{ends_adopting, keeper_is}
 use Rattle.adopt_commands.proofs.adopting.adopt_in.Goals as goal
 
 pub returns : goal.returns
-returns g c = λ before opened.
+returns g c = λ before may opened stood.
     let printed = c.print_run_until_last-printed in
     let left : KeeperState = record {
       ledger = printed.new.machine.ledger;
@@ -30,6 +30,7 @@ returns g c = λ before opened.
       opened = c.args.ledger;
       left = left;
       opens = opened;
+      stood = stood;
       ends = subst (λ (n : ℕ). EndsAdopting (first_keeper c.args.ledger c.args.strict) c.args.entries.now left
           (record { before = g.K.Sink.state c.args.sink.now; after = g.K.Sink.state printed.new.sink; status = n })) (sym status) ends;
       handed_back = c.release-2.ensures ∙ ap (λ (s : CellsState). s.disk) c.release.ensures;

@@ -2,10 +2,10 @@ use Rattle.std.proofs.Common.{map, ap}
 use Rattle.adopt_commands.specs.AdoptFiles.{no_room, over_disk}
 use Rattle.adopt_commands.proofs.start.adopt_into.Goals as goal
 
-pub returns-in-Ok : goal.returns-in-Ok
-returns-in-Ok g c = over_disk (map g.P.Opened.Disk.state c.in-Ok.opened.items) c.in-Ok.ensures.disk c.in-Ok.ensures.noted c.adopt_over-status.ensures
+pub returns-in-Ok-clause-ends : goal.returns-in-Ok-clause-ends
+returns-in-Ok-clause-ends g c = over_disk (map g.P.Opened.Disk.state c.in-Ok.opened.items) c.in-Ok.ensures.disk c.in-Ok.ensures.noted c.adopt_over-status.ensures
 
-pub returns-in-Err : goal.returns-in-Err
-returns-in-Err g c =
+pub returns-in-Err-clause-ends : goal.returns-in-Err-clause-ends
+returns-in-Err-clause-ends g c =
     no_room c.in-Err.ensures.unopened (ap (map g.P.Opened.Disk.state) c.new-no_disk.ensures.items)
     (record { row = c.no_memory-refusal.result; comes = c.no_memory-refusal.ensures; told = c.tell_refusal.ensures })

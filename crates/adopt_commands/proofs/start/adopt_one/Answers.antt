@@ -2,7 +2,7 @@ use Rattle.std.proofs.Common.{refl, map, ap}
 use Rattle.adopt_commands.specs.AdoptFiles.{no_room}
 use Rattle.adopt_commands.proofs.start.adopt_one.Goals as goal
 
-pub returns-in-Err : goal.returns-in-Err
-returns-in-Err g c =
+pub returns-in-Err-clause-ends : goal.returns-in-Err-clause-ends
+returns-in-Err-clause-ends g c =
     no_room refl (ap (map g.P.Opened.Disk.state) c.new-no_disk.ensures.items)
     (record { row = c.in-Err.refusal; comes = c.in-Err.ensures.refused; told = c.tell_refusal.ensures })

@@ -1,14 +1,16 @@
-use Rattle.std.proofs.Common.{◌≡◌, Some, None, map, refl, rules}
+use Rattle.std.proofs.Common.{◌≡◌, ◌∙◌, Some, None, map, drop, refl, ap, inl, inr, rules}
+use Rattle.std.proofs.lemmas.Bool.{cases_Bool}
 use Rattle.std.specs.Prelude.{string_bytes, option_map}
 use Rattle.program_edge.specs.NamedSources.{word_source, openings}
 use Rattle.station_commands.specs.declared.run.StationPart.TheVariants.{Slots, BusCheck, Making, Growth, Ledger, Adoption, Key}
 use Rattle.station_commands.specs.declared.run.StationFiles.TheVariants.{Store, StoreAndBus, Made, Grown, Ledgers, Adopted, Keys, Nothing}
+use Rattle.adopt_commands.specs.AdoptTasks.{may_make}
 use Rattle.station_commands.specs.Station.{part_of}
 use Rattle.station_commands.proofs.Parts.{of_part}
 use Rattle.station_commands.proofs.run.station_words.Goals as goal
 
-pub returns-in_default : goal.returns-in_default
-returns-in_default g c =
+pub returns-in_default-clause-promises : goal.returns-in_default-clause-promises
+returns-in_default-clause-promises g c =
     let part_is : None ≡ part_of (map string_bytes c.args.words.now) = search rules in
     of_part (g.O.Opener.opens c.args.opener.now) (g.P.DiskOpener.opens c.args.disk_opener.now) (word_source g.O.Opened.Source.state g.I.Source.state)
     g.P.Opened.Disk.state (map string_bytes c.args.words.now) (map string_bytes c.after_part-rest.result.now)
@@ -22,8 +24,8 @@ returns-in_default g c =
     (record { before = g.K.Sink.state c.args.sink.now; after = g.K.Sink.state c.tell_usage-status.new.sink; status = c.tell_usage-status.result })
     part_is c.after_part-rest.ensures (record { sources = refl; disks = refl }, c.tell_usage-status.ensures)
 
-pub returns-in-Slots : goal.returns-in-Slots
-returns-in-Slots g c =
+pub returns-in-Slots-clause-promises : goal.returns-in-Slots-clause-promises
+returns-in-Slots-clause-promises g c =
     let part_is : Some Slots ≡ part_of (map string_bytes c.args.words.now) = cc (c.in-Some.ensures, c.in-Slots.is) in
     of_part (g.O.Opener.opens c.args.opener.now) (g.P.DiskOpener.opens c.args.disk_opener.now) (word_source g.O.Opened.Source.state g.I.Source.state)
     g.P.Opened.Disk.state (map string_bytes c.args.words.now) (map string_bytes c.after_part-rest.result.now)
@@ -37,8 +39,8 @@ returns-in-Slots g c =
     (record { before = g.K.Sink.state c.args.sink.now; after = g.K.Sink.state c.slots_words-status.new.sink; status = c.slots_words-status.result.0 })
     part_is c.after_part-rest.ensures (c.slots_words-status.ensures, refl)
 
-pub returns-in-BusCheck : goal.returns-in-BusCheck
-returns-in-BusCheck g c =
+pub returns-in-BusCheck-clause-promises : goal.returns-in-BusCheck-clause-promises
+returns-in-BusCheck-clause-promises g c =
     let part_is : Some BusCheck ≡ part_of (map string_bytes c.args.words.now) = cc (c.in-Some.ensures, c.in-BusCheck.is) in
     of_part (g.O.Opener.opens c.args.opener.now) (g.P.DiskOpener.opens c.args.disk_opener.now) (word_source g.O.Opened.Source.state g.I.Source.state)
     g.P.Opened.Disk.state (map string_bytes c.args.words.now) (map string_bytes c.after_part-rest.result.now)
@@ -52,8 +54,8 @@ returns-in-BusCheck g c =
     (record { before = g.K.Sink.state c.args.sink.now; after = g.K.Sink.state c.bus_check_words-status.new.sink; status = c.bus_check_words-status.result.0 })
     part_is c.after_part-rest.ensures (c.bus_check_words-status.ensures, refl)
 
-pub returns-in-Making : goal.returns-in-Making
-returns-in-Making g c =
+pub returns-in-Making-clause-promises : goal.returns-in-Making-clause-promises
+returns-in-Making-clause-promises g c =
     let part_is : Some Making ≡ part_of (map string_bytes c.args.words.now) = cc (c.in-Some.ensures, c.in-Making.is) in
     of_part (g.O.Opener.opens c.args.opener.now) (g.P.DiskOpener.opens c.args.disk_opener.now) (word_source g.O.Opened.Source.state g.I.Source.state)
     g.P.Opened.Disk.state (map string_bytes c.args.words.now) (map string_bytes c.after_part-rest.result.now)
@@ -67,8 +69,8 @@ returns-in-Making g c =
     (record { before = g.K.Sink.state c.args.sink.now; after = g.K.Sink.state c.make_words-status.new.sink; status = c.make_words-status.result.0 })
     part_is c.after_part-rest.ensures c.make_words-status.ensures
 
-pub returns-in-Growth : goal.returns-in-Growth
-returns-in-Growth g c =
+pub returns-in-Growth-clause-promises : goal.returns-in-Growth-clause-promises
+returns-in-Growth-clause-promises g c =
     let part_is : Some Growth ≡ part_of (map string_bytes c.args.words.now) = cc (c.in-Some.ensures, c.in-Growth.is) in
     of_part (g.O.Opener.opens c.args.opener.now) (g.P.DiskOpener.opens c.args.disk_opener.now) (word_source g.O.Opened.Source.state g.I.Source.state)
     g.P.Opened.Disk.state (map string_bytes c.args.words.now) (map string_bytes c.after_part-rest.result.now)
@@ -82,8 +84,8 @@ returns-in-Growth g c =
     (record { before = g.K.Sink.state c.args.sink.now; after = g.K.Sink.state c.grow_words-status.new.sink; status = c.grow_words-status.result.0 })
     part_is c.after_part-rest.ensures c.grow_words-status.ensures
 
-pub returns-in-Ledger : goal.returns-in-Ledger
-returns-in-Ledger g c =
+pub returns-in-Ledger-clause-promises : goal.returns-in-Ledger-clause-promises
+returns-in-Ledger-clause-promises g c =
     let part_is : Some Ledger ≡ part_of (map string_bytes c.args.words.now) = cc (c.in-Some.ensures, c.in-Ledger.is) in
     of_part (g.O.Opener.opens c.args.opener.now) (g.P.DiskOpener.opens c.args.disk_opener.now) (word_source g.O.Opened.Source.state g.I.Source.state)
     g.P.Opened.Disk.state (map string_bytes c.args.words.now) (map string_bytes c.after_part-rest.result.now)
@@ -97,8 +99,8 @@ returns-in-Ledger g c =
     (record { before = g.K.Sink.state c.args.sink.now; after = g.K.Sink.state c.ledgers_words-status.new.sink; status = c.ledgers_words-status.result.0 })
     part_is c.after_part-rest.ensures (c.ledgers_words-status.ensures, refl)
 
-pub returns-in-Adoption : goal.returns-in-Adoption
-returns-in-Adoption g c =
+pub returns-in-Adoption-clause-promises : goal.returns-in-Adoption-clause-promises
+returns-in-Adoption-clause-promises g c =
     let part_is : Some Adoption ≡ part_of (map string_bytes c.args.words.now) = cc (c.in-Some.ensures, c.in-Adoption.is) in
     of_part (g.O.Opener.opens c.args.opener.now) (g.P.DiskOpener.opens c.args.disk_opener.now) (word_source g.O.Opened.Source.state g.I.Source.state)
     g.P.Opened.Disk.state (map string_bytes c.args.words.now) (map string_bytes c.after_part-rest.result.now)
@@ -110,10 +112,10 @@ returns-in-Adoption g c =
     })
     (Some Adoption) (Adopted c.adopts_words-status.result.1 c.adopts_words-status.result.2)
     (record { before = g.K.Sink.state c.args.sink.now; after = g.K.Sink.state c.adopts_words-status.new.sink; status = c.adopts_words-status.result.0 })
-    part_is c.after_part-rest.ensures c.adopts_words-status.ensures
+    part_is c.after_part-rest.ensures c.adopts_words-status.ensures.promises
 
-pub returns-in-Key : goal.returns-in-Key
-returns-in-Key g c =
+pub returns-in-Key-clause-promises : goal.returns-in-Key-clause-promises
+returns-in-Key-clause-promises g c =
     let part_is : Some Key ≡ part_of (map string_bytes c.args.words.now) = cc (c.in-Some.ensures, c.in-Key.is) in
     of_part (g.O.Opener.opens c.args.opener.now) (g.P.DiskOpener.opens c.args.disk_opener.now) (word_source g.O.Opened.Source.state g.I.Source.state)
     g.P.Opened.Disk.state (map string_bytes c.args.words.now) (map string_bytes c.after_part-rest.result.now)
@@ -126,3 +128,23 @@ returns-in-Key g c =
     (Some Key) (Keys c.keyfile_words-status.result.1 c.keyfile_words-status.result.2)
     (record { before = g.K.Sink.state c.args.sink.now; after = g.K.Sink.state c.keyfile_words-status.new.sink; status = c.keyfile_words-status.result.0 })
     part_is c.after_part-rest.ensures (c.keyfile_words-status.ensures, refl)
+
+-- ---- no file is made but by `slots make` and with `--new`
+
+pub returns-in-Making-clause-none_made : goal.returns-in-Making-clause-none_made
+returns-in-Making-clause-none_made g c not =
+    let part_is : part_of (map string_bytes c.args.words.now) ≡ Some Making = cc (c.in-Some.ensures, c.in-Making.is) in
+    absurd (not (inl part_is))
+
+pub returns-in-Growth-clause-none_made : goal.returns-in-Growth-clause-none_made
+returns-in-Growth-clause-none_made g c not =
+    let part_is : part_of (map string_bytes c.args.words.now) ≡ Some Growth = cc (c.in-Some.ensures, c.in-Growth.is) in
+    absurd (not (inr (inl part_is)))
+
+pub returns-in-Adoption-clause-none_made : goal.returns-in-Adoption-clause-none_made
+returns-in-Adoption-clause-none_made g c not =
+    let part_is : part_of (map string_bytes c.args.words.now) ≡ Some Adoption = cc (c.in-Some.ensures, c.in-Adoption.is) in
+    elim (cases_Bool (may_make (drop 1 (map string_bytes c.args.words.now)))) [
+      | inl may ↦ absurd (not (inr (inr (part_is, may))))
+      | inr none ↦ c.adopts_words-status.ensures.none_made (ap may_make c.after_part-rest.ensures ∙ none)
+    ]
