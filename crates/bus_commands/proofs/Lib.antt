@@ -21,3 +21,4 @@ pub mod OneRun
 pub mod Doing
 pub mod Summed
 pub mod OfWords
+pub mod NodeEnds

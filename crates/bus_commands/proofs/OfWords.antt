@@ -26,12 +26,12 @@ use Rattle.bus_commands.specs.declared.words.Command.TheVariants.{World}
 use Rattle.bus_commands.specs.declared.words.WorldCommand.{WorldCommand}
 use Rattle.bus_commands.specs.declared.words.WorldCommand.TheVariants.{Replay, Trial}
 use Rattle.bus_commands.specs.Words.{Asks, AsksNothing, NamesDisk}
-use Rattle.bus_commands.specs.Inputs.{start_of, OverWorld, SetsWorld}
-use Rattle.bus_commands.specs.StartRows.{CommandDisks, disks_between}
+use Rattle.bus_commands.specs.Inputs.{start_of, OverWorld, OverReplayOf, SetsWorld}
+use Rattle.bus_commands.specs.StartRows.{disks_between}
 use Rattle.bus_commands.specs.Rows.{DoneReplay, ReplaysScript}
-use Rattle.bus_commands.specs.Commands.{TellFirm, RunsBus}
-use Rattle.bus_commands.specs.Named.{RunsOver, AreGiven, made_disks, RunsGiven, NodeIsRun, RunsOpened}
-use Rattle.bus_commands.specs.Named.{RunsNamed, ran_in_memory, ran_over_disk, wanted_disks}
+use Rattle.bus_commands.specs.Commands.{TellFirm}
+use Rattle.bus_commands.specs.Named.{RunsOver, AreGiven, RunsGiven, NodeIsRun, RunsOpened}
+use Rattle.bus_commands.specs.Named.{RunsNamed, ran_in_memory, ran_over_disk, refused_node, wanted_disks}
 use Rattle.bus_commands.proofs.Asking.{asks_one, same_start}
 use Rattle.bus_commands.proofs.AskedWords.{names_node}
 use Rattle.bus_commands.proofs.Headlines.{written_run}
@@ -110,20 +110,30 @@ module _ (i : BusInputs) (d : DiskStates) (e : Ending) (result : Result (Unit {0
       let same = asks_one i.words (World (Replay how)) (World (Replay Attach)) set.asks asks in
       done_run how bus events (same_start how Attach same) set done
 
+-- the statuses of a bus that is started, or isn't for want of a store
+abbrev pub EndsStarted : ℕ → Type 0
+EndsStarted n = (n ≡ 0) ⊎ (n ≡ 6) ⊎ (n ≡ 7) ⊎ (n ≡ 9) ⊎ (n ≡ 10)
+
+started_no_refusal : (n : ℕ) → EndsStarted n → (n ≡ 2) ⊎ ((3 ≤ n) × (n ≤ 5)) ⊎ (n ≡ 8) → ⊥
+started_no_refusal n is refused = omega (arith, is, refused)
+
 module _ {D : Type 0} (state : D → DiskState) (opens : List ℕ → SourceState → Type 0)
     (opens_disk : List ℕ → DiskState → Type 0) (o : OpenedByWords) (back : SourcesBack) (left : Vec D Global)
     (words : List (List ℕ)) (e : Ending) where
   pub runs_opened : (name : List ℕ) (disks : Vec D Global) → NamesDisk words name
       → IsOpenedBy opens_disk name (map state disks.items) → o.disks_after ≡ o.disks_before ++ name ∷ []
-      → RunsOver opens o.before o.after back words (disks_between state disks left) e
+      → (over : RunsOver opens o.before o.after back words (disks_between state disks left) e)
+      → OverReplayOf Attach (inputs_had over) (λ bus events. IsNamedBus bus) → EndsStarted e.status
       → RunsOpened state opens opens_disk o back left words e
-  runs_opened name disks names opened once over = record {
+  runs_opened name disks names opened once over valid statuses = record {
     name = name;
     disk_named = names;
     disks = disks;
     opened = opened;
     opened_once = once;
     over = over;
+    valid = valid;
+    statuses = statuses;
     one_run = λ result. node_run (inputs_had over) _ e result opened.disk opened.one opened.tells (names_node words name names);
   }
 
@@ -132,6 +142,7 @@ module _ {D : Type 0} (state : D → DiskState) (opens : List ℕ → SourceStat
   pub words_usage : RunsNamed state opens opens_disk o back left words e → e.status ≡ 2 → AsksNothing words
   words_usage (ran_in_memory none empty ran) two = (ran.over.over.has.0.inputs.usage_told two).0
   words_usage (ran_over_disk ran) two = (ran.over.over.has.0.inputs.usage_told two).0
+  words_usage (refused_node ran) two = absurd (let no : ⊥ = omega (arith, ran.statuses.0, two) in no)
   words_usage (wanted_disks none empty wants) two =
       absurd (let no : ⊥ = omega (arith, wants.wants.status_is, two) in no)
 
@@ -139,6 +150,7 @@ module _ {D : Type 0} (state : D → DiskState) (opens : List ℕ → SourceStat
       → (e.status ≡ 2) ⊎ (e.status ≡ 6)
   words_usage_only (ran_in_memory none empty ran) nothing = ran.over.over.has.0.inputs.usage_only nothing
   words_usage_only (ran_over_disk ran) nothing = ran.over.over.has.0.inputs.usage_only nothing
+  words_usage_only (refused_node ran) nothing = absurd (nothing (World (Replay Attach)) ran.asks)
   words_usage_only (wanted_disks none empty wants) nothing = absurd (nothing (World wants.asks.0) wants.asks.1)
 
   pub words_start : RunsNamed state opens opens_disk o back left words e → (e.status ≡ 9) ⊎ (e.status ≡ 10)
@@ -146,5 +158,14 @@ module _ {D : Type 0} (state : D → DiskState) (opens : List ℕ → SourceStat
   words_start (ran_in_memory none empty ran) refused =
       absurd (given_starts opens o.before o.after back words e ran refused)
   words_start (ran_over_disk ran) refused = names_node words ran.name ran.disk_named
+  words_start (refused_node ran) refused = ran.asks
   words_start (wanted_disks none empty wants) refused =
       absurd (let no : ⊥ = omega (arith, wants.wants.status_is, refused) in no)
+
+  -- a status that refuses arguments or inputs
+  pub words_no_disk : RunsNamed state opens opens_disk o back left words e
+      → (e.status ≡ 2) ⊎ ((3 ≤ e.status) × (e.status ≤ 5)) ⊎ (e.status ≡ 8) → o.disks_after ≡ o.disks_before
+  words_no_disk (ran_in_memory none empty ran) refused = none
+  words_no_disk (ran_over_disk ran) refused = absurd (started_no_refusal e.status ran.statuses refused)
+  words_no_disk (refused_node ran) refused = ran.not_opened
+  words_no_disk (wanted_disks none empty wants) refused = none

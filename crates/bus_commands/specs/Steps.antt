@@ -1,7 +1,9 @@
 -- What the steps of the work say to one another.
-use Rattle.std.specs.Prelude.{◌≡◌, ℕ, ◌≤◌, List, ◌++◌, All, Result, Ok, Err, Vec}
+use Rattle.std.specs.Prelude.{◌≡◌, ℕ, ◌≤◌, List, [], ◌∷◌, ◌++◌, map, All, Result, Ok, Err, Vec}
 use Rattle.std.specs.List.{flat_map}
 use Rattle.std.specs.declared.alloc.Global.{Global}
+use Rattle.cut_disk.specs.State.{DiskState}
+use Rattle.file_disk.specs.NamedDisks.{IsOpenedBy}
 use Rattle.secured_pdu.specs.Frame.{IsPayload}
 use Rattle.secoc_words.specs.declared.frames.FrameLine.{FrameLine}
 use Rattle.secoc_words.specs.declared.judges.JudgeLine.{JudgeLine}
@@ -157,3 +159,14 @@ pub data AnswersReplay (same : Type 0) (start : Start) (bus : NamedBus) (events 
 abbrev pub AnswersWorld : Type 0 → WorldCommand → NamedBus → List Event → DiskStates → Ending → Type 0
 AnswersWorld same (Replay start) bus events d e = AnswersReplay same start bus events d e
 AnswersWorld same (Trial trial) bus events d e = EndsInRow (AnswersTrial same bus events d) e
+
+-- The second phase of `node` over the disk that a word names: it was opened, once, and the bus ran over it. Or there
+-- was no memory for it: none was opened, and nothing was written.
+pub data DoesNamed {D : Type 0} (state : D → DiskState) (opens : List ℕ → DiskState → Type 0)
+    (before after : List (List ℕ)) (word : List ℕ) (job : WorldJob) (left : Vec D Global) (e : Ending) : Type 0 where
+  over_disk : (disks : Vec D Global) → IsOpenedBy opens word (map state disks.items) → after ≡ before ++ word ∷ []
+      → AnswersWorld (left ≡ disks) job.command job.bus job.events.items
+      (record { before = map state disks.items; after = map state left.items }) e
+      → DoesNamed state opens before after word job left e
+  no_disk : after ≡ before → left.items ≡ [] → e.status ≡ 7 → e.after ≡ e.before
+      → DoesNamed state opens before after word job left e

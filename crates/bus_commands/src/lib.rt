@@ -4,8 +4,8 @@
 //! [`run::run`] is all of it. The record `RunsCommand` says what each status means and what is printed. `RunsMachine`
 //! is the headline: what a replay, `node` or a trial did is one run of the machine, with all of `HeadlineRun`. It
 //! speaks of disks that tell their bytes, for `node` without a loose one. [`start::bus_words`] judges the arguments
-//! once, by [`words::command_line`]. It opens the sources and the disk that they name, or makes disks in memory, and
-//! promises both records.
+//! once, by [`words::command_line`]. It opens the sources that they name, and then the disk, or makes disks in memory,
+//! and promises both records. Inputs that are refused open no disk.
 #![tactic(auto)]
 
 mod events;

@@ -159,7 +159,7 @@ fn lines_job<S: Source, T: Source>(
 }
 
 /// The job of a command that runs a bus.
-fn world_job<S: Source, T: Source>(
+pub(crate) fn world_job<S: Source, T: Source>(
     alloc: Global,
     command: WorldCommand,
     config: &mut S,
@@ -208,7 +208,7 @@ fn do_lines<K: Sink>(alloc: Global, job: &LineJob, sink: &mut K) -> u8
 }
 
 /// The second phase over disks: the bus runs.
-fn do_world<K: Sink, D: CutDisk>(
+pub(crate) fn do_world<K: Sink, D: CutDisk>(
     alloc: Global,
     job: &WorldJob,
     sink: &mut K,

@@ -18,7 +18,7 @@ use Rattle.rathonsi_c.specs.Growing.{FoundAfter, PlansCell}
 use Rattle.rathonsi_c.specs.Stores.{IsWhole}
 use Rattle.rathonsi_c.proofs.GrowthLaws.{cell_within, head_within}
 
-abbrev Head : ℕ → List ℕ → Type 0
+abbrev pub Head : ℕ → List ℕ → Type 0
 Head n x = HasHeader (twin_layout One) n x
 
 -- ---- what is erased holds no cell
@@ -46,7 +46,7 @@ cell-none x j b room same none =
     let two = one_byte x j b room same in
     ap (λ c. cell_of c (part (second_at j) 34 x)) two.0 ∙ (ap (cell_of (replicate 34 b)) two.1 ∙ none)
 
-not_erased : (x : List ℕ) (k : ℕ) → twin_size (k + 2) ≤ length x → IsSome (cell_at x (k + 1)) → IsErasedAfter x k → ⊥
+pub not_erased : (x : List ℕ) (k : ℕ) → twin_size (k + 2) ≤ length x → IsSome (cell_at x (k + 1)) → IsErasedAfter x k → ⊥
 not_erased x k room some erased =
     let gone : cell_at x (k + 1) ≡ None = elim erased [
       | inl zeros ↦ cell-none x (k + 1) 0 (omega (arith, room)) zeros none-zeros
@@ -56,7 +56,7 @@ not_erased x k room some erased =
 
 -- ---- what a power-up finds within the growth of cell i
 
-some-cell : (o : Option (List ℕ)) (c : List ℕ) → o ≡ Some c → IsSome o
+pub some-cell : (o : Option (List ℕ)) (c : List ℕ) → o ≡ Some c → IsSome o
 some-cell o c e = subst (λ (p : Option (List ℕ)). IsSome p) (sym e) refl
 
 -- every cell before it, and the old number of cells or the new cell

@@ -11,6 +11,7 @@ pub mod PieceLaws
 pub mod StepLaws
 pub mod GrowthLaws
 pub mod GrowthCalls
+pub mod GrowthAll
 pub mod OpeningLaws
 pub mod LookLaws
 pub mod SlotLaws

@@ -1,8 +1,9 @@
 -- A store that gets the cell of one route more, by a software update; and the size of a store by its first 32 bytes.
-use Rattle.std.specs.Prelude.{ℤ, ◌≡◌, ℕ, zero, suc, ◌+◌, ◌<◌, ◌≤◌, ◌⊎◌, List, ◌++◌, length}
+use Rattle.std.specs.Prelude.{ℤ, ◌≡◌, ℕ, zero, suc, ◌+◌, ◌<◌, ◌≤◌, ◌⊎◌, IsSome, List, ◌++◌, length}
 use Rattle.cell_store.specs.declared.kinds.Version.TheVariants.{One}
 use Rattle.cell_store.specs.Layout.{twin_layout, header}
-use Rattle.cell_store.specs.Twin.{twin_size}
+use Rattle.cell_store.specs.Twin.{twin_size, cell_at}
+use Rattle.cell_store.specs.Store.{HasHeader}
 use Rattle.freshness_routes.specs.declared.routes.Direction.{Direction}
 use Rattle.freshness_store.specs.Bound.{bound_cell}
 use Rattle.store_plan.specs.declared.growing.Growth.{Growth}
@@ -10,7 +11,7 @@ use Rattle.store_plan.specs.declared.growing.Growth.TheVariants.{Before, Countin
 use Rattle.store_plan.specs.declared.planning.Plan.{Plan}
 use Rattle.store_plan.specs.Plans.{IsEmptyPlan}
 use Rattle.store_plan.specs.Leaving.{LeavesPut}
-use Rattle.store_plan.specs.Growing.{IsGrowth, PlansFor, CutGrowth, Grew}
+use Rattle.store_plan.specs.Growing.{IsGrowth, IsErasedAfter, PlansFor, GrowsTo, CutGrowth, Grew}
 use Rattle.rathonsi_c.specs.declared.TheConstants.{BAD_LENGTH, BAD_VALUE, NO_STORE, BUSY}
 use Rattle.rathonsi_c.specs.declared.route.RathonsiRoute.{RathonsiRoute}
 use Rattle.rathonsi_c.specs.Causes.{IfCause, IsDone}
@@ -86,9 +87,7 @@ pub record GivesSize (head : List ℕ) (size : ℕ) : Type 0 where
 -- A software update of a unit with n routes, by route n. It begins with what the power left of the image of the older
 -- software, and what the device has after it, with room for two cells. The power goes within the growth as often as it
 -- may: at the next power-up the caller calls for what the device then holds. In the end the store grew by the cell of
--- route n. Then every route was filled in and opened, and the new one for the first time. Two routes are two updates:
--- while the second one grows, the calls for the first plan nothing
--- (`growth_laws::a_call_for_a_cell_that_is_there_plans_nothing`).
+-- route n. Then every route was filled in and opened, and the new one for the first time. Two routes are two updates.
 pub record Updates (n : ℕ) (a b : Memory) : Type 0 where
   pub left : List ℕ
   pub cut : LeavesPut a.plan a.image left
@@ -114,3 +113,42 @@ pub record Updates (n : ℕ) (a b : Memory) : Type 0 where
 abbrev pub FoundAfter : ℕ → ℕ → List ℕ → List ℕ → List ℕ → Type 0
 FoundAfter zero i c first x = x ≡ first
 FoundAfter (suc cuts) i c first x = (y : List ℕ) × (CutGrowth i c first y × FoundAfter cuts i c y x)
+
+-- ---- all routes of an update at once
+
+-- the call for cell i, of this payload, made until it plans nothing: z comes of x
+abbrev pub CallsFor : ℕ → List ℕ → List ℕ → List ℕ → Type 0
+CallsFor i c x z = GrowsTo i c x z ⊎ (IsGrowth x i c Beyond × (z ≡ x))
+
+-- A power-up makes the calls for n cells from cell i on, in order. The payload of a cell is the first bound of its route,
+-- and the same each time.
+abbrev pub Calls : (ℕ → List ℕ) → ℕ → ℕ → List ℕ → List ℕ → Type 0
+Calls payload i zero x z = z ≡ x
+Calls payload i (suc n) x z = (y : List ℕ) × (CallsFor i (payload i) x y × Calls payload (i + 1) n y z)
+
+-- the power goes within the plan of one of the calls, and leaves y
+abbrev pub CutCalls : (ℕ → List ℕ) → ℕ → ℕ → List ℕ → List ℕ → Type 0
+CutCalls payload i zero x y = ⊥
+CutCalls payload i (suc n) x y =
+    CutGrowth i (payload i) x y ⊎ ((w : List ℕ) × (CallsFor i (payload i) x w × CutCalls payload (i + 1) n w y))
+
+-- so many power-ups are cut so, and the next one makes all calls: z comes of x
+abbrev pub PowerUps : ℕ → (ℕ → List ℕ) → ℕ → ℕ → List ℕ → List ℕ → Type 0
+PowerUps zero payload i n x z = Calls payload i n x z
+PowerUps (suc cuts) payload i n x z = (y : List ℕ) × (CutCalls payload i n x y × PowerUps cuts payload i n y z)
+
+-- x begins with a store of m cells, each with a copy that counts. Behind the place of each cell up to cell n - 1 the bytes
+-- are erased, and there is room for a cell more.
+pub record StoreWithRoom (m n : ℕ) (x : List ℕ) : Type 0 where
+  pub least : m ≤ n
+  pub most : n ≤ 270
+  pub head : HasHeader (twin_layout One) m x
+  pub cells : (j : ℕ) → j < m → IsSome (cell_at x j)
+  pub erased : (j : ℕ) → m ≤ j → j < n → IsErasedAfter x j
+  pub room : twin_size (n + 1) ≤ length x
+
+-- z begins with a store of n cells, each with a copy that counts, and the first m are as x has them
+pub record HasAllCells (m n : ℕ) (x z : List ℕ) : Type 0 where
+  pub head : HasHeader (twin_layout One) n z
+  pub cells : (j : ℕ) → j < n → IsSome (cell_at z j)
+  pub kept : (j : ℕ) → j < m → cell_at z j ≡ cell_at x j

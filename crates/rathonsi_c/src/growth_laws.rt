@@ -8,7 +8,7 @@ ghost use Rattle.rathonsi_c.specs.Slots.{ConfirmsSlot};
 ghost use Rattle.rathonsi_c.specs.Stores.{IsWhole};
 ghost use Rattle.store_plan.specs.declared.planning.Plan.{Plan};
 ghost use Rattle.rathonsi_c.specs.declared.route.RathonsiRoute.{RathonsiRoute};
-ghost use Rattle.rathonsi_c.specs.Growing.{Updates, FoundAfter, PlansCell};
+ghost use Rattle.rathonsi_c.specs.Growing.{Updates, FoundAfter, PlansCell, PowerUps, StoreWithRoom, HasAllCells};
 ghost use Rattle.rathonsi_c.specs.Lives.{Memory, Deed, PoweredUp, Lives, RisesTo, given_out, SlotFilled};
 
 /// A unit with n routes lives, gets new software with a route more, over whatever cuts, and lives on. The freshness of
@@ -38,4 +38,13 @@ pub fn a_call_for_a_cell_that_is_there_plans_nothing()
     ensures { (cuts i bound : ℕ) (c store room x : List ℕ) (route : RathonsiRoute) (old new : Plan) → length c ≡ 32
         → IsWhole store → length store ≡ twin_size i → 68 ≤ length room → FoundAfter cuts i c (store ++ room) x
         → route.cell < i → PlansCell route bound x old new → new ≡ old }
+{}
+
+/// An update that adds any number of routes, as docs/units.md has it: at each power-up the caller makes the call for
+/// each cell from cell p on, in order, whatever the size says. The power goes within their plans as often as it may. In
+/// the end the store has the right number of cells, each with a copy that counts, and those that were there are as they
+/// were. p is the number of cells that the production line made, or fewer.
+pub fn a_store_gets_all_its_cells()
+    ensures { (cuts p n m : ℕ) (payload : ℕ → List ℕ) (x z : List ℕ) → ((i : ℕ) → length (payload i) ≡ 32) → p ≤ m
+        → StoreWithRoom m (p + n) x → PowerUps cuts payload p n x z → HasAllCells m (p + n) x z }
 {}

@@ -1,0 +1,49 @@
+use Rattle.std.proofs.Common.{refl}
+use Rattle.program_edge.specs.NamedSources.{word_source}
+use Rattle.bus_commands.proofs.AskedWords.{names_node}
+use Rattle.bus_commands.proofs.NodeEnds.{node_refused, node_done}
+use Rattle.bus_commands.proofs.start.run_node.Goals as goal
+
+pub do_on_disk-status-requires : goal.do_on_disk-status-requires
+do_on_disk-status-requires g c =
+    (c.in-Ok.ensures c.requires.0 (names_node c.requires.0 c.args.path.now c.requires.1)).0
+
+pub returns-in-Ok : goal.returns-in-Ok
+returns-in-Ok g c words names disk =
+    let state = word_source g.O.Opened.Source.state g.I.Source.state in
+    node_done g.P.Opened.Disk.state _ _ _ _ _ words _ c.args.path.now disk c.in-Ok.job (record {
+      config = _;
+      script = _;
+      names = names;
+      over = record {
+        one = record { before = state c.open_both-bus.result.0; after = state c.world_job.new.config };
+        other = record { before = state c.open_both-bus.result.1; after = state c.world_job.new.script };
+        named = c.open_both-bus.ensures.named;
+        opened_once = c.open_both-bus.ensures.left;
+        one_left = refl;
+        other_left = refl;
+        has = c.in-Ok.ensures words (names_node words c.args.path.now disk);
+      };
+    }) c.do_on_disk-status.ensures
+
+pub returns-in-Err : goal.returns-in-Err
+returns-in-Err g c words names disk =
+    let state = word_source g.O.Opened.Source.state g.I.Source.state in
+    node_refused g.P.Opened.Disk.state _ _ _ _ _ words _ c.args.path.now disk refl c.new.ensures.items (record {
+      config = _;
+      script = _;
+      names = names;
+      over = record {
+        one = record { before = state c.open_both-bus.result.0; after = state c.world_job.new.config };
+        other = record { before = state c.open_both-bus.result.1; after = state c.world_job.new.script };
+        named = c.open_both-bus.ensures.named;
+        opened_once = c.open_both-bus.ensures.left;
+        one_left = refl;
+        other_left = refl;
+        has = record {
+          row = c.in-Err.refusal;
+          comes = c.in-Err.ensures words (names_node words c.args.path.now disk);
+          told = c.tell_refusal.ensures;
+        };
+      };
+    })
