@@ -20,7 +20,6 @@ use Rattle.secoc_node.specs.declared.faults.AttachFault.TheVariants as cells
 use Rattle.secoc_node.specs.Cells.{CellsOf, IsKept, SlotsButNoBound}
 use Rattle.bus_world.specs.TakingUp.{cells_in, new_cells}
 use Rattle.bus_world.specs.Opening.{StandsAs}
-use Rattle.store_growing.specs.declared.headers.StoreHeader.{StoreHeader}
 use Rattle.store_growing.specs.StoreHeaders.{HeaderStands}
 use Rattle.bus_store_commands.specs.declared.making.MakeFault.{MakeFault}
 use Rattle.bus_store_commands.specs.declared.making.MakeFault.TheVariants as fault
