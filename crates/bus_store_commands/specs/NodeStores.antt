@@ -61,8 +61,9 @@ IsNotTaken kind version config x =
     ⊎ (IsFound kind version (cells_in config) x found.Older
     ⊎ (IsFound kind version (cells_in config) x found.Blank × (¬ AllZeros x)))
 
--- Why bytes are refused. They aren't the node's store, and the store whose header stands there is named, if one does. Or
--- the node's store does stand, and a place is damaged, or a cell holds nothing that it is to hold: the first is named.
+-- Why bytes are refused. They aren't the node's store, and the store whose header stands there is named, if one does.
+-- Or the node's store does stand, and a place is damaged, or a cell holds something else than it is to: the first is
+-- named.
 abbrev pub BytesRefused : Kind → Version → Config → List ℕ → MakeFault → Type 0
 BytesRefused kind version config x (fault.OtherStore there) =
     IsNotTaken kind version config x × HeaderStands x (Some there)
