@@ -37,6 +37,23 @@ def header(data, version):
     return None
 
 
+def standing(data):
+    """Kind, version and number of cells of the store whose header stands, or None: that of version 2, or else that of version 1, whose number
+    may be any."""
+    high = header(data, 2)
+    if high:
+        return high[0], 2, high[1]
+    head = data[:32]
+    if head[:8] == b"SECOCST1" and head[8:9] in (b"\1", b"\2") and head[9:10] == b"\1" and head[12:] == bytes(20):
+        return head[8], 1, int.from_bytes(head[10:12], "big")
+    return None
+
+
+def other_text(there):
+    """What is said of a file in which another store stands than the one that is wanted, or none."""
+    return f"store: {('twin', 'log')[there[0] - 1]} {there[1]} {there[2]}\n" if there else "store: NotFormatted\n"
+
+
 def twin_cells(store, count):
     """The cells of a twin store; None for a damaged one."""
     cells = []
@@ -203,22 +220,26 @@ def make(data, kind, version, routes):
                 raise No(9, f"store: BadBound {place}\n")
         return 0, text, data
     if any(data):
-        raise No(9, "store: NotFormatted\n")
+        raise No(9, other_text(standing(data)))
     cells = [bytes(32)] * 14 + [bytes([2, way]) + name + bound.to_bytes(8, "big") + bytes(20) for name, way, bound in routes]
     made = fresh(kind, version, cells)
     return 0, text, data[:base] + made + data[base + len(made):]
 
 
-def grow(data, routes):
-    """What `slots grow` makes of a disk of these bytes: the status, the text, and the bytes. Of each route of the bus its Data ID, direction and
-    first bound."""
+def grow(data, kind, version, routes):
+    """What `slots grow` makes of a disk of these bytes: the status, the text, and the bytes. Kind and version are numbers, those that the bus
+    wants; of each route of the bus its Data ID, direction and first bound."""
     wanted = 14 + len(routes)
     if len(data) < 32 + 68 * (wanted + 1):
         raise No(9, "store: TooSmall\n")
-    head, number = data[:10] + data[12:32], int.from_bytes(data[10:12], "big")
+    there = standing(data)
+    if there is None or there[:2] != (1, 1) or (kind, version) != (1, 1):
+        raise No(9, other_text(there))
+    number = there[2]
     erased = lambda at, size: data[at:at + size] in (bytes(size), b"\xff" * size)
-    if header(data, 2) or head != b"SECOCST1\1\1" + bytes(20):
-        raise No(9, "store: NotFormatted\n")
+    for place, cell in enumerate(twin_cells(data, 14)):
+        if cell is None or slot_of(cell) is None:
+            raise No(9, f"store: {'Damaged' if cell is None else 'BadSlot'} {place}\n")
     held = twin_cells(data, wanted)
     begins = [bytes([2, direction]) + name for name, direction, _ in routes]
     has = [cell is not None and cell[:4] == begin and not any(cell[12:]) for cell, begin in zip(held[14:], begins)]

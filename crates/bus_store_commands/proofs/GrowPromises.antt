@@ -10,8 +10,10 @@ use Rattle.program_edge.proofs.CallerLemmas.{EndsInRow-at, EndsInRow-front, Ends
 use Rattle.cut_disk.specs.State.{DiskState}
 use Rattle.cut_disk.specs.Calls.{Rose, AsBefore}
 use Rattle.file_disk.specs.NamedDisks.{TellsFirmBytes}
+use Rattle.cell_store.specs.declared.kinds.Layout.{Layout}
 use Rattle.cell_store.specs.declared.kinds.Version.{Version}
 use Rattle.cell_store.specs.declared.kinds.Version.TheVariants.{One, Two}
+use Rattle.cell_store.specs.Layout.{twin_layout}
 use Rattle.std.proofs.lemmas.List.Elements.{All-get_or}
 use Rattle.freshness_routes.specs.declared.routes.Route.{Route}
 use Rattle.bus_config.specs.declared.fault.ConfigFault.{ConfigFault}
@@ -29,9 +31,9 @@ use Rattle.store_growing.specs.GrowingStores.{GrowsStore, NotGrown, CanBeGrown, 
 use Rattle.store_growing.proofs.CallerLemmas.{a_store_that_can_grow_is_not_refused, small_told}
 use Rattle.bus_store_commands.specs.NodeBuses.{OffersNodeBus, LacksNodeBus, no_bus, other_nodes}
 use Rattle.bus_store_commands.specs.BusWords.{asks_over_bus}
-use Rattle.bus_store_commands.specs.GrowRows.{GrowsOnDisk, no_text, grown, not_grown, grown_row, IsGrowRow}
+use Rattle.bus_store_commands.specs.GrowRows.{GrowsOnDisk, no_text, grown, not_grown, grown_row, OrMemory, IsGrowRow}
 use Rattle.bus_store_commands.specs.GrowsOverBus.{GrowInputs, AsksGrowth, grow_usage, LacksGrowth, asks_none, without_bus, ComesNamed, not_opened, over_disk}
-use Rattle.bus_store_commands.specs.GrowsOverBus.{OpensGrownDisk, ComesOfGrowth, lacks_bus, with_bus, file_of, OverStore, GrowsOverBus}
+use Rattle.bus_store_commands.specs.GrowsOverBus.{OpensGrownDisk, ComesOfGrowth, lacks_bus, with_bus, file_of, layout_of_bus, OverStore, GrowsOverBus}
 use Rattle.bus_store_commands.proofs.CheckTells.{asks_or_not}
 
 -- ---- what comes over a disk, by its status
@@ -43,18 +45,48 @@ IsGrowStatus status = (status ≡ 0) ⊎ ((status ≡ 7) ⊎ ((status ≡ 9) ⊎
 status_of : {row other : Row} → row ≡ other → row.status ≡ other.status
 status_of is = ap (λ (r : Row). r.status) is
 
-fault_status : (f : GrowFault) (row : Row) → IsGrowRow f row → IsGrowStatus row.status
-fault_status fault.DiskFailed row is = inr (inr (inr (status_of is)))
-fault_status fault.NotFormatted row is = inr (inr (inl (status_of is)))
-fault_status fault.TooSmall row is = inr (inr (inl (status_of is)))
-fault_status (fault.BadBound cell) row (inl is) = inr (inr (inl (status_of is)))
-fault_status (fault.BadBound cell) row (inr is) = inr (inl (status_of is))
-fault_status fault.Memory row is = inr (inl (status_of is))
+-- A store isn't grown: the disk failed; or memory was out, for the text of a cause too; or a cause is printed. It is the
+-- first if the disk tells its bytes.
+data IsRefused (wanted : Layout) (routes : List Route) (old new : DiskState) (row : Row) : Type 0 where
+  by_disk : NotGrown wanted routes old new fault.DiskFailed → IsGrowRow fault.DiskFailed row → IsRefused wanted routes old new row
+  by_memory : AsBefore 2 old new → row ≡ memory_row → IsRefused wanted routes old new row
+  by_cause : (f : GrowFault) → AsBefore 2 old new → (TellsFirmBytes old → CannotBeGrown wanted routes old f) → IsGrowRow f row
+      → row.status ≡ 9 → IsRefused wanted routes old new row
 
-pub disk_status : (routes : List Route) (old new : DiskState) (row : Row) → GrowsOnDisk routes old new row → IsGrowStatus row.status
-disk_status routes old new row (no_text same) = inr (inl refl)
-disk_status routes old new row (grown could grows faults) = inl refl
-disk_status routes old new row (not_grown f _ why is) = fault_status f row is
+module _ (wanted : Layout) (routes : List Route) (old new : DiskState) where
+  abbrev Unchanged : Row → Type 0
+  Unchanged row = IsRefused wanted routes old new row
+
+  -- the text of a cause was made, or there was no memory for it
+  by_text : (f : GrowFault) (text row : Row) → text.status ≡ 9 → AsBefore 2 old new → (TellsFirmBytes old → CannotBeGrown wanted routes old f)
+      → (OrMemory text row → IsGrowRow f row) → OrMemory text row → Unchanged row
+  by_text f text row nine before cannot says (inl is) = by_cause f before cannot (says (inl is)) (status_of is ∙ nine)
+  by_text f text row nine before cannot says (inr is) = by_memory before is
+
+  refused : (f : GrowFault) (row : Row) → NotGrown wanted routes old new f → IsGrowRow f row → Unchanged row
+  refused fault.DiskFailed row why is = by_disk why is
+  refused fault.TooSmall row why is =
+      by_cause fault.TooSmall why.0 (λ tells. small_told wanted routes old tells.bytes tells.told why.1) is (status_of is)
+  refused (fault.OtherStore there) row why is =
+      by_text (fault.OtherStore there) _ row refl why.0 (λ tells. why.1 tells.bytes tells.told) (λ says. says) is
+  refused fault.NotFormatted row why is = by_cause fault.NotFormatted why.0 (λ tells. why.1 tells.bytes tells.told) is (status_of is)
+  refused (fault.Damaged cell) row why is = by_text (fault.Damaged cell) _ row refl why.0 (λ tells. why.1 tells.bytes tells.told) (λ says. says) is
+  refused (fault.BadSlot cell) row why is = by_text (fault.BadSlot cell) _ row refl why.0 (λ tells. why.1 tells.bytes tells.told) (λ says. says) is
+  refused (fault.BadBound cell) row why is = by_text (fault.BadBound cell) _ row refl why.0 (λ tells. why.1 tells.bytes tells.told) (λ says. says) is
+  refused fault.Memory row why is = by_memory why is
+
+  abbrev Grows : Row → Type 0
+  Grows row = GrowsOnDisk wanted routes old new row
+
+  refused_status : (row : Row) → Unchanged row → IsGrowStatus row.status
+  refused_status row (by_disk why is) = inr (inr (inr (status_of is)))
+  refused_status row (by_memory before is) = inr (inl (status_of is))
+  refused_status row (by_cause f before cannot is nine) = inr (inr (inl nine))
+
+  pub disk_status : (row : Row) → Grows row → IsGrowStatus row.status
+  disk_status row (no_text same) = inr (inl refl)
+  disk_status row (grown could grows faults) = inl refl
+  disk_status row (not_grown f _ why says) = refused_status row (refused f row why says)
 
 isnt : (n : ℕ) (status : ℕ) → IsGrowStatus status → status ≡ n → ¬ IsGrowStatus n → ⊥
 isnt n status are is other = other (subst IsGrowStatus is are)
@@ -89,87 +121,96 @@ not_8 (inr (inl is)) = omega (arith, is)
 not_8 (inr (inr (inl is))) = omega (arith, is)
 not_8 (inr (inr (inr is))) = omega (arith, is)
 
-disk_0 : (routes : List Route) (old new : DiskState) (row : Row) → GrowsOnDisk routes old new row → row.status ≡ 0
-    → GrowsStore routes old new × (new.faults ≡ old.faults) × (row ≡ grown_row (route_cell (length routes)))
-disk_0 routes old new row (no_text same) is = absurd (omega (arith, is))
-disk_0 routes old new row (grown could grows faults) is = (grows, faults, refl)
-disk_0 routes old new row (not_grown fault.DiskFailed _ why says) is = absurd (omega (arith, is, status_of says))
-disk_0 routes old new row (not_grown fault.NotFormatted _ why says) is = absurd (omega (arith, is, status_of says))
-disk_0 routes old new row (not_grown fault.TooSmall _ why says) is = absurd (omega (arith, is, status_of says))
-disk_0 routes old new row (not_grown (fault.BadBound cell) _ why (inl says)) is = absurd (omega (arith, is, status_of says))
-disk_0 routes old new row (not_grown (fault.BadBound cell) _ why (inr says)) is = absurd (omega (arith, is, status_of says))
-disk_0 routes old new row (not_grown fault.Memory _ why says) is = absurd (omega (arith, is, status_of says))
+module _ (wanted : Layout) (routes : List Route) (old new : DiskState) where
+  abbrev Grown : Row → Type 0
+  Grown row = GrowsOnDisk wanted routes old new row
 
-disk_7 : (routes : List Route) (old new : DiskState) (row : Row) → GrowsOnDisk routes old new row → row.status ≡ 7
-    → (new.told ≡ old.told) × (row ≡ memory_row)
-disk_7 routes old new row (no_text same) is = (ap (λ (d : DiskState). d.told) same, refl)
-disk_7 routes old new row (grown could grows faults) is = absurd (omega (arith, is))
-disk_7 routes old new row (not_grown fault.DiskFailed _ why says) is = absurd (omega (arith, is, status_of says))
-disk_7 routes old new row (not_grown fault.NotFormatted _ why says) is = absurd (omega (arith, is, status_of says))
-disk_7 routes old new row (not_grown fault.TooSmall _ why says) is = absurd (omega (arith, is, status_of says))
-disk_7 routes old new row (not_grown (fault.BadBound cell) _ why (inl says)) is = absurd (omega (arith, is, status_of says))
-disk_7 routes old new row (not_grown (fault.BadBound cell) _ why (inr says)) is = (why.0.told, says)
-disk_7 routes old new row (not_grown fault.Memory _ why says) is = (why.told, says)
+  abbrev Refused : Row → Type 0
+  Refused row = IsRefused wanted routes old new row
 
-disk_9 : (routes : List Route) (old new : DiskState) (row : Row) → TellsFirmBytes old → GrowsOnDisk routes old new row → row.status ≡ 9
-    → AsBefore 2 old new × ((f : GrowFault) × CannotBeGrown routes old f × IsGrowRow f row)
-disk_9 routes old new row tells (no_text same) is = absurd (omega (arith, is))
-disk_9 routes old new row tells (grown could grows faults) is = absurd (omega (arith, is))
-disk_9 routes old new row tells (not_grown fault.DiskFailed _ why says) is = absurd (omega (arith, is, status_of says))
-disk_9 routes old new row tells (not_grown fault.NotFormatted _ why says) is = (why.0, (fault.NotFormatted, why.1 tells.bytes tells.told, says))
-disk_9 routes old new row tells (not_grown fault.TooSmall _ why says) is = (why.0, (fault.TooSmall, small_told routes old tells.bytes tells.told why.1, says))
-disk_9 routes old new row tells (not_grown (fault.BadBound cell) _ why says) is = (why.0, (fault.BadBound cell, why.1 tells.bytes tells.told, says))
-disk_9 routes old new row tells (not_grown fault.Memory _ why says) is = absurd (omega (arith, is, status_of says))
+  why_refused : (row : Row) (f : GrowFault) → NotGrown wanted routes old new f → IsGrowRow f row → Refused row
+  why_refused row f why says = refused wanted routes old new f row why says
 
-disk_10 : (routes : List Route) (old new : DiskState) (row : Row) → GrowsOnDisk routes old new row → row.status ≡ 10
-    → NotGrown routes old new fault.DiskFailed × IsGrowRow fault.DiskFailed row
-disk_10 routes old new row (no_text same) is = absurd (omega (arith, is))
-disk_10 routes old new row (grown could grows faults) is = absurd (omega (arith, is))
-disk_10 routes old new row (not_grown fault.DiskFailed _ why says) is = (why, says)
-disk_10 routes old new row (not_grown fault.NotFormatted _ why says) is = absurd (omega (arith, is, status_of says))
-disk_10 routes old new row (not_grown fault.TooSmall _ why says) is = absurd (omega (arith, is, status_of says))
-disk_10 routes old new row (not_grown (fault.BadBound cell) _ why (inl says)) is = absurd (omega (arith, is, status_of says))
-disk_10 routes old new row (not_grown (fault.BadBound cell) _ why (inr says)) is = absurd (omega (arith, is, status_of says))
-disk_10 routes old new row (not_grown fault.Memory _ why says) is = absurd (omega (arith, is, status_of says))
+  refused_0 : (row : Row) → Refused row → row.status ≡ 0 → ⊥
+  refused_0 row (by_disk why says) is = omega (arith, is, status_of says)
+  refused_0 row (by_memory before says) is = omega (arith, is, status_of says)
+  refused_0 row (by_cause f before cannot says nine) is = omega (arith, is, nine)
 
--- ---- which rows come over a disk that tells its bytes
+  disk_0 : (row : Row) → TellsFirmBytes old → Grown row → row.status ≡ 0
+      → (wanted ≡ twin_layout One) × GrowsStore routes old new × (new.faults ≡ old.faults) × (row ≡ grown_row (route_cell (length routes)))
+  disk_0 row tells (no_text same) is = absurd (omega (arith, is))
+  disk_0 row tells (grown could grows faults) is = ((could tells.bytes tells.told).wants, grows, faults, refl)
+  disk_0 row tells (not_grown f _ why says) is = absurd (refused_0 row (why_refused row f why says) is)
 
--- a cause stands, and no call failed
-disk_cause : (routes : List Route) (old new : DiskState) (row : Row) (f : GrowFault) → length routes ≤ 256 → TellsFirmBytes old
-    → GrowsOnDisk routes old new row → CannotBeGrown routes old f → ¬ Rose old.faults new.faults → (row.status ≡ 9) ⊎ (row.status ≡ 7)
-disk_cause routes old new row f few tells (no_text same) cannot calm = inr refl
-disk_cause routes old new row f few tells (grown could grows faults) cannot calm =
-    absurd (a_store_that_can_grow_is_not_refused routes old f few (could tells.bytes tells.told) cannot)
-disk_cause routes old new row f few tells (not_grown fault.DiskFailed _ why says) cannot calm = absurd (calm why.0)
-disk_cause routes old new row f few tells (not_grown fault.NotFormatted _ why says) cannot calm = inl (status_of says)
-disk_cause routes old new row f few tells (not_grown fault.TooSmall _ why says) cannot calm = inl (status_of says)
-disk_cause routes old new row f few tells (not_grown (fault.BadBound cell) _ why (inl says)) cannot calm = inl (status_of says)
-disk_cause routes old new row f few tells (not_grown (fault.BadBound cell) _ why (inr says)) cannot calm = inr (status_of says)
-disk_cause routes old new row f few tells (not_grown fault.Memory _ why says) cannot calm = inr (status_of says)
+  refused_7 : (row : Row) → Refused row → row.status ≡ 7 → (new.told ≡ old.told) × (row ≡ memory_row)
+  refused_7 row (by_disk why says) is = absurd (omega (arith, is, status_of says))
+  refused_7 row (by_memory before says) is = (before.told, says)
+  refused_7 row (by_cause f before cannot says nine) is = absurd (omega (arith, is, nine))
 
--- the store can be grown, and no call failed
-disk_can : (routes : List Route) (old new : DiskState) (row : Row) → length routes ≤ 256 → TellsFirmBytes old
-    → GrowsOnDisk routes old new row → CanBeGrown routes old → ¬ Rose old.faults new.faults → (row.status ≡ 0) ⊎ (row.status ≡ 7)
-disk_can routes old new row few tells (no_text same) can calm = inr refl
-disk_can routes old new row few tells (grown could grows faults) can calm = inl refl
-disk_can routes old new row few tells (not_grown fault.DiskFailed _ why says) can calm = absurd (calm why.0)
-disk_can routes old new row few tells (not_grown fault.NotFormatted _ why says) can calm =
-    absurd (a_store_that_can_grow_is_not_refused routes old fault.NotFormatted few can (why.1 tells.bytes tells.told))
-disk_can routes old new row few tells (not_grown fault.TooSmall _ why says) can calm =
-    absurd (a_store_that_can_grow_is_not_refused routes old fault.TooSmall few can (small_told routes old tells.bytes tells.told why.1))
-disk_can routes old new row few tells (not_grown (fault.BadBound cell) _ why says) can calm =
-    absurd (a_store_that_can_grow_is_not_refused routes old (fault.BadBound cell) few can (why.1 tells.bytes tells.told))
-disk_can routes old new row few tells (not_grown fault.Memory _ why says) can calm = inr (status_of says)
+  disk_7 : (row : Row) → Grown row → row.status ≡ 7 → (new.told ≡ old.told) × (row ≡ memory_row)
+  disk_7 row (no_text same) is = (ap (λ (d : DiskState). d.told) same, refl)
+  disk_7 row (grown could grows faults) is = absurd (omega (arith, is))
+  disk_7 row (not_grown f _ why says) is = refused_7 row (why_refused row f why says) is
 
--- a call failed
-disk_rose : (routes : List Route) (old new : DiskState) (row : Row) → GrowsOnDisk routes old new row → old.faults < new.faults → row.status ≡ 10
-disk_rose routes old new row (no_text same) rose = absurd (omega (arith, rose, ap (λ (d : DiskState). d.faults) same))
-disk_rose routes old new row (grown could grows faults) rose = absurd (omega (arith, rose, faults))
-disk_rose routes old new row (not_grown fault.DiskFailed _ why says) rose = status_of says
-disk_rose routes old new row (not_grown fault.NotFormatted _ why says) rose = absurd (let same = why.0.faults in omega (arith, rose, same))
-disk_rose routes old new row (not_grown fault.TooSmall _ why says) rose = absurd (let same = why.0.faults in omega (arith, rose, same))
-disk_rose routes old new row (not_grown (fault.BadBound cell) _ why says) rose = absurd (let same = why.0.faults in omega (arith, rose, same))
-disk_rose routes old new row (not_grown fault.Memory _ why says) rose = absurd (let same = why.faults in omega (arith, rose, same))
+  refused_9 : (row : Row) → TellsFirmBytes old → Refused row → row.status ≡ 9 → AsBefore 2 old new × ((f : GrowFault) × CannotBeGrown wanted routes old f × IsGrowRow f row)
+  refused_9 row tells (by_disk why says) is = absurd (omega (arith, is, status_of says))
+  refused_9 row tells (by_memory before says) is = absurd (omega (arith, is, status_of says))
+  refused_9 row tells (by_cause f before cannot says nine) is = (before, (f, cannot tells, says))
+
+  disk_9 : (row : Row) → TellsFirmBytes old → Grown row → row.status ≡ 9 → AsBefore 2 old new × ((f : GrowFault) × CannotBeGrown wanted routes old f × IsGrowRow f row)
+  disk_9 row tells (no_text same) is = absurd (omega (arith, is))
+  disk_9 row tells (grown could grows faults) is = absurd (omega (arith, is))
+  disk_9 row tells (not_grown f _ why says) is = refused_9 row tells (why_refused row f why says) is
+
+  refused_10 : (row : Row) → Refused row → row.status ≡ 10 → NotGrown wanted routes old new fault.DiskFailed × IsGrowRow fault.DiskFailed row
+  refused_10 row (by_disk why says) is = (why, says)
+  refused_10 row (by_memory before says) is = absurd (omega (arith, is, status_of says))
+  refused_10 row (by_cause f before cannot says nine) is = absurd (omega (arith, is, nine))
+
+  disk_10 : (row : Row) → Grown row → row.status ≡ 10 → NotGrown wanted routes old new fault.DiskFailed × IsGrowRow fault.DiskFailed row
+  disk_10 row (no_text same) is = absurd (omega (arith, is))
+  disk_10 row (grown could grows faults) is = absurd (omega (arith, is))
+  disk_10 row (not_grown f _ why says) is = refused_10 row (why_refused row f why says) is
+
+  -- ---- which rows come over a disk that tells its bytes
+
+  refused_cause : (row : Row) → Refused row → ¬ Rose old.faults new.faults → (row.status ≡ 9) ⊎ (row.status ≡ 7)
+  refused_cause row (by_disk why says) calm = absurd (calm why.0)
+  refused_cause row (by_memory before says) calm = inr (status_of says)
+  refused_cause row (by_cause f before cannot says nine) calm = inl nine
+
+  -- a cause stands, and no call failed
+  disk_cause : (row : Row) (f : GrowFault) → length routes ≤ 256 → TellsFirmBytes old → Grown row → CannotBeGrown wanted routes old f → ¬ Rose old.faults new.faults
+      → (row.status ≡ 9) ⊎ (row.status ≡ 7)
+  disk_cause row f few tells (no_text same) cannot calm = inr refl
+  disk_cause row f few tells (grown could grows faults) cannot calm =
+      absurd (a_store_that_can_grow_is_not_refused wanted routes old f few (could tells.bytes tells.told) cannot)
+  disk_cause row f few tells (not_grown that _ why says) cannot calm = refused_cause row (why_refused row that why says) calm
+
+  refused_can : (row : Row) → length routes ≤ 256 → TellsFirmBytes old → Refused row → CanBeGrown wanted routes old → ¬ Rose old.faults new.faults
+      → (row.status ≡ 0) ⊎ (row.status ≡ 7)
+  refused_can row few tells (by_disk why says) can calm = absurd (calm why.0)
+  refused_can row few tells (by_memory before says) can calm = inr (status_of says)
+  refused_can row few tells (by_cause f before cannot says nine) can calm =
+      absurd (a_store_that_can_grow_is_not_refused wanted routes old f few can (cannot tells))
+
+  -- the store can be grown, and no call failed
+  disk_can : (row : Row) → length routes ≤ 256 → TellsFirmBytes old → Grown row → CanBeGrown wanted routes old → ¬ Rose old.faults new.faults
+      → (row.status ≡ 0) ⊎ (row.status ≡ 7)
+  disk_can row few tells (no_text same) can calm = inr refl
+  disk_can row few tells (grown could grows faults) can calm = inl refl
+  disk_can row few tells (not_grown f _ why says) can calm = refused_can row few tells (why_refused row f why says) can calm
+
+  refused_rose : (row : Row) → Refused row → old.faults < new.faults → row.status ≡ 10
+  refused_rose row (by_disk why says) rose = status_of says
+  refused_rose row (by_memory before says) rose = absurd (let same = before.faults in omega (arith, rose, same))
+  refused_rose row (by_cause f before cannot says nine) rose = absurd (let same = before.faults in omega (arith, rose, same))
+
+  -- a call failed
+  disk_rose : (row : Row) → Grown row → old.faults < new.faults → row.status ≡ 10
+  disk_rose row (no_text same) rose = absurd (omega (arith, rose, ap (λ (d : DiskState). d.faults) same))
+  disk_rose row (grown could grows faults) rose = absurd (omega (arith, rose, faults))
+  disk_rose row (not_grown f _ why says) rose = refused_rose row (why_refused row f why says) rose
 
 -- ---- a node has at most 256 routes
 
@@ -242,7 +283,7 @@ module _ (opens : List ℕ → DiskState → Type 0) (before after : List (List 
   abbrev Comes : Row → Type 0
   Comes = ComesOfGrowth opens before after i was left
 
-  abbrev Over : (List Route → DiskState → DiskState → Type 0) → Type 0
+  abbrev Over : (NamedBus → DiskState → DiskState → Type 0) → Type 0
   Over = OverStore opens before after i left was
 
   row_tells : (row : Row) → Comes row → RowTells row i.bus (left_so i.bus)
@@ -250,15 +291,16 @@ module _ (opens : List ℕ → DiskState → Type 0) (before after : List (List 
   row_tells row (with_bus bus _ named asks ((read, whole, is), one) comes) = inr (inr (calm_whole i.bus read whole, calm_so i.bus))
 
   grown_at : (row : Row) → Comes row → row.status ≡ 0 → PrintsWhole e row.text
-      → Over (λ routes old new. GrowsStore routes old new × (new.faults ≡ old.faults) × PrintsWhole e (grown_row (route_cell (length routes))).text)
+      → Over (λ bus old new. (layout_of_bus bus ≡ twin_layout One) × GrowsStore (routes_of bus) old new × (new.faults ≡ old.faults)
+      × PrintsWhole e (grown_row (route_cell (length (routes_of bus)))).text)
   grown_at row (lacks_bus _ lacks once unopened none) is prints = absurd (lacks_0 i row lacks (inl is))
   grown_at row (with_bus bus _ named asks reads (not_opened once unopened none)) is prints = absurd (omega (arith, is))
   grown_at row (with_bus bus _ named asks reads (over_disk disk _ comes)) is prints =
-      let (grows, faults, row_is) = disk_0 _ _ _ row comes is in
-      (bus, named, asks, reads, disk, (grows, faults, subst (λ (r : Row). PrintsWhole e r.text) row_is prints))
+      let (wants, grows, faults, row_is) = disk_0 _ _ _ _ row disk.tells comes is in
+      (bus, named, asks, reads, disk, (wants, grows, faults, subst (λ (r : Row). PrintsWhole e r.text) row_is prints))
 
   no_memory_at : (row : Row) → Comes row → row.status ≡ 7 → PrintsWhole e row.text
-      → PrintsWhole e [] × ((left ≡ None) ⊎ Over (λ routes old new. new.told ≡ old.told))
+      → PrintsWhole e [] × ((left ≡ None) ⊎ Over (λ bus old new. new.told ≡ old.told))
   no_memory_at row (lacks_bus _ (asks_none none unread) once unopened opened) is prints = absurd (omega (arith, is))
   no_memory_at row (lacks_bus _ (without_bus _ asks (no_bus _ (no_file input.ReadFault lacks))) once unopened opened) is prints = absurd (omega (arith, is))
   no_memory_at row (lacks_bus _ (without_bus _ asks (no_bus _ (no_file input.TooLong lacks))) once unopened opened) is prints = absurd (omega (arith, is))
@@ -267,29 +309,30 @@ module _ (opens : List ℕ → DiskState → Type 0) (before after : List (List 
   no_memory_at row (lacks_bus _ (without_bus _ asks (other_nodes bus reads others)) once unopened opened) is prints = absurd (omega (arith, is))
   no_memory_at row (with_bus bus _ named asks reads (not_opened once unopened none)) is prints = (prints, inl none)
   no_memory_at row (with_bus bus _ named asks reads (over_disk disk _ comes)) is prints =
-      let (told, row_is) = disk_7 _ _ _ row comes is in
+      let (told, row_is) = disk_7 _ _ _ _ row comes is in
       (subst (λ (r : Row). PrintsWhole e r.text) row_is prints, inr (bus, named, asks, reads, disk, told))
 
   no_store_at : (row : Row) → Comes row → row.status ≡ 9 → PrintsWhole e row.text
-      → Over (λ routes old new. AsBefore 2 old new × ((f : GrowFault) × (shown : Row) × CannotBeGrown routes old f × IsGrowRow f shown × (shown.status ≡ 9) × PrintsWhole e shown.text))
+      → Over (λ bus old new. AsBefore 2 old new × ((f : GrowFault) × (shown : Row) × CannotBeGrown (layout_of_bus bus) (routes_of bus) old f
+      × IsGrowRow f shown × (shown.status ≡ 9) × PrintsWhole e shown.text))
   no_store_at row (lacks_bus _ lacks once unopened none) is prints = absurd (lacks_0 i row lacks (inr (inl is)))
   no_store_at row (with_bus bus _ named asks reads (not_opened once unopened none)) is prints = absurd (omega (arith, is))
   no_store_at row (with_bus bus _ named asks reads (over_disk disk _ comes)) is prints =
-      let (before_is, (f, why, says)) = disk_9 _ _ _ row disk.tells comes is in
+      let (before_is, (f, why, says)) = disk_9 _ _ _ _ row disk.tells comes is in
       (bus, named, asks, reads, disk, (before_is, (f, row, why, says, is, prints)))
 
   disk_failed_at : (row : Row) → Comes row → row.status ≡ 10 → PrintsWhole e row.text
-      → Over (λ routes old new. NotGrown routes old new fault.DiskFailed × PrintsWhole e (codes "store: DiskFailed\n"))
+      → Over (λ bus old new. NotGrown (layout_of_bus bus) (routes_of bus) old new fault.DiskFailed × PrintsWhole e (codes "store: DiskFailed\n"))
   disk_failed_at row (lacks_bus _ lacks once unopened none) is prints = absurd (lacks_0 i row lacks (inr (inr (inl is))))
   disk_failed_at row (with_bus bus _ named asks reads (not_opened once unopened none)) is prints = absurd (omega (arith, is))
   disk_failed_at row (with_bus bus _ named asks reads (over_disk disk _ comes)) is prints =
-      let (why, says) = disk_10 _ _ _ row comes is in
+      let (why, says) = disk_10 _ _ _ _ row comes is in
       (bus, named, asks, reads, disk, (why, subst (λ (r : Row). PrintsWhole e r.text) says prints))
 
-  over_isnt : (n : ℕ) (bus : NamedBus) (row : Row) → AsksGrowth i.words → ComesNamed opens before after (file_of i) (routes_of bus) was left row
+  over_isnt : (n : ℕ) (bus : NamedBus) (row : Row) → AsksGrowth i.words → ComesNamed opens before after (file_of i) (layout_of_bus bus) (routes_of bus) was left row
       → row.status ≡ n → ¬ IsGrowStatus n → ⊥
   over_isnt n bus row asks (not_opened once unopened none) is other = other (subst IsGrowStatus is (inr (inl refl)))
-  over_isnt n bus row asks (over_disk disk _ comes) is other = isnt n row.status (disk_status _ _ _ row comes) is other
+  over_isnt n bus row asks (over_disk disk _ comes) is other = isnt n row.status (disk_status _ _ _ _ row comes) is other
 
   at_2 : (row : Row) → Comes row → row.status ≡ 2 → PrintsWhole e row.text
       → (asks_over_bus (codes "grow") i.words ≡ false) × IsUnread i.bus × (after ≡ before) × PrintsWhole e grow_usage
@@ -366,7 +409,7 @@ module _ (opens : List ℕ → DiskState → Type 0) (before after : List (List 
 
   -- a bus file that is offered gives its bus, or memory is out
   offered : (bus : NamedBus) (n : ℕ) → AsksGrowth i.words → OffersNodeBus i.bus bus
-      → ((disk : OpensGrownDisk opens before after (file_of i) was left) (row : Row) → IsNamedBus bus → GrowsOnDisk (routes_of bus) disk.old disk.new row
+      → ((disk : OpensGrownDisk opens before after (file_of i) was left) (row : Row) → IsNamedBus bus → GrowsOnDisk (layout_of_bus bus) (routes_of bus) disk.old disk.new row
       → (row.status ≡ n) ⊎ (row.status ≡ 7))
       → (row : Row) → Comes row → (row.status ≡ n) ⊎ (row.status ≡ 7)
   offered bus n asks offers each row (lacks_bus _ (asks_none none unread) once unopened opened) =
@@ -380,36 +423,36 @@ module _ (opens : List ℕ → DiskState → Type 0) (before after : List (List 
   offered bus n asks offers each row (with_bus that _ named also reads (not_opened once unopened none)) = inr refl
   offered bus n asks offers each row (with_bus that _ named also reads (over_disk disk _ comes)) =
       let same : that ≡ bus = same_bus i.bus that bus reads.0 offers.0 in
-      each disk row (subst IsNamedBus same named) (subst (λ (b : NamedBus). GrowsOnDisk (routes_of b) disk.old disk.new row) same comes)
+      each disk row (subst IsNamedBus same named) (subst (λ (b : NamedBus). GrowsOnDisk (layout_of_bus b) (routes_of b) disk.old disk.new row) same comes)
 
   only_cause : (bus : NamedBus) (f : GrowFault) → AsksGrowth i.words → OffersNodeBus i.bus bus
-      → ((old new : DiskState) → was ≡ Some old → left ≡ Some new → CannotBeGrown (routes_of bus) old f × (¬ Rose old.faults new.faults))
+      → ((old new : DiskState) → was ≡ Some old → left ≡ Some new → CannotBeGrown (layout_of_bus bus) (routes_of bus) old f × (¬ Rose old.faults new.faults))
       → (row : Row) → Comes row → (row.status ≡ 9) ⊎ (row.status ≡ 7)
   only_cause bus f asks offers has =
       offered bus 9 asks offers (λ disk row named comes.
       let of = has disk.old disk.new disk.was_is disk.left_is in
-      disk_cause (routes_of bus) disk.old disk.new row f (few_routes bus named) disk.tells comes of.0 of.1)
+      disk_cause (layout_of_bus bus) (routes_of bus) disk.old disk.new row f (few_routes bus named) disk.tells comes of.0 of.1)
 
   only_can : (bus : NamedBus) → AsksGrowth i.words → OffersNodeBus i.bus bus
-      → ((old new : DiskState) → was ≡ Some old → left ≡ Some new → CanBeGrown (routes_of bus) old × (¬ Rose old.faults new.faults))
+      → ((old new : DiskState) → was ≡ Some old → left ≡ Some new → CanBeGrown (layout_of_bus bus) (routes_of bus) old × (¬ Rose old.faults new.faults))
       → (row : Row) → Comes row → (row.status ≡ 0) ⊎ (row.status ≡ 7)
   only_can bus asks offers has =
       offered bus 0 asks offers (λ disk row named comes.
       let of = has disk.old disk.new disk.was_is disk.left_is in
-      disk_can (routes_of bus) disk.old disk.new row (few_routes bus named) disk.tells comes of.0 of.1)
+      disk_can (layout_of_bus bus) (routes_of bus) disk.old disk.new row (few_routes bus named) disk.tells comes of.0 of.1)
 
   only_rose : (old new : DiskState) → was ≡ Some old → left ≡ Some new → old.faults < new.faults → (row : Row) → Comes row → row.status ≡ 10
   only_rose old new is there rose row (lacks_bus _ lacks once unopened opened) = absurd (none_left new there opened)
   only_rose old new is there rose row (with_bus bus _ named asks reads (not_opened once unopened none)) = absurd (none_left new there none)
   only_rose old new is there rose row (with_bus bus _ named asks reads (over_disk disk _ comes)) =
-      disk_rose (routes_of bus) disk.old disk.new row comes
+      disk_rose (layout_of_bus bus) (routes_of bus) disk.old disk.new row comes
       (subst (λ (d : DiskState). d.faults < disk.new.faults) (one_left old disk.old is disk.was_is)
       (subst (λ (d : DiskState). old.faults < d.faults) (one_left new disk.new there disk.left_is) rose))
 
   row_status : (row : Row) → Comes row → IsRunStatus row.status
   row_status row (lacks_bus _ lacks once unopened opened) = lacks_status i row lacks
   row_status row (with_bus bus _ named asks reads (not_opened once unopened none)) = inr (inr (inr (omega arith, omega arith)))
-  row_status row (with_bus bus _ named asks reads (over_disk disk _ comes)) = grow_status row.status (disk_status _ _ _ row comes)
+  row_status row (with_bus bus _ named asks reads (over_disk disk _ comes)) = grow_status row.status (disk_status _ _ _ _ row comes)
 
   run_status : EndsInRow Comes e → IsRunStatus e.status
   run_status ends = elim ends.told [

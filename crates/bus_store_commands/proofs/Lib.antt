@@ -1,3 +1,4 @@
+pub mod StandingTexts
 pub mod CheckTells
 pub mod CheckPromises
 pub mod CheckPhases

@@ -362,6 +362,7 @@ module _ (kind : Kind) (version : Version) (config : Config) (good : IsConfig co
     cut_leaves (fault.Store store.Memory) h = as_it_was h.0
     cut_leaves (fault.Store store.NotFormatted) h = as_it_was h.0.0
     cut_leaves (fault.Store (store.Damaged place)) h = as_it_was h.0.0
+    cut_leaves (fault.OtherStore there) h = as_it_was h.0.0
     cut_leaves (fault.BadSlot slot) h = as_it_was h.0.0
     cut_leaves (fault.BadBound place) h = as_it_was h.0.0
 

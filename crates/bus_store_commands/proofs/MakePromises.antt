@@ -293,6 +293,8 @@ module _ (opens : List ℕ → DiskState → Type 0) (i : MakeInputs) (e : Endin
   fits_7 bus disk after (fault.Store store.TooSmall) row good un is well t tells (room, fit) = absurd (omega (arith, room, un.0))
   fits_7 bus disk after (fault.Store store.Memory) row good un (inl is) well t tells (room, fit) = inr (ap (λ (r : Row). r.status) is)
   fits_7 bus disk after (fault.Store store.Memory) row good un (inr (number, is)) well t tells (room, fit) = absurd number
+  fits_7 bus disk after (fault.OtherStore there) row good un is well t tells (room, fit) =
+      absurd (fit_refused bus.kind bus.version (node_config bus) t.bytes (fault.OtherStore there) good fit (un.1 t tells))
   fits_7 bus disk after (fault.BadSlot slot) row good un is well t tells (room, fit) =
       absurd (fit_refused bus.kind bus.version (node_config bus) t.bytes (fault.BadSlot slot) good fit (un.1 t tells))
   fits_7 bus disk after (fault.BadBound place) row good un is well t tells (room, fit) =

@@ -21,7 +21,7 @@ use Rattle.bus_programs.proofs.CallerLemmas.{RowTells, calm_unread, calm_whole}
 use Rattle.bus_world.specs.TakingUp.{cells_in}
 use Rattle.bus_store_commands.specs.declared.making.MakeFault.{MakeFault}
 use Rattle.bus_store_commands.specs.declared.making.MakeFault.TheVariants as fault
-use Rattle.bus_store_commands.specs.NodeStores.{MadeOrFound, made, stood, StoreUnmade, FailedToMake, LeftAsItWas, BytesRefused, IsUnused}
+use Rattle.bus_store_commands.specs.NodeStores.{MadeOrFound, made, stood, StoreUnmade, FailedToMake, LeftAsItWas, IsNotTaken, BytesRefused, IsUnused}
 use Rattle.bus_store_commands.specs.MakeRows.{MakeInputs, make_row, IsMakeRow, ComesOfMake, no_form, no_node, no_room, unmade}
 use Rattle.bus_store_commands.specs.MakeRows as rows
 use Rattle.bus_store_commands.specs.MakesUnitStore.{BlankOrWhole}
@@ -39,6 +39,7 @@ make_status (fault.Store store.NotFormatted) = inl refl
 make_status (fault.Store (store.Damaged place)) = inl refl
 make_status (fault.Store store.TooSmall) = inl refl
 make_status (fault.Store store.Memory) = inr (inr refl)
+make_status (fault.OtherStore there) = inl refl
 make_status (fault.BadSlot slot) = inl refl
 make_status (fault.BadBound place) = inl refl
 
@@ -53,6 +54,7 @@ module _ (kind : Kind) (version : Version) (config : Config) (before after : Dis
   left_at_9 (fault.Store (store.Damaged place)) un is = un.0
   left_at_9 (fault.Store store.TooSmall) un is = (ap (λ (d : DiskState). d.told) un.1, ap (λ (d : DiskState). d.faults) un.1)
   left_at_9 (fault.Store store.Memory) un is = absurd (omega (arith, is))
+  left_at_9 (fault.OtherStore there) un is = un.0
   left_at_9 (fault.BadSlot slot) un is = un.0
   left_at_9 (fault.BadBound place) un is = un.0
 
@@ -71,6 +73,7 @@ module _ (kind : Kind) (version : Version) (config : Config) (before after : Dis
   failed_at_10 (fault.Store (store.Damaged place)) un is = absurd (omega (arith, is))
   failed_at_10 (fault.Store store.TooSmall) un is = absurd (omega (arith, is))
   failed_at_10 (fault.Store store.Memory) un is = absurd (omega (arith, is))
+  failed_at_10 (fault.OtherStore there) un is = absurd (omega (arith, is))
   failed_at_10 (fault.BadSlot slot) un is = absurd (omega (arith, is))
   failed_at_10 (fault.BadBound place) un is = absurd (omega (arith, is))
 
@@ -91,6 +94,7 @@ module _ (kind : Kind) (version : Version) (config : Config) (before after : Dis
   rose_is_10 (fault.Store (store.Damaged place)) row un is rose = absurd (omega (arith, rose, un.0.1))
   rose_is_10 (fault.Store store.TooSmall) row un is rose = absurd (omega (arith, rose, ap (λ (d : DiskState). d.faults) un.1))
   rose_is_10 (fault.Store store.Memory) row un is rose = absurd (omega (arith, rose, un.1))
+  rose_is_10 (fault.OtherStore there) row un is rose = absurd (omega (arith, rose, un.0.1))
   rose_is_10 (fault.BadSlot slot) row un is rose = absurd (omega (arith, rose, un.0.1))
   rose_is_10 (fault.BadBound place) row un is rose = absurd (omega (arith, rose, un.0.1))
 
@@ -104,6 +108,7 @@ left_at_7 kind version config before after (fault.Store (store.Damaged place)) r
 left_at_7 kind version config before after (fault.Store store.TooSmall) row un is seven =
     (ap (λ (d : DiskState). d.told) un.1, ap (λ (d : DiskState). d.faults) un.1)
 left_at_7 kind version config before after (fault.Store store.Memory) row un is seven = un
+left_at_7 kind version config before after (fault.OtherStore there) row un is seven = un.0
 left_at_7 kind version config before after (fault.BadSlot slot) row un is seven = un.0
 left_at_7 kind version config before after (fault.BadBound place) row un is seven = un.0
 
@@ -114,6 +119,7 @@ make_text_7 (fault.Store store.NotFormatted) is = absurd (omega (arith, is))
 make_text_7 (fault.Store (store.Damaged place)) is = absurd (omega (arith, is))
 make_text_7 (fault.Store store.TooSmall) is = absurd (omega (arith, is))
 make_text_7 (fault.Store store.Memory) is = refl
+make_text_7 (fault.OtherStore there) is = absurd (omega (arith, is))
 make_text_7 (fault.BadSlot slot) is = absurd (omega (arith, is))
 make_text_7 (fault.BadBound place) is = absurd (omega (arith, is))
 
@@ -131,12 +137,22 @@ module _ (kind : Kind) (version : Version) (config : Config) (x : List ℕ) wher
   blank_standing : IsFound kind version (cells_in config) x Blank → IsFound kind version (cells_in config) x Standing → ⊥
   blank_standing first second = two_found Blank Standing first second (λ same. cc same)
 
+  -- zeros are taken, and so is a store that stands
+  blank_taken : IsUnused kind version config x → IsNotTaken kind version config x → ⊥
+  blank_taken blank (inl foreign) = two_found Blank Foreign blank.0 foreign (λ same. cc same)
+  blank_taken blank (inr (inl older)) = two_found Blank Older blank.0 older (λ same. cc same)
+  blank_taken blank (inr (inr used)) = used.1 blank.1
+
+  standing_taken : IsFound kind version (cells_in config) x Standing → IsNotTaken kind version config x → ⊥
+  standing_taken standing (inl foreign) = two_found Standing Foreign standing foreign (λ clash. cc clash)
+  standing_taken standing (inr (inl older)) = two_found Standing Older standing older (λ clash. cc clash)
+  standing_taken standing (inr (inr used)) = two_found Standing Blank standing used.0 (λ clash. cc clash)
+
   -- zeros aren't refused
   pub blank_refused : (cause : MakeFault) → IsUnused kind version config x → BytesRefused kind version config x cause → ⊥
   blank_refused (fault.Store store.DiskFailed) blank refused = refused
-  blank_refused (fault.Store store.NotFormatted) blank (inl foreign) = two_found Blank Foreign blank.0 foreign (λ same. cc same)
-  blank_refused (fault.Store store.NotFormatted) blank (inr (inl older)) = two_found Blank Older blank.0 older (λ same. cc same)
-  blank_refused (fault.Store store.NotFormatted) blank (inr (inr used)) = used.1 blank.1
+  blank_refused (fault.OtherStore there) blank refused = blank_taken blank refused.0
+  blank_refused (fault.Store store.NotFormatted) blank refused = blank_taken blank refused.0
   blank_refused (fault.Store (store.Damaged place)) blank refused = blank_standing blank.0 refused.0
   blank_refused (fault.Store store.TooSmall) blank refused = refused
   blank_refused (fault.Store store.Memory) blank refused = refused
@@ -148,12 +164,10 @@ pub fit_refused : (kind : Kind) (version : Version) (config : Config) (x : List 
     → BlankOrWhole kind version config x → BytesRefused kind version config x cause → ⊥
 fit_refused kind version config x cause good (inl blank) refused = blank_refused kind version config x cause blank refused
 fit_refused kind version config x (fault.Store store.DiskFailed) good (inr (kept, standing, is, stands)) refused = refused
-fit_refused kind version config x (fault.Store store.NotFormatted) good (inr (kept, standing, is, stands)) (inl foreign) =
-    two_found kind version config x Standing Foreign standing foreign (λ clash. cc clash)
-fit_refused kind version config x (fault.Store store.NotFormatted) good (inr (kept, standing, is, stands)) (inr (inl older)) =
-    two_found kind version config x Standing Older standing older (λ clash. cc clash)
-fit_refused kind version config x (fault.Store store.NotFormatted) good (inr (kept, standing, is, stands)) (inr (inr used)) =
-    two_found kind version config x Standing Blank standing used.0 (λ clash. cc clash)
+fit_refused kind version config x (fault.OtherStore there) good (inr (kept, standing, is, stands)) refused =
+    standing_taken kind version config x standing refused.0
+fit_refused kind version config x (fault.Store store.NotFormatted) good (inr (kept, standing, is, stands)) refused =
+    standing_taken kind version config x standing refused.0
 fit_refused kind version config x (fault.Store (store.Damaged place)) good (inr (kept, standing, is, stands)) refused =
     stands-whole (layout kind version) x (CellsOf config kept) (cells_in config) place stands (length-CellsOf config kept is) refused.1
 fit_refused kind version config x (fault.Store store.TooSmall) good (inr (kept, standing, is, stands)) refused = refused

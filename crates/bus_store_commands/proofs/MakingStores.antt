@@ -8,6 +8,7 @@ use Rattle.cut_disk.specs.Calls.{Rose, IsQuiet, IsDisk, AsBefore}
 use Rattle.cut_disk.specs.Images.{ReadsAs}
 use Rattle.cut_disk.proofs.CallerLemmas.{quiet_never_rose}
 use Rattle.cell_store.specs.declared.kinds.Kind.{Kind}
+use Rattle.cell_store.specs.declared.kinds.Kind.TheVariants.{Twin, Log}
 use Rattle.cell_store.specs.declared.kinds.Version.{Version}
 use Rattle.cell_store.specs.declared.kinds.Version.TheVariants.{One, Two}
 use Rattle.cell_store.specs.declared.faults.StoreFault.{StoreFault}
@@ -33,7 +34,14 @@ use Rattle.bus_world.specs.TakingUp.{cells_in, new_cells}
 use Rattle.bus_world.proofs.CallerLemmas.{standing_not_blank, standing_not_older, standing_not_foreign}
 use Rattle.bus_store_commands.specs.declared.making.MakeFault.{MakeFault}
 use Rattle.bus_store_commands.specs.declared.making.MakeFault.TheVariants as fault
-use Rattle.bus_store_commands.specs.NodeStores.{made, stood, StoreMade, StoreUnmade, FailedToMake, LeftAsItWas, BytesRefused, fault_of_cells, AllZeros, IsUnused, ZerosUnread}
+use Rattle.bus_store_commands.specs.NodeStores.{made, stood, StoreMade, StoreUnmade, FailedToMake, LeftAsItWas, IsNotTaken, fault_of_cells, AllZeros, IsUnused, ZerosUnread, NamesOther}
+
+-- a disk with room for a store has room for a header
+pub head_room : (kind : Kind) (version : Version) (n size : ℕ) → store_size (layout kind version) n ≤ size → 32 ≤ size
+head_room Twin One n size room = omega (arith, room)
+head_room Twin Two n size room = omega (arith, room)
+head_room Log One n size room = omega (arith, room)
+head_room Log Two n size room = omega (arith, room)
 
 -- ---- what a look finds
 
@@ -57,9 +65,9 @@ module _ (kind : Kind) (version : Version) (config : Config) where
   abbrev FindsTold : DiskState → Found → Type 0
   FindsTold disk what = (t : Told) → disk.told ≡ Some t → IsFound kind version (cells_in config) t.bytes what
 
-  -- what isn't blank and doesn't stand is refused
+  -- what isn't blank and doesn't stand isn't taken
   pub refused_found : (what : Found) (x : List ℕ) → IsFound kind version (cells_in config) x what → ¬ (what ≡ Blank) → ¬ (what ≡ Standing)
-      → BytesRefused kind version config x (fault.Store store.NotFormatted)
+      → IsNotTaken kind version config x
   refused_found Blank x is not_blank not_standing = absurd (not_blank refl)
   refused_found Standing x is not_blank not_standing = absurd (not_standing refl)
   refused_found Older x is not_blank not_standing = inr (inl is)
@@ -184,6 +192,7 @@ module _ (kind : Kind) (version : Version) (config : Config) where
     unmade_after after (fault.Store store.Memory) room h = left_after after h
     unmade_after after (fault.Store store.NotFormatted) room h = (left_after after h.0, λ t tells. h.1 t (look.told ∙ tells))
     unmade_after after (fault.Store (store.Damaged place)) room h = (left_after after h.0, λ t tells. h.1 t (look.told ∙ tells))
+    unmade_after after (fault.OtherStore there) room h = (left_after after h.0, λ t tells. h.1 t (look.told ∙ tells))
     unmade_after after (fault.BadSlot slot) room h = (left_after after h.0, λ t tells. h.1 t (look.told ∙ tells))
     unmade_after after (fault.BadBound place) room h = (left_after after h.0, λ t tells. h.1 t (look.told ∙ tells))
 
@@ -194,16 +203,27 @@ module _ (kind : Kind) (version : Version) (config : Config) where
         let told = sym look.told ∙ tells in
         (blank t told, (says t told).0 is)
 
-    pub used_unmade : (zeros : Bool) → FindsTold before Blank → ((t : Told) → before.told ≡ Some t → IsTrue zeros ↔ AllZeros t.bytes)
-        → zeros ≡ false → StoreUnmade kind version config before mid (fault.Store store.NotFormatted)
-    used_unmade zeros blank says is =
-        ((look.told, look.faults), λ t tells. inr (inr (blank t tells, λ all. absurd (false≢true (sym is ∙ (says t tells).1 all)))))
+    pub used_not_taken : (zeros : Bool) → FindsTold before Blank → ((t : Told) → before.told ≡ Some t → IsTrue zeros ↔ AllZeros t.bytes)
+        → zeros ≡ false → (t : Told) → before.told ≡ Some t → IsNotTaken kind version config t.bytes
+    used_not_taken zeros blank says is t tells = inr (inr (blank t tells, λ all. absurd (false≢true (sym is ∙ (says t tells).1 all))))
 
-    -- and what is refused at once was only read
-    pub refused_at_once : (what : Found) → FindsTold before what → ¬ (what ≡ Blank) → ¬ (what ≡ Standing)
-        → StoreUnmade kind version config before mid (fault.Store store.NotFormatted)
-    refused_at_once what finds not_blank not_standing =
-        ((look.told, look.faults), λ t tells. refused_found what t.bytes (finds t tells) not_blank not_standing)
+    -- what isn't the node's store, and isn't blank: another that stands is named
+    pub other_named : (after : DiskState) (f : MakeFault) → ((t : Told) → before.told ≡ Some t → IsNotTaken kind version config t.bytes)
+        → NamesOther mid after f → StoreUnmade kind version config before after f
+    other_named after (fault.OtherStore there) not_taken h =
+        (left_after after h.0, λ t tells. (not_taken t tells, h.1 t (look.told ∙ tells)))
+    other_named after (fault.Store store.NotFormatted) not_taken h =
+        (left_after after h.0, λ t tells. (not_taken t tells, h.1 t (look.told ∙ tells)))
+    other_named after (fault.Store store.DiskFailed) not_taken (rose, not, told) = failed_after after (rose, not, inl told)
+    other_named after (fault.Store store.TooSmall) not_taken h = absurd h
+    other_named after (fault.Store store.Memory) not_taken h = absurd h
+    other_named after (fault.Store (store.Damaged place)) not_taken h = absurd h
+    other_named after (fault.BadSlot slot) not_taken h = absurd h
+    other_named after (fault.BadBound place) not_taken h = absurd h
+
+    pub not_taken_found : (what : Found) → FindsTold before what → ¬ (what ≡ Blank) → ¬ (what ≡ Standing)
+        → (t : Told) → before.told ≡ Some t → IsNotTaken kind version config t.bytes
+    not_taken_found what finds not_blank not_standing t tells = refused_found what t.bytes (finds t tells) not_blank not_standing
 
   pub zeros_unread : (before mid : DiskState) (f : StoreFault) → ZerosUnread before mid f → StoreUnmade kind version config before mid (fault.Store f)
   zeros_unread before mid store.Memory h = h

@@ -2,6 +2,7 @@ pub mod NodeBuses
 pub mod BusWords
 pub mod CheckRows
 pub mod ChecksOverBus
+pub mod StandingRows
 pub mod GrowRows
 pub mod GrowsOverBus
 pub mod NodeStores

@@ -19,6 +19,7 @@ use Rattle.bus_store_commands.specs.declared.making.MakeFault.TheVariants as fau
 use Rattle.bus_store_commands.specs.NodeBuses.{ReadsNodeBus, LacksNodeBus}
 use Rattle.bus_store_commands.specs.NodeStores.{StoreMade, StoreUnmade}
 use Rattle.bus_store_commands.specs.BusWords.{asks_over_bus}
+use Rattle.bus_store_commands.specs.StandingRows.{standing_row}
 
 -- What goes in and out: the words after `slots`, what was known of the bus file's source before and after, the words
 -- that disks were opened by, and the disk that this run opened, if it did, as it was then and as it was left
@@ -50,12 +51,14 @@ abbrev pub make_row : MakeFault → Row
 make_row (fault.Store store.DiskFailed) = row_of 10 (store_text (codes "DiskFailed"))
 make_row (fault.Store store.Memory) = memory_row
 make_row (fault.Store cause) = fault_row cause
+make_row (fault.OtherStore there) = standing_row there
 make_row (fault.BadSlot slot) = bad_slot_row slot
 make_row (fault.BadBound place) = row_of 9 (store_text (codes "BadBound " ++ decimal place))
 
 -- its text has a number, and is made when it is printed
 abbrev pub HasNumber : MakeFault → Type 0
 HasNumber (fault.Store (store.Damaged place)) = Unit {0}
+HasNumber (fault.OtherStore there) = Unit {0}
 HasNumber (fault.BadSlot slot) = Unit {0}
 HasNumber (fault.BadBound place) = Unit {0}
 HasNumber cause = ⊥

@@ -1,6 +1,6 @@
 -- The store of a unit whose engine is a node of a bus: how it is made on an unused disk, or why it isn't (SHE
 -- specification, key memory; the cells of bounds are for AUTOSAR SecOC's freshness)
-use Rattle.std.specs.Prelude.{◌≡◌, ◌⊎◌, ℕ, ◌<◌, ◌≤◌, Option, Some, List, length, replicate}
+use Rattle.std.specs.Prelude.{◌≡◌, ◌⊎◌, ℕ, ◌<◌, ◌≤◌, Option, Some, None, List, length, replicate}
 use Rattle.cut_disk.specs.State.{DiskState, Told}
 use Rattle.cut_disk.specs.Calls.{Rose, IsQuiet}
 use Rattle.cell_store.specs.declared.kinds.Kind.{Kind}
@@ -20,6 +20,7 @@ use Rattle.secoc_node.specs.declared.faults.AttachFault.TheVariants as cells
 use Rattle.secoc_node.specs.Cells.{CellsOf, IsKept, SlotsButNoBound}
 use Rattle.bus_world.specs.TakingUp.{cells_in, new_cells}
 use Rattle.bus_world.specs.Opening.{StandsAs}
+use Rattle.store_growing.specs.StoreHeaders.{HeaderStands}
 use Rattle.bus_store_commands.specs.declared.making.MakeFault.{MakeFault}
 use Rattle.bus_store_commands.specs.declared.making.MakeFault.TheVariants as fault
 
@@ -52,14 +53,21 @@ abbrev pub StandsWith : Kind → Version → Config → List ℕ → (List (List
 StandsWith kind version config x P =
     IsFound kind version (cells_in config) x found.Standing × StandsAs (layout kind version) (cells_in config) x P
 
--- Why bytes are refused. Another store stands there, also the node's in version 1 for one of version 2, or anything
--- else, or the headers are blank and a byte isn't: cells may stand there whose header is damaged. Or the node's store
--- does, and a place is damaged, or a cell holds nothing that it is to hold: the first is named.
-abbrev pub BytesRefused : Kind → Version → Config → List ℕ → MakeFault → Type 0
-BytesRefused kind version config x (fault.Store store.NotFormatted) =
+-- these bytes aren't the node's store, also if they are its store of version 1 for one of version 2; and a byte isn't
+-- zero, so that no store is made: cells may stand there whose header is damaged
+abbrev pub IsNotTaken : Kind → Version → Config → List ℕ → Type 0
+IsNotTaken kind version config x =
     IsFound kind version (cells_in config) x found.Foreign
     ⊎ (IsFound kind version (cells_in config) x found.Older
     ⊎ (IsFound kind version (cells_in config) x found.Blank × (¬ AllZeros x)))
+
+-- Why bytes are refused. They aren't the node's store, and the store whose header stands there is named, if one does. Or
+-- the node's store does stand, and a place is damaged, or a cell holds nothing that it is to hold: the first is named.
+abbrev pub BytesRefused : Kind → Version → Config → List ℕ → MakeFault → Type 0
+BytesRefused kind version config x (fault.OtherStore there) =
+    IsNotTaken kind version config x × HeaderStands x (Some there)
+BytesRefused kind version config x (fault.Store store.NotFormatted) =
+    IsNotTaken kind version config x × HeaderStands x None
 BytesRefused kind version config x (fault.Store (store.Damaged place)) =
     IsFound kind version (cells_in config) x found.Standing
     × FirstDamaged (layout kind version) x (cells_in config) place
@@ -103,3 +111,13 @@ ZerosUnread before after store.Memory = LeftAsItWas before after
 ZerosUnread before after store.DiskFailed =
     Rose before.faults after.faults × (¬ IsQuiet before) × (after.told ≡ before.told)
 ZerosUnread before after fault = ⊥
+
+-- told bytes say which store's header stands, or that none does; or the disk failed, which was only read
+abbrev pub NamesOther : DiskState → DiskState → MakeFault → Type 0
+NamesOther before after (fault.OtherStore there) = LeftAsItWas before after
+    × ((t : Told) → before.told ≡ Some t → HeaderStands t.bytes (Some there))
+NamesOther before after (fault.Store store.NotFormatted) = LeftAsItWas before after
+    × ((t : Told) → before.told ≡ Some t → HeaderStands t.bytes None)
+NamesOther before after (fault.Store store.DiskFailed) =
+    Rose before.faults after.faults × (¬ IsQuiet before) × (after.told ≡ before.told)
+NamesOther before after cause = ⊥

@@ -9,10 +9,11 @@ ghost use Rattle.bus_store_commands.specs.GrowRows.{IsGrowRow, grown_words, Grow
 ghost use Rattle.bus_store_commands.specs.GrowsOverBus.{ComesNamed, TakesGrowth};
 
 use crate::node_buses::node_bus_from;
+use crate::refusals::{made, standing_refusal};
 use crate::words::asks_over_bus;
 use bus_config::BusConfig;
 use bus_port::{Sink, Source};
-use cell_store::{Kind, Version};
+use cell_store::{Kind, Layout, Version};
 use cut_disk::Disk;
 use file_disk::DiskOpener;
 use freshness_routes::Route;
@@ -43,24 +44,27 @@ pub fn grow_asked<S: Source>(
     node_bus_from(alloc, bus)
 }
 
-/// Opens the disk that an argument names, and grows the store on it to a cell for each of these routes, at most 256. It
-/// gives the status that the program ends with, and the disk, if it was opened.
+/// Opens the disk that an argument names, whose file is there, and grows the store on it to a cell for each of these
+/// routes, at most 256, if it is of the kind and the version that are wanted. It gives the status that the program ends
+/// with, and the disk, if it was opened.
 pub fn grow_named<P: DiskOpener, K: Sink>(
     alloc: Global,
     disk_opener: &mut P,
     word: &str,
+    wanted: Layout,
     routes: &[Route],
     sink: &mut K,
 ) -> (u8, Option<P::Opened>)
     requires { length routes.now ≤ 256 }
-    ensures { (was : Option DiskState) × EndsInRow (ComesNamed (P.opens disk_opener.old) (P.opened disk_opener.old)
-        (P.opened disk_opener.new) word.now routes.now was (option_map P.Opened.state result.1))
+    ensures grows { (was : Option DiskState) × EndsInRow (ComesNamed (P.opens disk_opener.old) (P.opened disk_opener.old)
+        (P.opened disk_opener.new) word.now wanted routes.now was (option_map P.Opened.state result.1))
         (record { before = K.state sink.old; after = K.state sink.new; status = result.0 }) }
+    ensures none_made { P.made disk_opener.new ≡ P.made disk_opener.old }
 {
-    match disk_opener.open(alloc, word) {
+    match disk_opener.open_standing(alloc, word) {
         Ok(opened) => {
             let mut disk = opened;
-            let status = grow_over(alloc, &mut disk, routes, sink);
+            let status = grow_over(alloc, &mut disk, wanted, routes, sink);
             (status, Some(disk))
         }
         Err(AllocError) => {
@@ -70,20 +74,21 @@ pub fn grow_named<P: DiskOpener, K: Sink>(
     }
 }
 
-/// Grows the store on a disk to a cell for each of these routes, at most 256, and prints what it has then. It gives the
-/// status that the program ends with: 9 and the first cause if the store isn't grown, 10 if the disk failed, 7 if
-/// memory is out, 6 if the sink failed.
+/// Grows the store on a disk to a cell for each of these routes, at most 256, if it is of the kind and the version that
+/// are wanted, and prints what it has then. It gives the status that the program ends with: 9 and the first cause if
+/// the store isn't grown, 10 if the disk failed, 7 if memory is out, 6 if the sink failed.
 pub fn grow_over<D: Disk, K: Sink>(
     alloc: Global,
     disk: &mut D,
+    wanted: Layout,
     routes: &[Route],
     sink: &mut K,
 ) -> u8
     requires { length routes.now ≤ 256 }
-    ensures { EndsInRow (GrowsOnDisk routes.now (D.state disk.old) (D.state disk.new))
+    ensures { EndsInRow (GrowsOnDisk wanted routes.now (D.state disk.old) (D.state disk.new))
         (record { before = K.state sink.old; after = K.state sink.new; status = result }) }
 {
-    match grown_text_over(alloc, disk, routes) {
+    match grown_text_over(alloc, disk, wanted, routes) {
         Ok(text) => tell(sink, text.as_slice(), DONE),
         Err(refusal) => tell_refusal(sink, &refusal),
     }
@@ -93,18 +98,19 @@ pub fn grow_over<D: Disk, K: Sink>(
 fn grown_text_over<D: Disk>(
     alloc: Global,
     disk: &mut D,
+    wanted: Layout,
     routes: &[Route],
 ) -> Result<Vec<u8>, Refusal>
     requires { length routes.now ≤ 256 }
     ensures done { IfOk result
-        (λ text. GrowsOnDisk routes.now (D.state disk.old) (D.state disk.new) (row_of 0 text.items)) }
-    ensures refused { IfErr result (GrowsOnDisk routes.now (D.state disk.old) (D.state disk.new)) }
+        (λ text. GrowsOnDisk wanted routes.now (D.state disk.old) (D.state disk.new) (row_of 0 text.items)) }
+    ensures refused { IfErr result (GrowsOnDisk wanted routes.now (D.state disk.old) (D.state disk.new)) }
 {
     let text = match grown_text(alloc, 14 + routes.len() as u16) {
         Ok(text) => text,
         Err(AllocError) => return Err(Refusal::no_memory()),
     };
-    match grow_store(alloc, disk, routes) {
+    match grow_store(alloc, disk, wanted, routes) {
         Ok(_cells) => Ok(text),
         Err(fault) => Err(grow_refusal(alloc, fault)),
     }
@@ -125,12 +131,12 @@ fn grow_refusal(alloc: Global, fault: GrowFault) -> Refusal
 {
     match fault {
         GrowFault::DiskFailed => Refusal::fixed(10, "store: DiskFailed\n"),
-        GrowFault::NotFormatted => Refusal::fixed(9, "store: NotFormatted\n"),
         GrowFault::TooSmall => Refusal::fixed(9, "store: TooSmall\n"),
+        GrowFault::OtherStore(there) => standing_refusal(alloc, there),
+        GrowFault::NotFormatted => Refusal::fixed(9, "store: NotFormatted\n"),
+        GrowFault::Damaged(cell) => made(format!(in alloc; "store: Damaged {cell}\n")),
+        GrowFault::BadSlot(cell) => made(format!(in alloc; "store: BadSlot {cell}\n")),
+        GrowFault::BadBound(cell) => made(format!(in alloc; "store: BadBound {cell}\n")),
         GrowFault::Memory => Refusal::no_memory(),
-        GrowFault::BadBound(cell) => match format!(in alloc; "store: BadBound {cell}\n") {
-            Ok(text) => Refusal::made(9, text),
-            Err(AllocError) => Refusal::no_memory(),
-        },
     }
 }

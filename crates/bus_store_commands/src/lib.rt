@@ -17,6 +17,7 @@ mod laws;
 mod make;
 mod making;
 mod node_buses;
+mod refusals;
 mod start;
 mod words;
 

@@ -4,7 +4,6 @@ ghost use Rattle.cut_disk.specs.State.{DiskState};
 ghost use Rattle.freshness_routes.specs.Config.{IsConfig};
 ghost use Rattle.program_edge.specs.NamedSources.{word_source, openings, OverNamed};
 ghost use Rattle.program_edge.specs.Endings.{EndsInRow};
-ghost use Rattle.program_edge.specs.Rows.{row_of, memory_row};
 ghost use Rattle.bus_store_commands.specs.BusWords.{file_over_bus};
 ghost use Rattle.bus_store_commands.specs.MakeRows.{made_text, node_config as config_named, IsMakeRow};
 ghost use Rattle.bus_store_commands.specs.MakesUnitStore.{MakesUnitStore};
@@ -12,6 +11,7 @@ ghost use Rattle.bus_store_commands.specs.MakeSteps.{PreparesMake, ComesOverDisk
 
 use crate::making::{MakeFault, cells_of, make_store};
 use crate::node_buses::node_bus_from;
+use crate::refusals::{made, standing_refusal};
 use crate::words::{argument_at, asks_over_bus, file_over_bus};
 use bus_config::BusConfig;
 use bus_port::{Sink, Source};
@@ -162,6 +162,7 @@ fn make_refusal(alloc: Global, fault: MakeFault) -> Refusal
 {
     match fault {
         MakeFault::Store(fault) => store_fault_refusal(alloc, fault),
+        MakeFault::OtherStore(there) => standing_refusal(alloc, there),
         MakeFault::BadSlot(slot) => {
             let number = slot.number();
             made(format!(in alloc; "store: BadSlot {number}\n"))
@@ -178,16 +179,5 @@ fn store_fault_refusal(alloc: Global, fault: StoreFault) -> Refusal
     match fault {
         StoreFault::DiskFailed => Refusal::fixed(10, "store: DiskFailed\n"),
         _ => store_refusal(alloc, fault),
-    }
-}
-
-/// The row of 9 with this text, or out of memory for the text.
-fn made(text: Result<String, AllocError>) -> Refusal
-    ensures ok { IfOk text (λ text. result ≡ row_of 9 (string_bytes text)) }
-    ensures err { IfErr text (λ _. result ≡ memory_row) }
-{
-    match text {
-        Ok(text) => Refusal::made(9, text),
-        Err(AllocError) => Refusal::no_memory(),
     }
 }

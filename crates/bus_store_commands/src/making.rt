@@ -8,7 +8,7 @@ ghost use Rattle.cut_disk.specs.State.{Told};
 ghost use Rattle.cut_disk.specs.Calls.{AsBefore};
 ghost use Rattle.freshness_routes.specs.Config.{IsConfig};
 ghost use Rattle.bus_store_commands.specs.NodeStores.{StoreMade, StoreUnmade, fault_of_cells};
-ghost use Rattle.bus_store_commands.specs.NodeStores.{AllZeros, IsUnused, ZerosUnread};
+ghost use Rattle.bus_store_commands.specs.NodeStores.{AllZeros, IsUnused, ZerosUnread, NamesOther};
 
 use any_cells::{AnyCells, Found, look, store_size};
 use cell_store::{Cells, Kind, StoreFault, Version};
@@ -17,13 +17,16 @@ use freshness_routes::NodeConfig;
 use key_slots::SlotId;
 use secoc_node::{AttachFault, Node, first_cells};
 use std::alloc::Global;
+use store_growing::{StoreHeader, header_on};
 
 /// Why a node's store isn't made.
 #[derive(Clone, Copy, Debug, PartialEq, Eq, Drop)]
 pub enum MakeFault {
-    /// The disk failed or has no room, another store or something else stands there, the node's store there is damaged,
-    /// or memory is out.
+    /// The disk failed or has no room, a byte isn't zero and no store's header stands there, the node's store there is
+    /// damaged, or memory is out.
     Store(StoreFault),
+    /// The header of this store stands there, of another kind, version or number of cells.
+    OtherStore(StoreHeader),
     /// The node's store stands there, and this slot's cell holds no slot.
     BadSlot(SlotId),
     /// It stands there, and this cell doesn't hold the bound of its route.
@@ -43,9 +46,9 @@ pub struct Unmade<D> {
 /// are zeros: with the cells of a new node, as the node's first start would. The node's store that stands there whole
 /// is only read, and so is anything else, which is refused.
 ///
-/// Errors, in this order: `TooSmall`; `DiskFailed` of the look; `NotFormatted`; of blank headers `Memory`,
-/// `DiskFailed` of the bytes, `NotFormatted` if one isn't zero, and `DiskFailed` of the format; of the store that
-/// stands, `Memory`, `DiskFailed`, `Damaged`, `BadSlot` and `BadBound`.
+/// Errors, in this order: `TooSmall`; `DiskFailed` of the look; `OtherStore` and `NotFormatted`; of blank headers
+/// `Memory`, `DiskFailed` of the bytes, `OtherStore` and `NotFormatted` if one isn't zero, and `DiskFailed` of the
+/// format; of the node's store that stands, `Memory`, `DiskFailed`, `Damaged`, `BadSlot` and `BadBound`.
 pub fn make_store<D: Disk>(
     alloc: Global,
     kind: Kind,
@@ -88,13 +91,31 @@ fn make_in_room<D: Disk>(
     match look(&mut disk, kind, version, cells_of(config)) {
         Ok(Found::Blank) => make_blank(alloc, kind, version, config, disk),
         Ok(Found::Standing) => find_standing(alloc, kind, version, config, disk),
-        Ok(_) => {
-            let fault = MakeFault::Store(StoreFault::NotFormatted);
-            Err(Unmade { disk, fault })
-        }
+        Ok(_) => Err(refuse(disk)),
         Err(DiskFailed) => {
             let fault = MakeFault::Store(StoreFault::DiskFailed);
             Err(Unmade { disk, fault })
+        }
+    }
+}
+
+/// Refuses a disk that is neither unused nor has the node's store: by the store whose header stands there, if one does.
+fn refuse<D: Disk>(mut disk: D) -> Unmade<D>
+    requires { 32 ≤ (D.state disk).size }
+    ensures { NamesOther (D.state disk) (D.state result.disk) result.fault }
+{
+    match header_on(&mut disk) {
+        Ok(Some(there)) => {
+            let fault = MakeFault::OtherStore(there);
+            Unmade { disk, fault }
+        }
+        Ok(None) => {
+            let fault = MakeFault::Store(StoreFault::NotFormatted);
+            Unmade { disk, fault }
+        }
+        Err(DiskFailed) => {
+            let fault = MakeFault::Store(StoreFault::DiskFailed);
+            Unmade { disk, fault }
         }
     }
 }
@@ -116,10 +137,7 @@ fn make_blank<D: Disk>(
 {
     match is_zeroed(alloc, &mut disk) {
         Ok(true) => make_new(kind, version, config, disk),
-        Ok(false) => {
-            let fault = MakeFault::Store(StoreFault::NotFormatted);
-            Err(Unmade { disk, fault })
-        }
+        Ok(false) => Err(refuse(disk)),
         Err(fault) => Err(Unmade {
             disk,
             fault: MakeFault::Store(fault),

@@ -10,10 +10,12 @@ use Rattle.cell_store.specs.Twin.{cell_at, is_live, twin_size, first_at, second_
 use Rattle.cell_store.proofs.CallerLemmas.{part-same, part-splice, SameOutside-after, SameOutside-refl, SameOutside-widen}
 use Rattle.freshness_routes.specs.declared.routes.Route.{Route}
 use Rattle.freshness_routes.specs.Config.{IsRoute}
-use Rattle.store_growing.specs.RouteCells.{route_cell, RouteAt, first_bound, HoldsRoute, IsErased, IsFree, FreeFrom, HaveCells, HasTwinHead, EndsErased, CanGrow}
+use Rattle.cell_store.specs.declared.kinds.Kind.TheVariants.{Twin}
+use Rattle.store_growing.specs.StoreHeaders.{HasFirstHead}
+use Rattle.store_growing.specs.RouteCells.{route_cell, RouteAt, first_bound, HaveSlots, HoldsRoute, IsErased, IsFree, FreeFrom, HaveCells, EndsErased, CanGrow}
 use Rattle.store_growing.specs.LookSteps.{HaveJust}
 use Rattle.store_growing.specs.GrowingStores.{first_copy, with_cell, with_cells, with_routes}
-use Rattle.store_growing.proofs.OneCell.{Apart, head_same, counted_same, cell_same, held_same, erased_same, free_same, erased_closed, whole_holds, copy_sized, with_cell_same}
+use Rattle.store_growing.proofs.OneCell.{Apart, head_same, counted_same, cell_same, held_same, slot_same, erased_same, free_same, erased_closed, whole_holds, copy_sized, with_cell_same}
 
 -- ---- a route at its place
 
@@ -114,10 +116,13 @@ module _ (routes : List Route) (x : List ℕ) (count : ℕ) (route : Route) (few
     wide : length y ≡ length x
     wide = same.lengths
 
-    head_kept : HasTwinHead routes y
-    head_kept =
-        head_same (route_cell (length routes)) x y (omega (arith, room)) (omega (arith, room, wide))
-        (part-same 0 32 (first_at here) 34 x y same (inl (omega arith))) can.head
+    head_kept : HasFirstHead Twin y
+    head_kept n =
+        head_same n x y (omega (arith, room)) (omega (arith, room, wide))
+        (part-same 0 32 (first_at here) 34 x y same (inl (omega arith))) (can.head n)
+
+    slots_kept : HaveSlots y 14
+    slots_kept cell low = slot_same cell (first_at here) 34 x y same (inl (omega (arith, low))) (can.slots cell low)
 
     held_kept : (place : ℕ) (other : Route) → place < count → RouteAt routes place other → HoldsRoute y (route_cell place) other
     held_kept place other low there =
@@ -141,6 +146,7 @@ module _ (routes : List Route) (x : List ℕ) (count : ℕ) (route : Route) (few
     pub still : is_live (part (first_at here) 34 y) ≡ false → CanGrow routes y count
     still closed = record {
       head = head_kept;
+      slots = slots_kept;
       have = record { few = can.have.few; held = held_kept };
       free = λ place from low. elim (cases_lt count place) [
         | inl after ↦ free_after place after low
@@ -167,6 +173,7 @@ module _ (routes : List Route) (x : List ℕ) (count : ℕ) (route : Route) (few
     pub one_more : part (first_at here) 34 y ≡ first_copy route → CanGrow routes y (count + 1)
     one_more whole = record {
       head = head_kept;
+      slots = slots_kept;
       have = have_more routes y count route (record { few = can.have.few; held = held_kept }) at (first_holds whole);
       free = λ place from low. free_after place (omega (arith, from)) low;
       ends = ends_kept;

@@ -1,6 +1,6 @@
 -- What the steps of a growth leave of a disk
-use Rattle.std.proofs.Common.{◌≡◌, ◌∙◌, ℕ, suc, ◌+◌, ◌*◌, ◌-◌, ◌<◌, ◌≤◌, List, [], ◌∷◌, length, drop, take, get_or, refl, sym, ap, subst, inl, inr, arith, Bool, true, false}
-use Rattle.std.specs.Prelude.{Option, Some, Result, Ok, Err, OnOk, OnErr}
+use Rattle.std.proofs.Common.{◌≡◌, ◌∙◌, ℕ, suc, ◌+◌, ◌*◌, ◌-◌, ◌<◌, ◌≤◌, List, [], ◌∷◌, length, drop, take, get_or, refl, sym, ap, subst, inl, inr, arith, false}
+use Rattle.std.specs.Prelude.{Option, Some, None, Result, Ok, Err, OnOk, OnErr, IfSome}
 use Rattle.std.proofs.lemmas.List.{length-drop, length-take, take_all}
 use Rattle.std.proofs.lemmas.Option.{same_Some}
 use Rattle.basics.specs.Numbers.{bytes_of}
@@ -10,8 +10,9 @@ use Rattle.cut_disk.specs.Images.{firm, splice, EachImage, Tears, ReadsAs}
 use Rattle.cut_disk.specs.Calls.{IsDisk, Runs, AsBefore}
 use Rattle.cut_disk.specs.Lasting.{Lasts}
 use Rattle.cut_disk.proofs.CallerLemmas.{runs_more, runs_join, as_before_none, as_before_more}
+use Rattle.cell_store.specs.declared.kinds.Kind.TheVariants.{Twin}
+use Rattle.cell_store.specs.declared.kinds.Layout.{Layout}
 use Rattle.cell_store.specs.declared.kinds.Version.TheVariants.{One, Two}
-use Rattle.cell_store.specs.declared.kinds.Probe.{Probe}
 use Rattle.cell_store.specs.declared.kinds.Probe.TheVariants as probe
 use Rattle.cell_store.specs.Layout.{SameOutside, layout, part, from_base, twin_layout}
 use Rattle.cell_store.specs.Store.{HasHeader, Probes}
@@ -24,12 +25,16 @@ use Rattle.freshness_routes.specs.declared.routes.Route.{Route}
 use Rattle.store_plan.specs.Growing.{with_number}
 use Rattle.store_growing.specs.declared.faults.GrowFault.{GrowFault}
 use Rattle.store_growing.specs.declared.faults.GrowFault.TheVariants as fault
-use Rattle.store_growing.specs.RouteCells.{route_cell, first_bound, FreeFrom, CanGrow, HasVersionTwo, RefusesBytes}
+use Rattle.store_growing.specs.declared.headers.StoreHeader.{StoreHeader}
+use Rattle.store_growing.specs.StoreHeaders.{HasVersionTwo, HasFirstHead, HeaderStands}
+use Rattle.store_growing.specs.RouteCells.{route_cell, first_bound, FreeFrom, CanGrow, RefusesBytes}
 use Rattle.store_growing.specs.GrowingStores.{first_copy, with_cell, with_cells, with_routes, CutsCells, within, later, OfBytes, GrowsStore, CutsStore, NotGrown}
-use Rattle.store_growing.specs.GrowingStores.{HasRouteRoom, CanBeGrown, CannotBeGrown, newer, by_bytes}
-use Rattle.store_growing.specs.GrowSteps.{Sees, NotSeen, SaysStore, AreClosed, MakesOfBytes, CutsCellOnDisk, CutsCellsOnDisk, CutsNumberOnDisk}
+use Rattle.store_growing.specs.GrowingStores.{HasRouteRoom, CanBeGrown, CannotBeGrown, other_store, no_store, by_bytes}
+use Rattle.store_growing.specs.GrowSteps.{Sees, FitsWanted, TakesHeader, RefusesHeader, NotSeen, AreClosed, MakesOfBytes}
+use Rattle.store_growing.specs.GrowSteps.{CutsCellOnDisk, CutsCellsOnDisk, CutsNumberOnDisk}
 use Rattle.store_growing.specs.GrowSteps.{WritesLacking, CutsLacking}
 use Rattle.store_growing.proofs.OneCell.{number_there, bound_sized, with_cell_same}
+use Rattle.store_growing.proofs.HeaderFacts.{is_first_twin}
 use Rattle.store_growing.proofs.CellsWritten.{cells_within}
 
 -- ---- what is read
@@ -43,6 +48,14 @@ sees_read before out is sized reads x told =
     let e : (0 + length out) - 0 ≡ length out = omega arith in
     reads (firm x) told ∙ ap (λ (m : ℕ). take m x) e ∙ take_all (length out) x (omega (arith, long))
 
+-- the first 32 bytes, as they were read
+pub front_read : (before : DiskState) (out : List ℕ) → length out ≡ 32 → ReadsAs before.told 0 out → (t : Told) → before.told ≡ Some t
+    → part 0 32 t.bytes ≡ part 0 32 out
+front_read before out sized reads t told =
+    let e : (0 + length out) - 0 ≡ 32 = omega (arith, sized) in
+    let is : out ≡ take 32 t.bytes = reads t told ∙ ap (λ (m : ℕ). take m t.bytes) e in
+    sym is ∙ sym (take_all 32 out (omega (arith, sized)))
+
 -- ---- what holds of a result whatever it is
 
 pub for_ok : {T E P : Type 0} (r : Result T E) → P → OnOk r P
@@ -55,13 +68,11 @@ for_err (Err e) p = p
 
 -- ---- a store of version 2
 
-pub probe_says : (x : List ℕ) (p : Probe) (says : Bool) → Probes Two (part 0 32 (from_base Two x)) p → SaysStore p says
-    → (says ≡ true → HasVersionTwo x) × (HasVersionTwo x → says ≡ true)
-probe_says x probe.Blank says found is =
-    (λ e. absurd (cc), λ two. absurd (header-not_blank (layout two.0 Two) two.1 (sym two.3 ∙ found)))
-probe_says x probe.Foreign says found is =
-    (λ e. absurd (cc), λ two. absurd (found.1 two.0 two.1 two.2 two.3))
-probe_says x (probe.Store kind n) says found is = (λ e. (kind, n, found.0, found.1), λ _. is)
+pub none_blank : (x : List ℕ) → Probes Two (part 0 32 (from_base Two x)) probe.Blank → ¬ HasVersionTwo x
+none_blank x found two = header-not_blank (layout two.0 Two) two.1 (sym two.3 ∙ found)
+
+pub none_foreign : (x : List ℕ) → Probes Two (part 0 32 (from_base Two x)) probe.Foreign → ¬ HasVersionTwo x
+none_foreign x found two = found.1 two.0 two.1 two.2 two.3
 
 pub short_has_none : (x : List ℕ) → length x < 32800 → HasVersionTwo x → ⊥
 short_has_none x short (kind, n, few, head) =
@@ -272,35 +283,83 @@ module _ (routes : List Route) (count : ℕ) (image : List ℕ) (old mid new : D
     left = cuts x (same ∙ told) (sees x told) (are_closed x (could x told).free) t is_told y left;
   })
 
+-- ---- whether its header is taken
+
+module _ (wanted : Layout) (image : List ℕ) (old mid : DiskState) (there : Option StoreHeader) (same : mid.told ≡ old.told) (sees : Sees old image)
+    (stands : (t : Told) → mid.told ≡ Some t → part 0 32 t.bytes ≡ part 0 32 image → HeaderStands t.bytes there) where
+  stands_in : (x : List ℕ) → old.told ≡ Some (firm x) → HeaderStands x there
+  stands_in x told = stands (firm x) (same ∙ told) (ap (part 0 32) (sym (sees x told)))
+
+  pub header_refused : (f : GrowFault) (new : DiskState) → AsBefore 2 old new → RefusesHeader wanted there f → NotSeen wanted old new f
+  header_refused fault.NotFormatted new before why = (before, λ x told. (there, stands_in x told, why))
+  header_refused (fault.OtherStore header) new before why = (before, λ x told. (there, stands_in x told, why))
+  header_refused fault.DiskFailed new before why = absurd why
+  header_refused fault.TooSmall new before why = absurd why
+  header_refused (fault.Damaged cell) new before why = absurd why
+  header_refused (fault.BadSlot cell) new before why = absurd why
+  header_refused (fault.BadBound cell) new before why = absurd why
+  header_refused fault.Memory new before why = absurd why
+
+pub header_fits : (wanted : Layout) (image : List ℕ) (old mid : DiskState) (there : Option StoreHeader) → mid.told ≡ old.told → Sees old image
+    → ((t : Told) → mid.told ≡ Some t → part 0 32 t.bytes ≡ part 0 32 image → HeaderStands t.bytes there)
+    → IfSome there (λ header. header.layout.version ≡ One → HasFirstHead header.layout.kind image)
+    → TakesHeader wanted there → FitsWanted wanted image old
+header_fits wanted image old mid None same sees stands first takes = absurd takes
+header_fits wanted image old mid (Some header) same sees stands first (twin, wants) = record {
+  wants = wants;
+  version = λ x told. (is_first_twin x header twin (stands_in wanted image old mid (Some header) same sees stands x told)).0;
+  head = subst (λ (l : Layout). HasFirstHead l.kind image) twin (first (ap (λ (l : Layout). l.version) twin));
+}
+
 -- ---- why it isn't grown
 
-pub not_seen : (routes : List Route) (old new : DiskState) (f : GrowFault) → HasRouteRoom routes old → NotSeen old new f → NotGrown routes old new f
-not_seen routes old new fault.NotFormatted room why = (why.0, λ x told. newer x room told (why.1 x told))
-not_seen routes old new fault.DiskFailed room why = (why.0, inl why.1)
-not_seen routes old new fault.TooSmall room why = absurd why
-not_seen routes old new (fault.BadBound bad) room why = absurd why
-not_seen routes old new fault.Memory room why = absurd why
+pub not_seen : (wanted : Layout) (routes : List Route) (old new : DiskState) (f : GrowFault) → HasRouteRoom routes old → NotSeen wanted old new f
+    → NotGrown wanted routes old new f
+not_seen wanted routes old new fault.NotFormatted room why = (
+  why.0,
+  λ x told.
+      let (there, stands, none) = why.1 x told in
+      no_store x room told (subst (HeaderStands x) none stands),
+)
+not_seen wanted routes old new (fault.OtherStore header) room why = (
+  why.0,
+  λ x told.
+      let (there, stands, is) = why.1 x told in
+      other_store x header room told (subst (HeaderStands x) is.0 stands) is.1,
+)
+not_seen wanted routes old new fault.DiskFailed room why = (why.0, inl why.1)
+not_seen wanted routes old new fault.TooSmall room why = (why.0, inr (λ x told. absurd (why.1 x told).2))
+not_seen wanted routes old new (fault.Damaged cell) room why = (why.0, λ x told. absurd (why.1 x told).2)
+not_seen wanted routes old new (fault.BadSlot cell) room why = (why.0, λ x told. absurd (why.1 x told).2)
+not_seen wanted routes old new (fault.BadBound cell) room why = (why.0, λ x told. absurd (why.1 x told).2)
+not_seen wanted routes old new fault.Memory room why = why.0
 
-module _ (routes : List Route) (old new : DiskState) (image : List ℕ) (room : HasRouteRoom routes old) (sees : Sees old image)
-    (version : OfBytes old (λ x. ¬ HasVersionTwo x)) where
-  cause : (f : GrowFault) → RefusesBytes routes image f → OfBytes old (λ x. CannotBeGrown routes old f)
-  cause f why x told = by_bytes x f room told (version x told) (subst (λ (b : List ℕ). RefusesBytes routes b f) (sees x told) why)
+module _ (wanted : Layout) (routes : List Route) (old new : DiskState) (image : List ℕ) (room : HasRouteRoom routes old) (sees : Sees old image)
+    (fits : FitsWanted wanted image old) where
+  cause : (f : GrowFault) → RefusesBytes routes image f → OfBytes old (λ x. CannotBeGrown wanted routes old f)
+  cause f why x told =
+      by_bytes x f room told fits.wants (fits.version x told) (subst (HasFirstHead Twin) (sees x told) fits.head)
+      (subst (λ (b : List ℕ). RefusesBytes routes b f) (sees x told) why)
 
-  pub bytes_refused : (f : GrowFault) → AsBefore 2 old new → RefusesBytes routes image f → NotGrown routes old new f
-  bytes_refused fault.NotFormatted before why = (before, cause fault.NotFormatted why)
+  pub bytes_refused : (f : GrowFault) → AsBefore 2 old new → RefusesBytes routes image f → NotGrown wanted routes old new f
+  bytes_refused fault.NotFormatted before why = absurd why
+  bytes_refused (fault.OtherStore there) before why = absurd why
   bytes_refused fault.TooSmall before why = (before, inr (cause fault.TooSmall why))
-  bytes_refused (fault.BadBound bad) before why = (before, cause (fault.BadBound bad) why)
+  bytes_refused (fault.Damaged cell) before why = (before, cause (fault.Damaged cell) why)
+  bytes_refused (fault.BadSlot cell) before why = (before, cause (fault.BadSlot cell) why)
+  bytes_refused (fault.BadBound cell) before why = (before, cause (fault.BadBound cell) why)
   bytes_refused fault.Memory before why = absurd why
   bytes_refused fault.DiskFailed before why = absurd why
 
 -- and why it is
-pub could_be : (routes : List Route) (old : DiskState) (image : List ℕ) (count : ℕ) → HasRouteRoom routes old → Sees old image
-    → OfBytes old (λ x. ¬ HasVersionTwo x) → CanGrow routes image count → OfBytes old (λ x. CanBeGrown routes old)
-could_be routes old image count room sees version can x told = record {
+pub could_be : (wanted : Layout) (routes : List Route) (old : DiskState) (image : List ℕ) (count : ℕ) → HasRouteRoom routes old → Sees old image
+    → FitsWanted wanted image old → CanGrow routes image count → OfBytes old (λ x. CanBeGrown wanted routes old)
+could_be wanted routes old image count room sees fits can x told = record {
+  wants = fits.wants;
   room = room;
   bytes = x;
   told = told;
-  version = version x told;
+  version = fits.version x told;
   count = count;
   could = subst (λ (b : List ℕ). CanGrow routes b count) (sees x told) can;
 }

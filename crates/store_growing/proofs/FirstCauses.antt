@@ -1,8 +1,7 @@
 -- One cause at most stands why a store isn't grown, none if it can be, and one of the two always
 use Rattle.std.proofs.Common.{◌≡◌, ◌⊎◌, ◌∙◌, ℕ, zero, suc, ◌+◌, ◌-◌, ◌<◌, ◌≤◌, ◌^◌, List, length, refl, sym, ap, subst, inl, inr, arith, Some, None, replicate}
-use Rattle.std.specs.Prelude.{Option, bytes_eq}
+use Rattle.std.specs.Prelude.{Option}
 use Rattle.std.proofs.lemmas.Bool.{cases_Bool, cases_lt, false≢true}
-use Rattle.std.proofs.lemmas.Slice.Eq.{bytes_eq-Decides}
 use Rattle.std.proofs.lemmas.Option.{same_Some}
 use Rattle.basics.specs.Numbers.{number_of, bytes_of}
 use Rattle.basics.proofs.CallerLemmas.{number_of-bytes_of-lt}
@@ -10,21 +9,24 @@ use Rattle.cut_disk.specs.State.{DiskState, Told}
 use Rattle.cut_disk.specs.Images.{firm}
 use Rattle.cell_store.specs.declared.kinds.Kind.{Kind}
 use Rattle.cell_store.specs.declared.kinds.Kind.TheVariants.{Twin, Log}
-use Rattle.cell_store.specs.declared.kinds.Version.TheVariants.{Two}
-use Rattle.cell_store.specs.Layout.{part, layout, header, from_base}
+use Rattle.cell_store.specs.declared.kinds.Layout.{Layout}
+use Rattle.cell_store.specs.declared.kinds.Version.{Version}
+use Rattle.cell_store.specs.declared.kinds.Version.TheVariants.{One, Two}
+use Rattle.cell_store.specs.Layout.{part, twin_layout}
 use Rattle.cell_store.specs.Twin.{cell_at, is_live, twin_size, first_at, second_at}
-use Rattle.cell_store.specs.Store.{FewCells, HasHeader}
 use Rattle.freshness_routes.specs.declared.routes.Route.{Route}
 use Rattle.freshness_store.specs.Bound.{bound_cell, HoldsBound}
-use Rattle.store_plan.specs.Growing.{with_number}
-use Rattle.store_plan.proofs.CallerLemmas.{decide-head}
 use Rattle.store_growing.specs.declared.faults.GrowFault.{GrowFault}
-use Rattle.store_growing.specs.declared.faults.GrowFault.TheVariants.{DiskFailed, NotFormatted, TooSmall, BadBound, Memory}
-use Rattle.store_growing.specs.RouteCells.{route_cell, RouteAt, HoldsRoute, cells_counted, IsErased, IsFree, FreeFrom, HaveCells, HasTwinHead}
-use Rattle.store_growing.specs.RouteCells.{CanGrow, HasVersionTwo, HoldsOther, RefusesBytes}
-use Rattle.store_growing.specs.LookSteps.{HaveJust, UsedAt}
-use Rattle.store_growing.specs.GrowingStores.{OfBytes, CanBeGrown, CannotBeGrown, no_room, newer, by_bytes}
+use Rattle.store_growing.specs.declared.faults.GrowFault.TheVariants.{DiskFailed, NotFormatted, TooSmall, BadBound, OtherStore, Damaged, BadSlot, Memory}
+use Rattle.store_growing.specs.declared.headers.StoreHeader.{StoreHeader}
+use Rattle.store_growing.specs.StoreHeaders.{cells_counted, HasVersionTwo, HasFirstHead, HeaderStands, store_header}
+use Rattle.store_growing.specs.RouteCells.{route_cell, RouteAt, HoldsRoute, IsErased, IsFree, FreeFrom, HaveCells, HaveSlots}
+use Rattle.store_growing.specs.RouteCells.{CanGrow, HoldsOther, RefusesBytes}
+use Rattle.store_growing.specs.LookSteps.{HaveJust, UsedAt, RefusesSlots}
+use Rattle.store_growing.specs.GrowingStores.{OfBytes, CanBeGrown, CannotBeGrown, IsOther, HasRouteRoom, no_room, other_store, no_store, by_bytes}
 use Rattle.store_growing.proofs.OneCell.{free_isnt_held}
+use Rattle.store_growing.proofs.HeaderFacts.{Decided, bytes_same, stands_one, one_stands, first_twin_stands, is_first_twin}
+use Rattle.store_growing.proofs.SlotsFirst.{of_damaged, of_bad, not_whole, one_first, not_both, slots_seen}
 use Rattle.store_growing.proofs.CellsWritten.{routes_some, have_none, have_more, have_just, have_all, first_or_later}
 
 -- ---- the first route without its cell is one, and so is the first cell that can't be written
@@ -74,28 +76,50 @@ module _ (routes : List Route) (x : List ℕ) where
       h.is ∙ (ap route_cell same ∙ sym k.is)
 
   pub one_fault : (one other : GrowFault) → RefusesBytes routes x one → RefusesBytes routes x other → one ≡ other
-  one_fault TooSmall TooSmall a b = refl
-  one_fault TooSmall NotFormatted a b = absurd (b a.head)
-  one_fault TooSmall (BadBound cell) a b = absurd (none_used a.count a.have a.free cell b)
-  one_fault TooSmall Memory a b = absurd b
-  one_fault TooSmall DiskFailed a b = absurd b
-  one_fault NotFormatted TooSmall a b = absurd (a b.head)
-  one_fault NotFormatted NotFormatted a b = refl
-  one_fault NotFormatted (BadBound cell) a b = absurd (a b.head)
-  one_fault NotFormatted Memory a b = absurd b
-  one_fault NotFormatted DiskFailed a b = absurd b
-  one_fault (BadBound cell) TooSmall a b = absurd (none_used b.count b.have b.free cell a)
-  one_fault (BadBound cell) NotFormatted a b = absurd (b a.head)
+  one_fault (Damaged cell) (Damaged other) a b = ap Damaged (one_first x cell other (of_damaged x cell a) (of_damaged x other b))
+  one_fault (Damaged cell) (BadSlot other) a b = absurd (not_both x cell other a b)
+  one_fault (Damaged cell) (BadBound other) a b = absurd (not_whole x cell (of_damaged x cell a) b.slots)
+  one_fault (Damaged cell) TooSmall a b = absurd (not_whole x cell (of_damaged x cell a) b.slots)
+  one_fault (Damaged cell) (OtherStore there) a b = absurd b
+  one_fault (Damaged cell) NotFormatted a b = absurd b
+  one_fault (Damaged cell) Memory a b = absurd b
+  one_fault (Damaged cell) DiskFailed a b = absurd b
+  one_fault (BadSlot cell) (Damaged other) a b = absurd (not_both x other cell b a)
+  one_fault (BadSlot cell) (BadSlot other) a b = ap BadSlot (one_first x cell other (of_bad x cell a) (of_bad x other b))
+  one_fault (BadSlot cell) (BadBound other) a b = absurd (not_whole x cell (of_bad x cell a) b.slots)
+  one_fault (BadSlot cell) TooSmall a b = absurd (not_whole x cell (of_bad x cell a) b.slots)
+  one_fault (BadSlot cell) (OtherStore there) a b = absurd b
+  one_fault (BadSlot cell) NotFormatted a b = absurd b
+  one_fault (BadSlot cell) Memory a b = absurd b
+  one_fault (BadSlot cell) DiskFailed a b = absurd b
+  one_fault (BadBound cell) (Damaged other) a b = absurd (not_whole x other (of_damaged x other b) a.slots)
+  one_fault (BadBound cell) (BadSlot other) a b = absurd (not_whole x other (of_bad x other b) a.slots)
   one_fault (BadBound cell) (BadBound other) a b = ap BadBound (one_cell cell other a b)
+  one_fault (BadBound cell) TooSmall a b = absurd (none_used b.count b.have b.free cell a)
+  one_fault (BadBound cell) (OtherStore there) a b = absurd b
+  one_fault (BadBound cell) NotFormatted a b = absurd b
   one_fault (BadBound cell) Memory a b = absurd b
   one_fault (BadBound cell) DiskFailed a b = absurd b
+  one_fault TooSmall (Damaged other) a b = absurd (not_whole x other (of_damaged x other b) a.slots)
+  one_fault TooSmall (BadSlot other) a b = absurd (not_whole x other (of_bad x other b) a.slots)
+  one_fault TooSmall (BadBound cell) a b = absurd (none_used a.count a.have a.free cell b)
+  one_fault TooSmall TooSmall a b = refl
+  one_fault TooSmall (OtherStore there) a b = absurd b
+  one_fault TooSmall NotFormatted a b = absurd b
+  one_fault TooSmall Memory a b = absurd b
+  one_fault TooSmall DiskFailed a b = absurd b
+  one_fault (OtherStore there) other a b = absurd a
+  one_fault NotFormatted other a b = absurd a
   one_fault Memory other a b = absurd a
   one_fault DiskFailed other a b = absurd a
 
   isnt_refused : (count : ℕ) → CanGrow routes x count → (fault : GrowFault) → RefusesBytes routes x fault → ⊥
-  isnt_refused count can TooSmall why = why.used can.ends
-  isnt_refused count can NotFormatted why = why can.head
+  isnt_refused count can (Damaged cell) why = not_whole x cell (of_damaged x cell why) can.slots
+  isnt_refused count can (BadSlot cell) why = not_whole x cell (of_bad x cell why) can.slots
   isnt_refused count can (BadBound cell) why = none_used count can.have can.free cell why
+  isnt_refused count can TooSmall why = why.used can.ends
+  isnt_refused count can (OtherStore there) why = why
+  isnt_refused count can NotFormatted why = why
   isnt_refused count can Memory why = why
   isnt_refused count can DiskFailed why = why
 
@@ -116,39 +140,67 @@ module _ (routes : List Route) (x : List ℕ) where
 same_bytes : (old : DiskState) (x y : List ℕ) → old.told ≡ Some (firm x) → old.told ≡ Some (firm y) → x ≡ y
 same_bytes old x y told also = let e : firm x ≡ firm y = same_Some _ _ (sym told ∙ also) in ap (λ (t : Told). t.bytes) e
 
-pub refused_once : (routes : List Route) (old : DiskState) (one other : GrowFault) → length routes ≤ 256 → CannotBeGrown routes old one
-    → CannotBeGrown routes old other → one ≡ other
-refused_once routes old _ _ few (no_room less) (no_room _) = refl
-refused_once routes old _ _ few (no_room less) (newer y room told two) = absurd (omega (arith, less, room))
-refused_once routes old _ _ few (no_room less) (by_bytes y other room told version why) = absurd (omega (arith, less, room))
-refused_once routes old _ _ few (newer x room told two) (no_room less) = absurd (omega (arith, less, room))
-refused_once routes old _ _ few (newer x room told two) (newer y _ also _) = refl
-refused_once routes old _ _ few (newer x room told two) (by_bytes y other _ also version why) =
-    absurd (version (subst HasVersionTwo (same_bytes old x y told also) two))
-refused_once routes old _ _ few (by_bytes x one room told version why) (no_room less) = absurd (omega (arith, less, room))
-refused_once routes old _ _ few (by_bytes x one room told version why) (newer y _ also two) =
-    absurd (version (subst HasVersionTwo (same_bytes old y x also told) two))
-refused_once routes old _ _ few (by_bytes x one room told version why) (by_bytes y other _ also _ cause) =
-    one_fault routes x one other why (subst (λ (b : List ℕ). RefusesBytes routes b other) (same_bytes old y x also told) cause)
+-- where another store stands than a twin store of version 1, or another is wanted, no such store is wanted and stands
+module _ (wanted : Layout) (x : List ℕ) (there : StoreHeader) (stands : HeaderStands x (Some there)) (other : IsOther wanted there) where
+  isnt_first_twin : wanted ≡ twin_layout One → ¬ HasVersionTwo x → HasFirstHead Twin x → ⊥
+  isnt_first_twin wants version head =
+      let same : there ≡ store_header Twin One (cells_counted x) =
+      same_Some _ _ (stands_one x (Some there) (Some (store_header Twin One (cells_counted x))) stands (first_twin_stands x version head)) in
+      other (ap (λ (h : StoreHeader). h.layout) same, wants)
 
-pub a_store_that_can_grow_is_not_refused : (routes : List Route) (old : DiskState) (fault : GrowFault) → length routes ≤ 256
-    → CanBeGrown routes old → ¬ CannotBeGrown routes old fault
-a_store_that_can_grow_is_not_refused routes old _ few can (no_room less) = let room = can.room in omega (arith, less, room)
-a_store_that_can_grow_is_not_refused routes old _ few can (newer x room told two) =
-    can.version (subst HasVersionTwo (same_bytes old x can.bytes told can.told) two)
-a_store_that_can_grow_is_not_refused routes old _ few can (by_bytes x fault room told version why) =
-    isnt_refused routes can.bytes can.count can.could fault
-    (subst (λ (b : List ℕ). RefusesBytes routes b fault) (same_bytes old x can.bytes told can.told) why)
+-- and where none stands
+none_isnt_first : (x : List ℕ) → HeaderStands x None → ¬ HasVersionTwo x → HasFirstHead Twin x → ⊥
+none_isnt_first x stands version head =
+    let e : None ≡ Some (store_header Twin One (cells_counted x)) =
+    stands_one x None (Some (store_header Twin One (cells_counted x))) stands (first_twin_stands x version head) in cc
+
+module _ (wanted : Layout) (routes : List Route) (old : DiskState) where
+  abbrev Cannot : GrowFault → Type 0
+  Cannot fault = CannotBeGrown wanted routes old fault
+
+  pub refused_once : (one other : GrowFault) → length routes ≤ 256 → Cannot one → Cannot other → one ≡ other
+  refused_once _ _ few (no_room less) (no_room _) = refl
+  refused_once _ _ few (no_room less) (other_store y there room told stands other) = absurd (omega (arith, less, room))
+  refused_once _ _ few (no_room less) (no_store y room told stands) = absurd (omega (arith, less, room))
+  refused_once _ _ few (no_room less) (by_bytes y other room told wants version head why) = absurd (omega (arith, less, room))
+  refused_once _ _ few (other_store x there room told stands other) (no_room less) = absurd (omega (arith, less, room))
+  refused_once _ _ few (other_store x there room told stands other) (other_store y that _ also has _) =
+      ap OtherStore (same_Some _ _ (stands_one x (Some there) (Some that) stands
+      (subst (λ (b : List ℕ). HeaderStands b (Some that)) (same_bytes old y x also told) has)))
+  refused_once _ _ few (other_store x there room told stands other) (no_store y _ also none) =
+      absurd (let e : Some there ≡ None = stands_one x (Some there) None stands
+      (subst (λ (b : List ℕ). HeaderStands b None) (same_bytes old y x also told) none) in cc)
+  refused_once _ _ few (other_store x there room told stands other) (by_bytes y fault _ also wants version head why) =
+      absurd (isnt_first_twin wanted y there (subst (λ (b : List ℕ). HeaderStands b (Some there)) (same_bytes old x y told also) stands) other
+      wants version head)
+  refused_once _ _ few (no_store x room told none) (no_room less) = absurd (omega (arith, less, room))
+  refused_once _ _ few (no_store x room told none) (other_store y there _ also stands other) =
+      absurd (let e : None ≡ Some there = stands_one x None (Some there) none
+      (subst (λ (b : List ℕ). HeaderStands b (Some there)) (same_bytes old y x also told) stands) in cc)
+  refused_once _ _ few (no_store x room told none) (no_store y _ also _) = refl
+  refused_once _ _ few (no_store x room told none) (by_bytes y fault _ also wants version head why) =
+      absurd (none_isnt_first y (subst (λ (b : List ℕ). HeaderStands b None) (same_bytes old x y told also) none) version head)
+  refused_once _ _ few (by_bytes x fault room told wants version head why) (no_room less) = absurd (omega (arith, less, room))
+  refused_once _ _ few (by_bytes x fault room told wants version head why) (other_store y there _ also stands other) =
+      absurd (isnt_first_twin wanted x there (subst (λ (b : List ℕ). HeaderStands b (Some there)) (same_bytes old y x also told) stands) other
+      wants version head)
+  refused_once _ _ few (by_bytes x fault room told wants version head why) (no_store y _ also none) =
+      absurd (none_isnt_first x (subst (λ (b : List ℕ). HeaderStands b None) (same_bytes old y x also told) none) version head)
+  refused_once _ _ few (by_bytes x one room told wants version head why) (by_bytes y other _ also _ _ _ cause) =
+      one_fault routes x one other why (subst (λ (b : List ℕ). RefusesBytes routes b other) (same_bytes old y x also told) cause)
+
+  pub a_store_that_can_grow_is_not_refused : (fault : GrowFault) → length routes ≤ 256 → CanBeGrown wanted routes old → ¬ Cannot fault
+  a_store_that_can_grow_is_not_refused _ few can (no_room less) = let room = can.room in omega (arith, less, room)
+  a_store_that_can_grow_is_not_refused _ few can (other_store x there room told stands other) =
+      isnt_first_twin wanted can.bytes there
+      (subst (λ (b : List ℕ). HeaderStands b (Some there)) (same_bytes old x can.bytes told can.told) stands) other can.wants can.version can.could.head
+  a_store_that_can_grow_is_not_refused _ few can (no_store x room told none) =
+      none_isnt_first can.bytes (subst (λ (b : List ℕ). HeaderStands b None) (same_bytes old x can.bytes told can.told) none) can.version can.could.head
+  a_store_that_can_grow_is_not_refused _ few can (by_bytes x fault room told wants version head why) =
+      isnt_refused routes can.bytes can.count can.could fault
+      (subst (λ (b : List ℕ). RefusesBytes routes b fault) (same_bytes old x can.bytes told can.told) why)
 
 -- ---- each is decided
-
-abbrev Decided : Type 0 → Type 0
-Decided P = P ⊎ (¬ P)
-
-bytes_same : (a b : List ℕ) → Decided (a ≡ b)
-bytes_same a b =
-    let d = bytes_eq-Decides a b in
-    elim (cases_Bool (bytes_eq a b)) [ inl on ↦ inl (d.0 on) | inr off ↦ inr (λ same. false≢true (sym off ∙ d.1 same)) ]
 
 erased_or_not : (at n : ℕ) (x : List ℕ) → Decided (IsErased at n x)
 erased_or_not at n x = elim (bytes_same (part at n x) (replicate n 0)) [
@@ -248,16 +300,16 @@ module _ (routes : List Route) (x : List ℕ) where
   abbrev Seen : Type 0
   Seen = ((count : ℕ) × CanGrow routes x count) ⊎ ((fault : GrowFault) × RefusesBytes routes x fault)
 
-  seen_free : (count : ℕ) → HasTwinHead routes x → HaveJust routes x count
+  seen_free : (count : ℕ) → HasFirstHead Twin x → HaveSlots x 14 → HaveJust routes x count
       → FreeFrom x count (length routes) ⊎ ((place : ℕ) × UsedAt x count (length routes) place) → Seen
-  seen_free count head just (inl free) = elim (erased_or_not (first_at (route_cell (length routes))) 68 x) [
-    | inl ends ↦ inl (count, record { head = head; have = just.have; free = free; ends = ends })
-    | inr used ↦ inr (TooSmall, record { head = head; count = count; have = just.have; free = free; used = used })
+  seen_free count head slots just (inl free) = elim (erased_or_not (first_at (route_cell (length routes))) 68 x) [
+    | inl ends ↦ inl (count, record { head = head; slots = slots; have = just.have; free = free; ends = ends })
+    | inr used ↦ inr (TooSmall, record { slots = slots; count = count; have = just.have; free = free; used = used })
   ]
-  seen_free count head just (inr (place, used)) = inr (
+  seen_free count head slots just (inr (place, used)) = inr (
     BadBound (route_cell place),
     record {
-      head = head;
+      slots = slots;
       count = count;
       have = just.have;
       lacks = just.lacks;
@@ -270,78 +322,77 @@ module _ (routes : List Route) (x : List ℕ) where
     },
   )
 
-  pub seen : Seen
-  seen = elim (decide-head (route_cell (length routes)) (with_number (route_cell (length routes)) x)) [
-    | inr none ↦ inr (NotFormatted, none)
-    | inl head ↦ (
+  -- what isn't the cell of a slot refuses the bytes
+  of_slots : (fault : GrowFault) → RefusesSlots x fault → RefusesBytes routes x fault
+  of_slots (Damaged cell) why = why
+  of_slots (BadSlot cell) why = why
+  of_slots (BadBound cell) why = absurd why
+  of_slots TooSmall why = absurd why
+  of_slots (OtherStore there) why = absurd why
+  of_slots NotFormatted why = absurd why
+  of_slots Memory why = absurd why
+  of_slots DiskFailed why = absurd why
+
+  pub seen : HasFirstHead Twin x → Seen
+  seen head = elim (slots_seen x) [
+    | inr (fault, why) ↦ inr (fault, of_slots fault why)
+    | inl slots ↦ (
         let (count, just) = have_to routes x (length routes) 0 (omega arith) (have_none routes x) in
         let most = just.have.few in
         let left : ℕ = length routes - count in
         let e : count + left ≡ length routes = omega (arith, most) in
-        seen_free count head just (subst (λ (n : ℕ). FreeFrom x count n ⊎ ((place : ℕ) × UsedAt x count n place)) e (free_to x count left)))
-  ]
-
--- ---- a store of version 2
-
-number_bytes : (kind : Kind) (n : ℕ) → part 10 2 (header (layout kind Two) n) ≡ bytes_of 2 n
-unfolding header bytes_of
-number_bytes Twin n = refl
-number_bytes Log n = refl
-
-module _ (x : List ℕ) where
-  abbrev head_two : List ℕ
-  head_two = part 0 32 (from_base Two x)
-
-  number_two : (kind : Kind) (n : ℕ) → FewCells n → HasHeader (layout kind Two) n x → number_of (part 10 2 head_two) ≡ n
-  number_two kind n few head =
-      ap (λ (b : List ℕ). number_of (part 10 2 b)) head
-      ∙ (ap number_of (number_bytes kind n) ∙ number_of-bytes_of-lt 2 n (let most = few.most in omega (arith, most)))
-
-  kind_or_not : (kind : Kind) → Decided ((n : ℕ) × FewCells n × HasHeader (layout kind Two) n x)
-  kind_or_not kind =
-      let n : ℕ = number_of (part 10 2 head_two) in
-      elim (cases_lt n 1) [
-        | inl none ↦ inr (λ h. let some = h.1.some in omega (arith, none, some, number_two kind h.0 h.1 h.2))
-        | inr some ↦ elim (cases_lt n 1025) [
-          | inl most ↦ elim (bytes_same head_two (header (layout kind Two) n)) [
-            | inl head ↦ inl (n, record { some = some; most = omega (arith, most) }, head)
-            | inr other ↦ inr (λ h. other (subst (λ (k : ℕ). HasHeader (layout kind Two) k x) (sym (number_two kind h.0 h.1 h.2)) h.2))
-          ]
-          | inr more ↦ inr (λ h. let most = h.1.most in omega (arith, more, most, number_two kind h.0 h.1 h.2))
-        ]
-      ]
-
-  abbrev Counts : Kind → Type 0
-  Counts kind = (n : ℕ) × FewCells n × HasHeader (layout kind Two) n x
-
-  neither_kind : ¬ Counts Twin → ¬ Counts Log → ¬ HasVersionTwo x
-  neither_kind twin log (Twin, n, few, head) = twin (n, few, head)
-  neither_kind twin log (Log, n, few, head) = log (n, few, head)
-
-  two_or_not : Decided (HasVersionTwo x)
-  two_or_not = elim (kind_or_not Twin) [
-    | inl (n, few, head) ↦ inl (Twin, n, few, head)
-    | inr twin ↦ elim (kind_or_not Log) [ inl (n, few, head) ↦ inl (Log, n, few, head) | inr log ↦ inr (neither_kind twin log) ]
+        seen_free count head slots just (subst (λ (n : ℕ). FreeFrom x count n ⊎ ((place : ℕ) × UsedAt x count n place)) e (free_to x count left)))
   ]
 
 -- ---- a disk that tells these bytes
 
-pub can_or_cannot : (routes : List Route) (old : DiskState) (x : List ℕ) → length routes ≤ 256 → old.told ≡ Some (firm x) → length x ≡ old.size
-    → CanBeGrown routes old ⊎ ((fault : GrowFault) × CannotBeGrown routes old fault)
-can_or_cannot routes old x few told sized = elim (cases_lt old.size (twin_size (route_cell (length routes) + 1))) [
-  | inl less ↦ inr (TooSmall, no_room less)
-  | inr room ↦ elim (two_or_not x) [
-    | inl two ↦ inr (NotFormatted, newer x room told two)
-    | inr version ↦ elim (seen routes x) [
-      | inl (count, could) ↦ inl (record { room = room; bytes = x; told = told; version = version; count = count; could = could })
-      | inr (fault, why) ↦ inr (fault, by_bytes x fault room told version why)
-    ]
+kind_or_another : (kind : Kind) → Decided (kind ≡ Twin)
+kind_or_another Twin = inl refl
+kind_or_another Log = inr (λ e. absurd (cc))
+
+version_or_another : (version : Version) → Decided (version ≡ One)
+version_or_another One = inl refl
+version_or_another Two = inr (λ e. absurd (cc))
+
+first_twin_or_not : (layout : Layout) → Decided (layout ≡ twin_layout One)
+first_twin_or_not layout = elim (kind_or_another layout.kind) [
+  | inr kind ↦ inr (λ e. kind (ap (λ (l : Layout). l.kind) e))
+  | inl kind ↦ elim (version_or_another layout.version) [
+    | inr version ↦ inr (λ e. version (ap (λ (l : Layout). l.version) e))
+    | inl version ↦ inl (rw (kind, version) refl)
   ]
 ]
 
+module _ (wanted : Layout) (routes : List Route) (old : DiskState) (x : List ℕ) (told : old.told ≡ Some (firm x)) (room : HasRouteRoom routes old) where
+  abbrev Answer : Type 0
+  Answer = CanBeGrown wanted routes old ⊎ ((fault : GrowFault) × CannotBeGrown wanted routes old fault)
+
+  by_bytes_seen : wanted ≡ twin_layout One → ¬ HasVersionTwo x → HasFirstHead Twin x → Answer
+  by_bytes_seen wants version head = elim (seen routes x head) [
+    | inl (count, could) ↦ inl (record { wants = wants; room = room; bytes = x; told = told; version = version; count = count; could = could })
+    | inr (fault, why) ↦ inr (fault, by_bytes x fault room told wants version head why)
+  ]
+
+  by_header : (there : Option StoreHeader) → HeaderStands x there → Answer
+  by_header None none = inr (NotFormatted, no_store x room told none)
+  by_header (Some there) stands = elim (first_twin_or_not there.layout) [
+    | inr other ↦ inr (OtherStore there, other_store x there room told stands (λ both. other both.0))
+    | inl twin ↦ elim (first_twin_or_not wanted) [
+      | inr other ↦ inr (OtherStore there, other_store x there room told stands (λ both. other both.1))
+      | inl wants ↦ (let is = is_first_twin x there twin stands in by_bytes_seen wants is.0 is.1)
+    ]
+  ]
+
+pub can_or_cannot : (wanted : Layout) (routes : List Route) (old : DiskState) (x : List ℕ) → length routes ≤ 256 → old.told ≡ Some (firm x)
+    → length x ≡ old.size → CanBeGrown wanted routes old ⊎ ((fault : GrowFault) × CannotBeGrown wanted routes old fault)
+can_or_cannot wanted routes old x few told sized = elim (cases_lt old.size (twin_size (route_cell (length routes) + 1))) [
+  | inl less ↦ inr (TooSmall, no_room less)
+  | inr room ↦ (let (there, stands) = one_stands x (omega (arith, room, sized)) in by_header wanted routes old x told room there stands)
+]
+
 -- a disk that tells its bytes is too small by its size or by them
-pub small_told : (routes : List Route) (old : DiskState) (x : List ℕ) → old.told ≡ Some (firm x)
-    → (old.size < twin_size (route_cell (length routes) + 1)) ⊎ OfBytes old (λ x. CannotBeGrown routes old TooSmall)
-    → CannotBeGrown routes old TooSmall
-small_told routes old x told (inl less) = no_room less
-small_told routes old x told (inr of) = of x told
+pub small_told : (wanted : Layout) (routes : List Route) (old : DiskState) (x : List ℕ) → old.told ≡ Some (firm x)
+    → (old.size < twin_size (route_cell (length routes) + 1)) ⊎ OfBytes old (λ x. CannotBeGrown wanted routes old TooSmall)
+    → CannotBeGrown wanted routes old TooSmall
+small_told wanted routes old x told (inl less) = no_room less
+small_told wanted routes old x told (inr of) = of x told

@@ -15,7 +15,7 @@ use Rattle.store_plan.specs.Growing.{with_number}
 use Rattle.store_plan.proofs.CallerLemmas.{but-count}
 use Rattle.store_growing.specs.RouteCells.{route_cell, RouteAt, CanGrow}
 use Rattle.store_growing.specs.GrowingStores.{first_copy, with_cell, with_cells, with_routes, CutsCells, within, later, LeftOf}
-use Rattle.store_growing.proofs.OneCell.{Apart, written_over, is_written, held_same, erased_same, copy_sized, with_cell_same}
+use Rattle.store_growing.proofs.OneCell.{Apart, written_over, is_written, held_same, slot_same, erased_same, copy_sized, with_cell_same}
 use Rattle.store_growing.proofs.CellsWritten.{drop_at_route, still, one_more, written_can, routes_written, cells_within}
 
 -- ---- what is left lies within the cells that are written
@@ -136,7 +136,8 @@ module _ (routes : List Route) (w y : List ℕ) (room : twin_size (route_cell (l
 
   pub number_can : CanGrow routes y (length routes)
   number_can = record {
-    head = but-count (route_cell (length routes)) w y (omega (arith, room)) same can.head;
+    head = λ n. but-count n w y (omega (arith, room)) same (can.head n);
+    slots = λ cell low. slot_same cell 10 2 w y same (inr (omega arith)) (can.slots cell low);
     have = record {
       few = omega arith;
       held = λ place route low at. held_same (route_cell place) 10 2 route w y same (inr (omega arith)) (can.have.held place route low at);

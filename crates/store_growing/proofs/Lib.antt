@@ -1,4 +1,7 @@
 pub mod OneCell
+pub mod HeaderFacts
+pub mod SlotOrNot
+pub mod SlotsFirst
 pub mod CellsWritten
 pub mod GoesOn
 pub mod FirstCauses

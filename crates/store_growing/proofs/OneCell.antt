@@ -2,7 +2,7 @@
 use Rattle.std.proofs.Common.{◌≡◌, ◌⊎◌, ◌∙◌, ℕ, ◌+◌, ◌≤◌, List, length, take, drop, get_or, eqb, refl, sym, ap, subst, inl, inr, arith, rules}
 use Rattle.std.proofs.Common.{Some, None, true, false, replicate}
 use Rattle.std.proofs.lemmas.Bool.{cases_lt}
-use Rattle.std.proofs.lemmas.List.{places, same_lists, ext_get_or, length-take, take_all, get_or-take, get_or-drop}
+use Rattle.std.proofs.lemmas.List.{places, same_lists, ext_get_or, length-take, get_or-take, get_or-drop}
 use borrow.Rule.Slice.PartMut.{put_mid}
 use Rattle.basics.specs.Numbers.{bytes_of}
 use Rattle.basics.proofs.CallerLemmas.{length-bytes_of}
@@ -17,7 +17,8 @@ use Rattle.cell_store.proofs.CallerLemmas.{part-same, part-part, SameOutside-spl
 use Rattle.freshness_routes.specs.declared.routes.Route.{Route}
 use Rattle.freshness_store.specs.Bound.{bound_cell}
 use Rattle.store_plan.specs.Growing.{HasHeadButCount, count_at, with_number}
-use Rattle.store_growing.specs.RouteCells.{first_bound, HoldsRoute, cells_counted, IsErased, IsFree}
+use Rattle.store_growing.specs.StoreHeaders.{cells_counted}
+use Rattle.store_growing.specs.RouteCells.{first_bound, HasSlot, HoldsRoute, IsErased, IsFree}
 use Rattle.store_growing.specs.GrowingStores.{first_copy, with_cell}
 
 -- ---- what is written over a place
@@ -52,7 +53,7 @@ is_written at new x y inside s e =
 
 -- ---- the header
 
-take-splice : (at n : ℕ) (new x : List ℕ) → at + length new ≤ n → n ≤ length x → take n (splice at new x) ≡ splice at new (take n x)
+pub take-splice : (at n : ℕ) (new x : List ℕ) → at + length new ≤ n → n ≤ length x → take n (splice at new x) ≡ splice at new (take n x)
 unfolding splice
 take-splice at n new x inside room = same_lists _ _ (search (rules, places)) (λ k d h. grind (arith, places))
 
@@ -63,16 +64,13 @@ put_is_splice at k x new same inside = same_lists _ _ (search (rules, places)) (
 
 -- the first 32 bytes with a number put into them are those of the whole list with it
 pub head_with_number : (n : ℕ) (x first two : List ℕ) → 32 ≤ length x → first ≡ take 32 x → two ≡ bytes_of 2 n
-    → part 0 32 (put_mid 10 2 first two) ≡ part 0 32 (with_number n x)
+    → put_mid 10 2 first two ≡ part 0 32 (with_number n x)
 head_with_number n x first two room first_is two_is =
     let short : length two ≡ 2 = ap length two_is ∙ length-bytes_of 2 n in
     let long : length first ≡ 32 = ap length first_is ∙ (let l = length-take 32 x in omega (arith, l, room)) in
-    let put : put_mid 10 2 first two ≡ splice 10 two first = put_is_splice 10 2 first two (sym short) (omega (arith, short, long)) in
-    let made : length (splice 10 two first) ≡ 32 = length-splice 10 two first (omega (arith, short, long)) ∙ long in
-    ap (take 32) put
-    ∙ (take_all 32 (splice 10 two first) (omega (arith, made))
+    put_is_splice 10 2 first two (sym short) (omega (arith, short, long))
     ∙ (ap (λ (b : List ℕ). splice 10 b first) two_is
-    ∙ (ap (splice 10 (bytes_of 2 n)) first_is ∙ sym (take-splice 10 32 (bytes_of 2 n) x (omega (arith, length-bytes_of 2 n)) room))))
+    ∙ (ap (splice 10 (bytes_of 2 n)) first_is ∙ sym (take-splice 10 32 (bytes_of 2 n) x (omega (arith, length-bytes_of 2 n)) room)))
 
 -- the same header, but for its number
 pub head_same : (n : ℕ) (x y : List ℕ) → 32 ≤ length x → 32 ≤ length y → part 0 32 y ≡ part 0 32 x → HasHeadButCount x n → HasHeadButCount y n
@@ -113,6 +111,9 @@ cell_same j at n x y s apart =
 
 pub held_same : (j at n : ℕ) (route : Route) (x y : List ℕ) → SameOutside at n x y → Apart (first_at j) 68 at n → HoldsRoute x j route → HoldsRoute y j route
 held_same j at n route x y s apart held = (held.0, held.1, cell_same j at n x y s apart ∙ held.2, held.3)
+
+pub slot_same : (j at n : ℕ) (x y : List ℕ) → SameOutside at n x y → Apart (first_at j) 68 at n → HasSlot x j → HasSlot y j
+slot_same j at n x y s apart held = (held.0, held.1, cell_same j at n x y s apart ∙ held.2, held.3)
 
 pub erased_same : (place size at n : ℕ) (x y : List ℕ) → SameOutside at n x y → Apart place size at n → IsErased place size x → IsErased place size y
 erased_same place size at n x y s apart erased =

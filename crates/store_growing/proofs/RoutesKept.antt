@@ -11,7 +11,8 @@ use Rattle.cell_store.specs.Twin.{cell_at, cell_of, twin_size, first_at, second_
 use Rattle.freshness_routes.specs.declared.routes.Route.{Route}
 use Rattle.freshness_routes.specs.Config.{IsRoute}
 use Rattle.store_plan.specs.Growing.{with_number}
-use Rattle.store_growing.specs.RouteCells.{route_cell, RouteAt, first_bound, HoldsRoute, cells_counted, CanGrow, HasVersionTwo}
+use Rattle.store_growing.specs.StoreHeaders.{cells_counted, HasVersionTwo}
+use Rattle.store_growing.specs.RouteCells.{route_cell, RouteAt, first_bound, HoldsRoute, CanGrow}
 use Rattle.store_growing.specs.GrowingStores.{with_routes, GrownTo, GrownInPart}
 use Rattle.store_growing.proofs.OneCell.{cell_same, free_is_none, version_same, with_number_same}
 use Rattle.store_growing.proofs.CellsWritten.{routes_written}
@@ -153,7 +154,8 @@ ended routes x z few are room grown =
     (with_number_same (route_cell (length routes)) w (omega (arith, room, wide))) in
     record {
       can = number_can routes w z (omega (arith, room, wide)) all.can same;
-      head = subst (λ (v : List ℕ). HasHeader (twin_layout One) (route_cell (length routes)) v) (sym grown.is) all.can.head;
+      head = subst (λ (v : List ℕ). HasHeader (twin_layout One) (route_cell (length routes)) v) (sym grown.is)
+          (all.can.head (route_cell (length routes)));
       new = λ place route from at.
           cell_same (route_cell place) 10 2 w z same (inr (omega arith)) ∙ all.new place route from at;
     }

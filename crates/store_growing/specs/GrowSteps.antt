@@ -1,38 +1,49 @@
 -- What the steps of a growth leave of a disk
-use Rattle.std.specs.Prelude.{◌≡◌, ℕ, ◌+◌, ◌<◌, Bool, true, false, List, length, drop, Some}
+use Rattle.std.specs.Prelude.{◌≡◌, ℕ, ◌+◌, ◌<◌, false, List, length, drop, Option, Some, None}
 use Rattle.cut_disk.specs.State.{DiskState}
 use Rattle.cut_disk.specs.Images.{firm, EachImage}
 use Rattle.cut_disk.specs.Calls.{Rose, AsBefore}
-use Rattle.cell_store.specs.declared.kinds.Probe.{Probe}
-use Rattle.cell_store.specs.declared.kinds.Probe.TheVariants.{Blank, Foreign, Store}
-use Rattle.cell_store.specs.Layout.{SameOutside, part}
+use Rattle.cell_store.specs.declared.kinds.Kind.TheVariants.{Twin}
+use Rattle.cell_store.specs.declared.kinds.Layout.{Layout}
+use Rattle.cell_store.specs.declared.kinds.Version.TheVariants.{One}
+use Rattle.cell_store.specs.Layout.{SameOutside, part, twin_layout}
 use Rattle.cell_store.specs.Twin.{first_at, is_live}
 use Rattle.cell_store.specs.Writing.{Unfinished}
 use Rattle.freshness_routes.specs.declared.routes.Route.{Route}
 use Rattle.store_plan.specs.Growing.{count_at, with_number}
 use Rattle.store_growing.specs.declared.faults.GrowFault.{GrowFault}
-use Rattle.store_growing.specs.declared.faults.GrowFault.TheVariants.{DiskFailed, NotFormatted, TooSmall, BadBound}
-use Rattle.store_growing.specs.declared.faults.GrowFault.TheVariants.{Memory}
-use Rattle.store_growing.specs.RouteCells.{route_cell, HasVersionTwo}
-use Rattle.store_growing.specs.GrowingStores.{OfBytes, first_copy, with_routes, CutsCells, LeftOf}
+use Rattle.store_growing.specs.declared.faults.GrowFault.TheVariants.{DiskFailed, NotFormatted, OtherStore}
+use Rattle.store_growing.specs.declared.headers.StoreHeader.{StoreHeader}
+use Rattle.store_growing.specs.StoreHeaders.{HasVersionTwo, HasFirstHead, HeaderStands}
+use Rattle.store_growing.specs.RouteCells.{route_cell}
+use Rattle.store_growing.specs.GrowingStores.{OfBytes, IsOther, first_copy, with_routes, CutsCells, LeftOf}
 
 -- these bytes are those that the disk tells, if none of them is loose
 abbrev pub Sees : DiskState → List ℕ → Type 0
 Sees disk image = OfBytes disk (λ x. image ≡ x)
 
--- whether the look at the base of a version found a store
-abbrev pub SaysStore : Probe → Bool → Type 0
-SaysStore Blank says = says ≡ false
-SaysStore Foreign says = says ≡ false
-SaysStore (Store kind n) says = says ≡ true
+-- a bus wants a twin store of version 1, and the header of one stands in these bytes of the disk; none of version 2 does
+pub record FitsWanted (wanted : Layout) (image : List ℕ) (old : DiskState) : Type 0 where
+  pub wants : wanted ≡ twin_layout One
+  pub version : OfBytes old (λ x. ¬ HasVersionTwo x)
+  pub head : HasFirstHead Twin image
 
--- why the bytes weren't read, or why they won't be looked at: a store of version 2 may be the one that counts
-abbrev pub NotSeen : DiskState → DiskState → GrowFault → Type 0
-NotSeen old new NotFormatted = AsBefore 2 old new × OfBytes old HasVersionTwo
-NotSeen old new DiskFailed = Rose old.faults new.faults × (new.told ≡ old.told)
-NotSeen old new TooSmall = ⊥
-NotSeen old new (BadBound bad) = ⊥
-NotSeen old new Memory = ⊥
+-- the header of a store stands that the bus wants, and that can be grown
+abbrev pub TakesHeader : Layout → Option StoreHeader → Type 0
+TakesHeader wanted None = ⊥
+TakesHeader wanted (Some there) = (there.layout ≡ twin_layout One) × (wanted ≡ twin_layout One)
+
+-- or none stands, or another
+abbrev pub RefusesHeader : Layout → Option StoreHeader → GrowFault → Type 0
+RefusesHeader wanted there NotFormatted = there ≡ None
+RefusesHeader wanted there (OtherStore header) = (there ≡ Some header) × IsOther wanted header
+RefusesHeader wanted there fault = ⊥
+
+-- why the bytes weren't read, or why they won't be looked at: another store stands there, or none does
+abbrev pub NotSeen : Layout → DiskState → DiskState → GrowFault → Type 0
+NotSeen wanted old new DiskFailed = Rose old.faults new.faults × (new.told ≡ old.told)
+NotSeen wanted old new fault = AsBefore 2 old new
+    × OfBytes old (λ x. (there : Option StoreHeader) × HeaderStands x there × RefusesHeader wanted there fault)
 
 -- the gates of the first copies of so many cells, from this one on, aren't live
 abbrev pub AreClosed : ℕ → ℕ → List ℕ → Type 0

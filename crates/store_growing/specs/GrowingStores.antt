@@ -1,18 +1,23 @@
 -- What `grow_store` makes of a disk: a cell at the end of the store for each route that the bus has more. All of them
 -- are written before the number of cells in the header. A cell that the header counts is never written.
-use Rattle.std.specs.Prelude.{◌≡◌, ◌⊎◌, ℕ, ◌+◌, ◌<◌, ◌≤◌, List, [], ◌∷◌, length, drop, Some}
+use Rattle.std.specs.Prelude.{◌≡◌, ◌⊎◌, ℕ, ◌+◌, ◌<◌, ◌≤◌, List, [], ◌∷◌, length, drop, Some, None}
 use Rattle.cut_disk.specs.State.{DiskState}
 use Rattle.cut_disk.specs.Images.{splice, firm, EachImage}
 use Rattle.cut_disk.specs.Calls.{Rose, AsBefore}
-use Rattle.cell_store.specs.Layout.{SameOutside}
+use Rattle.cell_store.specs.declared.kinds.Kind.TheVariants.{Twin}
+use Rattle.cell_store.specs.declared.kinds.Layout.{Layout}
+use Rattle.cell_store.specs.declared.kinds.Version.TheVariants.{One}
+use Rattle.cell_store.specs.Layout.{SameOutside, twin_layout}
 use Rattle.cell_store.specs.Twin.{twin_size, first_at, live_copy}
 use Rattle.cell_store.specs.Writing.{Unfinished}
 use Rattle.freshness_routes.specs.declared.routes.Route.{Route}
 use Rattle.store_plan.specs.Growing.{count_at, with_number}
 use Rattle.store_growing.specs.declared.faults.GrowFault.{GrowFault}
 use Rattle.store_growing.specs.declared.faults.GrowFault.TheVariants.{DiskFailed, NotFormatted, TooSmall, BadBound}
-use Rattle.store_growing.specs.declared.faults.GrowFault.TheVariants.{Memory}
-use Rattle.store_growing.specs.RouteCells.{route_cell, first_bound, CanGrow, HasVersionTwo, RefusesBytes}
+use Rattle.store_growing.specs.declared.faults.GrowFault.TheVariants.{OtherStore, Damaged, BadSlot, Memory}
+use Rattle.store_growing.specs.declared.headers.StoreHeader.{StoreHeader}
+use Rattle.store_growing.specs.StoreHeaders.{HasVersionTwo, HasFirstHead, HeaderStands}
+use Rattle.store_growing.specs.RouteCells.{route_cell, first_bound, CanGrow, RefusesBytes}
 
 -- the first copy of a route's cell, whole
 abbrev pub first_copy : Route → List ℕ
@@ -75,9 +80,10 @@ CutsStore routes old new = (new.told ≡ old.told) ⊎ OfBytes old (λ x. EachIm
 abbrev pub HasRouteRoom : List Route → DiskState → Type 0
 HasRouteRoom routes disk = twin_size (route_cell (length routes) + 1) ≤ disk.size
 
--- The store on a disk can be grown to a cell for each route: there is room, and the bytes that the disk tells, none of
--- them loose, have no store of version 2, but one that can get the cells.
-pub record CanBeGrown (routes : List Route) (old : DiskState) : Type 0 where
+-- The store on a disk can be grown to a cell for each route: the bus wants a twin store of version 1, there is room, and
+-- the bytes that the disk tells, none of them loose, have no store of version 2, but one that can get the cells.
+pub record CanBeGrown (wanted : Layout) (routes : List Route) (old : DiskState) : Type 0 where
+  pub wants : wanted ≡ twin_layout One
   pub room : HasRouteRoom routes old
   pub bytes : List ℕ
   pub told : old.told ≡ Some (firm bytes)
@@ -85,23 +91,34 @@ pub record CanBeGrown (routes : List Route) (old : DiskState) : Type 0 where
   pub count : ℕ
   pub could : CanGrow routes bytes count
 
--- Why it can't, by the first cause: there is no room; else the bytes have a store of version 2; else what they say of
--- the cells. The other two faults have no such cause.
-pub data CannotBeGrown (routes : List Route) (old : DiskState) : GrowFault → Type 0 where
-  no_room : old.size < twin_size (route_cell (length routes) + 1) → CannotBeGrown routes old TooSmall
-  newer : (x : List ℕ) → HasRouteRoom routes old → old.told ≡ Some (firm x) → HasVersionTwo x
-      → CannotBeGrown routes old NotFormatted
-  by_bytes : (x : List ℕ) (fault : GrowFault) → HasRouteRoom routes old → old.told ≡ Some (firm x) → ¬ HasVersionTwo x
-      → RefusesBytes routes x fault → CannotBeGrown routes old fault
+-- the store of this header is no twin store of version 1, or the bus wants another
+abbrev pub IsOther : Layout → StoreHeader → Type 0
+IsOther wanted there = ¬ ((there.layout ≡ twin_layout One) × (wanted ≡ twin_layout One))
+
+-- Why it can't, by the first cause: there is no room; else another store stands there, or none does; else what the
+-- bytes say of the cells. The other two faults have no such cause.
+pub data CannotBeGrown (wanted : Layout) (routes : List Route) (old : DiskState) : GrowFault → Type 0 where
+  no_room : old.size < twin_size (route_cell (length routes) + 1) → CannotBeGrown wanted routes old TooSmall
+  other_store : (x : List ℕ) (there : StoreHeader) → HasRouteRoom routes old → old.told ≡ Some (firm x)
+      → HeaderStands x (Some there) → IsOther wanted there → CannotBeGrown wanted routes old (OtherStore there)
+  no_store : (x : List ℕ) → HasRouteRoom routes old → old.told ≡ Some (firm x) → HeaderStands x None
+      → CannotBeGrown wanted routes old NotFormatted
+  by_bytes : (x : List ℕ) (fault : GrowFault) → HasRouteRoom routes old → old.told ≡ Some (firm x)
+      → wanted ≡ twin_layout One → ¬ HasVersionTwo x → HasFirstHead Twin x → RefusesBytes routes x fault
+      → CannotBeGrown wanted routes old fault
+
+-- the disk was only read; this is the first cause, if none of its bytes is loose
+abbrev pub RefusesStore : Layout → List Route → DiskState → DiskState → GrowFault → Type 0
+RefusesStore wanted routes old new fault = AsBefore 2 old new × OfBytes old (λ x. CannotBeGrown wanted routes old fault)
 
 -- Why a store doesn't get the cells. Nothing was written, unless a call of the disk failed.
-abbrev pub NotGrown : List Route → DiskState → DiskState → GrowFault → Type 0
-NotGrown routes old new TooSmall =
-    AsBefore 2 old new
-    × ((old.size < twin_size (route_cell (length routes) + 1)) ⊎ OfBytes old (λ x. CannotBeGrown routes old TooSmall))
-NotGrown routes old new NotFormatted =
-    AsBefore 2 old new × OfBytes old (λ x. CannotBeGrown routes old NotFormatted)
-NotGrown routes old new (BadBound cell) =
-    AsBefore 2 old new × OfBytes old (λ x. CannotBeGrown routes old (BadBound cell))
-NotGrown routes old new Memory = AsBefore 2 old new
-NotGrown routes old new DiskFailed = Rose old.faults new.faults × CutsStore routes old new
+abbrev pub NotGrown : Layout → List Route → DiskState → DiskState → GrowFault → Type 0
+NotGrown wanted routes old new TooSmall = AsBefore 2 old new
+    × ((old.size < twin_size (route_cell (length routes) + 1)) ⊎ OfBytes old (λ x. CannotBeGrown wanted routes old TooSmall))
+NotGrown wanted routes old new (OtherStore there) = RefusesStore wanted routes old new (OtherStore there)
+NotGrown wanted routes old new NotFormatted = RefusesStore wanted routes old new NotFormatted
+NotGrown wanted routes old new (Damaged cell) = RefusesStore wanted routes old new (Damaged cell)
+NotGrown wanted routes old new (BadSlot cell) = RefusesStore wanted routes old new (BadSlot cell)
+NotGrown wanted routes old new (BadBound cell) = RefusesStore wanted routes old new (BadBound cell)
+NotGrown wanted routes old new Memory = AsBefore 2 old new
+NotGrown wanted routes old new DiskFailed = Rose old.faults new.faults × CutsStore routes old new

@@ -1,3 +1,4 @@
+pub mod StoreHeaders
 pub mod RouteCells
 pub mod GrowingStores
 pub mod LookSteps

@@ -1,18 +1,17 @@
--- What the bytes of a twin store of version 1 say of the cells of a bus's routes: which routes have theirs, and whether
--- those of the others can be written
-use Rattle.std.specs.Prelude.{◌≡◌, ◌⊎◌, ℕ, ◌+◌, ◌*◌, ◌<◌, ◌≤◌, false, List, length, get_or, replicate, slice_index_or}
-use Rattle.std.specs.Prelude.{Some}
-use Rattle.cell_store.specs.declared.kinds.Kind.{Kind}
-use Rattle.cell_store.specs.declared.kinds.Version.TheVariants.{Two}
-use Rattle.cell_store.specs.Layout.{layout, part}
+-- What the bytes of a twin store of version 1 say of its slots and of the cells of a bus's routes: which routes have
+-- theirs, and whether those of the others can be written
+use Rattle.std.specs.Prelude.{◌≡◌, ◌⊎◌, ℕ, ◌+◌, ◌<◌, ◌≤◌, false, List, length, replicate, slice_index_or, Some, None}
+use Rattle.cell_store.specs.declared.kinds.Kind.TheVariants.{Twin}
+use Rattle.cell_store.specs.Layout.{part}
 use Rattle.cell_store.specs.Twin.{cell_at, first_at, second_at, is_live}
-use Rattle.cell_store.specs.Store.{FewCells, HasHeader}
+use Rattle.key_slots.specs.declared.memory.Slot.{Slot}
+use Rattle.slot_disk.specs.Cell.{HoldsSlot}
 use Rattle.freshness_routes.specs.declared.routes.Route.{Route}
 use Rattle.freshness_store.specs.Bound.{bound_cell, HoldsBound}
-use Rattle.store_plan.specs.Growing.{HasHeadButCount}
 use Rattle.store_growing.specs.declared.faults.GrowFault.{GrowFault}
 use Rattle.store_growing.specs.declared.faults.GrowFault.TheVariants.{DiskFailed, NotFormatted, TooSmall, BadBound}
-use Rattle.store_growing.specs.declared.faults.GrowFault.TheVariants.{Memory}
+use Rattle.store_growing.specs.declared.faults.GrowFault.TheVariants.{OtherStore, Damaged, BadSlot, Memory}
+use Rattle.store_growing.specs.StoreHeaders.{cells_counted, HasFirstHead}
 
 -- the cell of the route at this place: the fourteen key slots have those before
 abbrev pub route_cell : ℕ → ℕ
@@ -31,10 +30,13 @@ abbrev pub HoldsRoute : List ℕ → ℕ → Route → Type 0
 HoldsRoute x cell route = (bytes : List ℕ) × (bound : ℕ) × (cell_at x cell ≡ Some bytes)
     × HoldsBound bytes route.id route.direction bound
 
--- The number of cells that stands in the header: the cells below it are counted. The power that goes while it is
--- written leaves any number.
-abbrev pub cells_counted : List ℕ → ℕ
-cells_counted x = 256 * get_or x 10 0 + get_or x 11 0
+-- this cell holds a key slot, empty or filled
+abbrev pub HasSlot : List ℕ → ℕ → Type 0
+HasSlot x cell = (bytes : List ℕ) × (slot : Slot) × (cell_at x cell ≡ Some bytes) × HoldsSlot bytes slot
+
+-- so many of the first cells hold one each
+abbrev pub HaveSlots : List ℕ → ℕ → Type 0
+HaveSlots x count = (cell : ℕ) → cell < count → HasSlot x cell
 
 -- n bytes of x from a place on are as an erase leaves them: all 00, or all ff
 abbrev pub IsErased : ℕ → ℕ → List ℕ → Type 0
@@ -57,31 +59,40 @@ pub record HaveCells (routes : List Route) (x : List ℕ) (count : ℕ) : Type 0
   pub held : (place : ℕ) (route : Route) → place < count → RouteAt routes place route
       → HoldsRoute x (route_cell place) route
 
--- x begins as a twin store of version 1, whatever number stands in its header
-abbrev pub HasTwinHead : List Route → List ℕ → Type 0
-HasTwinHead routes x = HasHeadButCount x (route_cell (length routes))
-
 -- where a cell after those of all routes would stand x is erased
 abbrev pub EndsErased : List Route → List ℕ → Type 0
 EndsErased routes x = IsErased (first_at (route_cell (length routes))) 68 x
 
--- So many of the first routes have their cells, and those of the others can be written. What comes after them is
--- erased, so the store has no further cell: a number above that of the routes' cells is one that a cut left.
+-- A twin store of version 1 has its fourteen slots. So many of the first routes have their cells, and those of the others
+-- can be written. What comes after them is erased, so the store has no further cell: a number above that of the routes'
+-- cells is one that a cut left.
 pub record CanGrow (routes : List Route) (x : List ℕ) (count : ℕ) : Type 0 where
-  pub head : HasTwinHead routes x
+  pub head : HasFirstHead Twin x
+  pub slots : HaveSlots x 14
   pub have : HaveCells routes x count
   pub free : FreeFrom x count (length routes)
   pub ends : EndsErased routes x
 
--- a store of version 2 has its header in x
-abbrev pub HasVersionTwo : List ℕ → Type 0
-HasVersionTwo x = (kind : Kind) × (n : ℕ) × FewCells n × HasHeader (layout kind Two) n x
+-- ---- why no cell is written, of bytes that begin as a twin store of version 1: the causes in the order in which they
+-- are looked for
 
--- ---- why no cell is written: the causes in the order in which they are looked for
+-- no copy of this cell counts; it is one of the fourteen, and those before hold their slots
+pub record SlotDamaged (x : List ℕ) (cell : ℕ) : Type 0 where
+  pub below : cell < 14
+  pub before : HaveSlots x cell
+  pub none : cell_at x cell ≡ None
 
--- this cell is the first that can't be written, from that of the first route on that has none
+-- or what it holds is no slot
+pub record HoldsNoSlot (x : List ℕ) (cell : ℕ) : Type 0 where
+  pub below : cell < 14
+  pub before : HaveSlots x cell
+  pub bytes : List ℕ
+  pub holds : cell_at x cell ≡ Some bytes
+  pub none : (slot : Slot) → ¬ HoldsSlot bytes slot
+
+-- the slots are whole, and this cell is the first that can't be written, from that of the first route on that has none
 pub record HoldsOther (routes : List Route) (x : List ℕ) (cell : ℕ) : Type 0 where
-  pub head : HasTwinHead routes x
+  pub slots : HaveSlots x 14
   pub count : ℕ
   pub have : HaveCells routes x count
   pub lacks : (route : Route) → RouteAt routes count route → ¬ HoldsRoute x (route_cell count) route
@@ -92,9 +103,9 @@ pub record HoldsOther (routes : List Route) (x : List ℕ) (cell : ℕ) : Type 0
   pub free : FreeFrom x count place
   pub used : ¬ IsFree x (route_cell place)
 
--- each route has its cell, or it can be written, but what comes after them isn't erased
+-- the slots are whole, and each route has its cell, or it can be written, but what comes after them isn't erased
 pub record IsUsedAfter (routes : List Route) (x : List ℕ) : Type 0 where
-  pub head : HasTwinHead routes x
+  pub slots : HaveSlots x 14
   pub count : ℕ
   pub have : HaveCells routes x count
   pub free : FreeFrom x count (length routes)
@@ -102,8 +113,11 @@ pub record IsUsedAfter (routes : List Route) (x : List ℕ) : Type 0 where
 
 -- for which fault of these bytes; the other faults aren't theirs
 abbrev pub RefusesBytes : List Route → List ℕ → GrowFault → Type 0
-RefusesBytes routes x NotFormatted = ¬ HasTwinHead routes x
+RefusesBytes routes x (Damaged cell) = SlotDamaged x cell
+RefusesBytes routes x (BadSlot cell) = HoldsNoSlot x cell
 RefusesBytes routes x (BadBound cell) = HoldsOther routes x cell
 RefusesBytes routes x TooSmall = IsUsedAfter routes x
+RefusesBytes routes x (OtherStore there) = ⊥
+RefusesBytes routes x NotFormatted = ⊥
 RefusesBytes routes x Memory = ⊥
 RefusesBytes routes x DiskFailed = ⊥

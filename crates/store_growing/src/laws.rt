@@ -2,6 +2,7 @@
 ghost use Rattle.std.specs.Prelude.{◌≡◌, ◌⊎◌, ◌+◌, ◌<◌, ◌≤◌, ◌^◌, ℕ, List, All, length, Some};
 ghost use Rattle.cut_disk.specs.State.{DiskState};
 ghost use Rattle.cut_disk.specs.Images.{firm};
+ghost use Rattle.cell_store.specs.declared.kinds.Layout.{Layout};
 ghost use Rattle.cell_store.specs.declared.kinds.Version.TheVariants.{One};
 ghost use Rattle.cell_store.specs.Layout.{part, twin_layout};
 ghost use Rattle.cell_store.specs.Store.{HasHeader};
@@ -9,8 +10,8 @@ ghost use Rattle.cell_store.specs.Twin.{cell_at, first_at, twin_size};
 ghost use Rattle.freshness_routes.specs.declared.routes.Route.{Route};
 ghost use Rattle.freshness_routes.specs.Config.{IsRoute};
 ghost use Rattle.store_growing.specs.declared.faults.GrowFault.{GrowFault};
-ghost use Rattle.store_growing.specs.RouteCells.{route_cell, RouteAt, first_bound, HoldsRoute, cells_counted, CanGrow};
-ghost use Rattle.store_growing.specs.RouteCells.{HasVersionTwo};
+ghost use Rattle.store_growing.specs.StoreHeaders.{cells_counted, HasVersionTwo};
+ghost use Rattle.store_growing.specs.RouteCells.{route_cell, RouteAt, first_bound, HoldsRoute, CanGrow};
 ghost use Rattle.store_growing.specs.GrowingStores.{GrownTo, GrownInPart, CanBeGrown, CannotBeGrown};
 
 /// Whenever the power goes while a store gets cells at its end, what a cell held it holds: no counter of a slot falls,
@@ -67,19 +68,19 @@ pub fn a_cut_store_can_grow()
 
 /// A store that can be grown isn't refused for a cause of its own: only memory and the disk can fail.
 pub fn a_store_that_can_grow_is_not_refused()
-    ensures { (routes : List Route) (old : DiskState) (fault : GrowFault) → length routes ≤ 256
-        → CanBeGrown routes old → ¬ CannotBeGrown routes old fault }
+    ensures { (wanted : Layout) (routes : List Route) (old : DiskState) (fault : GrowFault) → length routes ≤ 256
+        → CanBeGrown wanted routes old → ¬ CannotBeGrown wanted routes old fault }
 {}
 
 /// One disk is refused for one cause: the first in a fixed order.
 pub fn refused_once()
-    ensures { (routes : List Route) (old : DiskState) (one other : GrowFault) → length routes ≤ 256
-        → CannotBeGrown routes old one → CannotBeGrown routes old other → one ≡ other }
+    ensures { (wanted : Layout) (routes : List Route) (old : DiskState) (one other : GrowFault) → length routes ≤ 256
+        → CannotBeGrown wanted routes old one → CannotBeGrown wanted routes old other → one ≡ other }
 {}
 
 /// Bytes that are told, none of them loose, can be grown, or there is a cause why not: no disk is between the two.
 pub fn can_or_cannot()
-    ensures { (routes : List Route) (old : DiskState) (x : List ℕ) → length routes ≤ 256 → old.told ≡ Some (firm x)
-        → length x ≡ old.size
-        → CanBeGrown routes old ⊎ ((fault : GrowFault) × CannotBeGrown routes old fault) }
+    ensures { (wanted : Layout) (routes : List Route) (old : DiskState) (x : List ℕ) → length routes ≤ 256
+        → old.told ≡ Some (firm x) → length x ≡ old.size
+        → CanBeGrown wanted routes old ⊎ ((fault : GrowFault) × CannotBeGrown wanted routes old fault) }
 {}

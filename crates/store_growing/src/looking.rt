@@ -1,32 +1,34 @@
 //! What the bytes of a store say of the cells of a bus's routes.
-ghost use Rattle.std.specs.Prelude.{◌≡◌, ◌<◌, ◌≤◌, ◌+◌, ◌↔◌, length, IsTrue, IfOk, IfErr, MatchOption};
+ghost use Rattle.std.specs.Prelude.{◌≡◌, ◌<◌, ◌≤◌, ◌+◌, ◌↔◌, length, IsTrue, IfOk, IfErr, OnOk, MatchOption};
+ghost use Rattle.cell_store.specs.declared.kinds.Kind.TheVariants.{Twin};
 ghost use Rattle.cell_store.specs.Layout.{part};
 ghost use Rattle.cell_store.specs.Twin.{twin_size, first_at, is_live};
-ghost use Rattle.store_plan.specs.Growing.{HasHeadButCount};
-ghost use Rattle.store_growing.specs.RouteCells.{route_cell, HoldsRoute, cells_counted, IsErased, IsFree, FreeFrom, CanGrow};
-ghost use Rattle.store_growing.specs.RouteCells.{RefusesBytes};
-ghost use Rattle.store_growing.specs.LookSteps.{HaveJust, UsedAt};
+ghost use Rattle.store_growing.specs.StoreHeaders.{cells_counted, HasFirstHead};
+ghost use Rattle.store_growing.specs.RouteCells.{route_cell, HoldsRoute, IsErased, IsFree, FreeFrom, CanGrow, HasSlot};
+ghost use Rattle.store_growing.specs.RouteCells.{HaveSlots, RefusesBytes};
+ghost use Rattle.store_growing.specs.LookSteps.{HaveJust, UsedAt, RefusesSlot, RefusesSlots};
 
 use crate::faults::GrowFault;
 use cell_store::{LIVE, pair_place};
 use freshness_routes::Route;
 use freshness_store::bound_in;
-use store_plan::{cell_in, has_head};
+use slot_disk::slot_in;
+use store_plan::cell_in;
 
 /// How many cells the key slots have: those of the routes come after them.
 pub(crate) const SLOT_COUNT: u16 = 14;
 
-/// How many of the routes, from the first on, have their cells in these bytes; or why the others can't get theirs.
+/// How many of the routes, from the first on, have their cells in these bytes of a store with its fourteen slots; or why
+/// the others can't get theirs.
 pub(crate) fn routes_there(image: &[u8], routes: &[Route]) -> Result<u16, GrowFault>
     requires few { length routes.now ≤ 256 }
     requires room { twin_size (route_cell (length routes.now) + 1) ≤ length image.now }
+    requires head { HasFirstHead Twin image.now }
     ensures found { IfOk result (CanGrow routes.now image.now) }
     ensures refused { IfErr result (RefusesBytes routes.now image.now) }
 {
+    slots_there(image)?;
     let most = routes.len() as u16;
-    if !has_head_but_count(image, SLOT_COUNT + most) {
-        return Err(GrowFault::NotFormatted);
-    }
     let there = held_first(image, routes);
     if let Some(place) = used_from(image, there, most) {
         return Err(GrowFault::BadBound(SLOT_COUNT + place));
@@ -38,15 +40,31 @@ pub(crate) fn routes_there(image: &[u8], routes: &[Route]) -> Result<u16, GrowFa
     }
 }
 
-/// Whether the bytes begin with the header of a twin store of version 1, once this number stands in it.
-fn has_head_but_count(image: &[u8], cells: u16) -> bool
-    requires { 32 ≤ length image.now }
-    ensures { IsTrue result ↔ HasHeadButCount image.now cells }
+/// Looks whether the first fourteen cells hold a key slot each.
+fn slots_there(image: &[u8]) -> Result<(), GrowFault>
+    requires { twin_size 14 ≤ length image.now }
+    ensures holds { OnOk result (HaveSlots image.now 14) }
+    ensures refused { IfErr result (RefusesSlots image.now) }
 {
-    let mut head = [0; 32];
-    head.copy_from_slice(&image[..32]);
-    head[10..12].copy_from_slice(&cells.to_be_bytes());
-    has_head(&head, cells)
+    for cell in 0..SLOT_COUNT {
+        slot_there(image, cell)?;
+    }
+    Ok(())
+}
+
+/// Looks whether this cell holds a key slot.
+fn slot_there(image: &[u8], cell: u16) -> Result<(), GrowFault>
+    requires { twin_size (cell + 1) ≤ length image.now }
+    ensures holds { OnOk result (HasSlot image.now cell) }
+    ensures refused { IfErr result (RefusesSlot image.now cell) }
+{
+    match cell_in(image, cell) {
+        Ok(bytes) => match slot_in(&bytes) {
+            Some(_slot) => Ok(()),
+            None => Err(GrowFault::BadSlot(cell)),
+        },
+        Err(_) => Err(GrowFault::Damaged(cell)),
+    }
 }
 
 /// How many of the routes, from the first on, have their cells.

@@ -10,7 +10,7 @@ use key_slots::SlotId;
 use std::alloc::Global;
 use std::process::Abort;
 use std::test::Fail;
-use store_growing::{GrowFault, grow_store};
+use store_growing::{GrowFault, StoreHeader, grow_store};
 use store_plan::{cell_in, make, make_cell};
 
 /// A header and eighteen cells.
@@ -38,13 +38,19 @@ fn route_at(slot: SlotId, place: u16) -> Route {
     }
 }
 
+/// A twin store of version 1.
+const WANTED: Layout = Layout {
+    kind: Kind::Twin,
+    version: Version::One,
+};
+
 /// What growing the store on a disk to three routes, of the Data IDs 0x100 to 0x102, answers.
 fn grow(alloc: Global, disk: &mut MemDisk) -> Result<Result<u16, GrowFault>, Fail> {
     let Some(slot) = SlotId::new(4) else {
         return Err(Fail::from("no slot"));
     };
     let routes = [route_at(slot, 0), route_at(slot, 1), route_at(slot, 2)];
-    Ok(grow_store(alloc, disk, &routes))
+    Ok(grow_store(alloc, disk, WANTED, &routes))
 }
 
 /// The first bytes of a disk, as many as eighteen cells have.
@@ -205,22 +211,28 @@ fn a_store_is_refused_by_its_first_cause(rt: HostRuntime) -> Result<(), Fail> {
     Ok(())
 }
 
+/// A log store of version 2.
+const OTHER: Layout = Layout {
+    kind: Kind::Log,
+    version: Version::Two,
+};
+
 /// A store of version 1, and the header of one of version 2.
 fn image_of_both() -> [u8; 32_800] {
     let mut image = [0; 32_800];
     image[..1256].copy_from_slice(&store_of(15, 1));
-    let layout = Layout {
-        kind: Kind::Log,
-        version: Version::Two,
-    };
-    image[32_768..].copy_from_slice(&header(layout, 15));
+    image[32_768..].copy_from_slice(&header(OTHER, 15));
     image
 }
 
 #[test]
 fn a_store_of_version_2_is_refused(rt: HostRuntime) -> Result<(), Fail> {
     let answer = grow_bytes(rt.alloc(), &image_of_both())?;
-    same(&rt, 2, &answer, &Err(GrowFault::NotFormatted));
+    let there = StoreHeader {
+        layout: OTHER,
+        cells: 15,
+    };
+    same(&rt, 2, &answer, &Err(GrowFault::OtherStore(there)));
     Ok(())
 }
 

@@ -1,5 +1,5 @@
 use Rattle.std.proofs.lemmas.Result.{IfOk-weaker}
-use Rattle.bus_store_commands.proofs.MakingStores.{unused_after, used_unmade, zeros_unread, room_after, made_after, unmade_after, if_err_weaker}
+use Rattle.bus_store_commands.proofs.MakingStores.{unused_after, used_not_taken, other_named, zeros_unread, room_after, made_after, unmade_after, if_err_weaker}
 use Rattle.bus_store_commands.proofs.making.make_blank.Goals as goal
 
 pub make_new-requires : goal.make_new-requires
@@ -28,8 +28,13 @@ returns-in-Ok-true-clause-refused g c =
 
 pub returns-in-Ok-false-clause-refused : goal.returns-in-Ok-false-clause-refused
 returns-in-Ok-false-clause-refused g c =
-    used_unmade c.args.kind c.args.version c.args.config.now (g.D.Disk.state c.args.disk) (g.D.Disk.state c.is_zeroed.new.disk) c.in-Ok-false.ensures.as_before
-    _ c.requires.blank c.in-Ok-false.ensures.zeros c.in-Ok-false.field-0-test
+    let before = g.D.Disk.state c.args.disk in
+    let mid = g.D.Disk.state c.is_zeroed.new.disk in
+    other_named c.args.kind c.args.version c.args.config.now before mid c.in-Ok-false.ensures.as_before (g.D.Disk.state c.refuse.result.disk)
+    c.refuse.result.fault
+    (used_not_taken c.args.kind c.args.version c.args.config.now before mid c.in-Ok-false.ensures.as_before _ c.requires.blank
+    c.in-Ok-false.ensures.zeros c.in-Ok-false.field-0-test)
+    c.refuse.ensures
 
 pub returns-in-Err-clause-refused : goal.returns-in-Err-clause-refused
 returns-in-Err-clause-refused g c =

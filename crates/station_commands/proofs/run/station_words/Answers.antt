@@ -82,7 +82,7 @@ returns-in-Growth-clause-promises g c =
     })
     (Some Growth) (Grown c.grow_words-status.result.1 c.grow_words-status.result.2)
     (record { before = g.K.Sink.state c.args.sink.now; after = g.K.Sink.state c.grow_words-status.new.sink; status = c.grow_words-status.result.0 })
-    part_is c.after_part-rest.ensures c.grow_words-status.ensures
+    part_is c.after_part-rest.ensures c.grow_words-status.ensures.grows
 
 pub returns-in-Ledger-clause-promises : goal.returns-in-Ledger-clause-promises
 returns-in-Ledger-clause-promises g c =
