@@ -57,12 +57,10 @@ part_named word next checks_over_bus =
 abbrev pub part_of : List (List ℕ) → Option StationPart
 part_of words = part_named (nth_word words 1) (nth_word words 2) (asks_over_bus (codes "check") (drop 1 words))
 
--- the arguments with which a file may be made: `slots make` and `grow`, and `ledger adopt`, `import` and `merge` with
--- `--new`
+-- the arguments with which a file may be made: `slots make`, and `ledger adopt`, `import` and `merge` with `--new`
 abbrev pub MayMakeFile : List (List ℕ) → Type 0
 MayMakeFile words =
-    (part_of words ≡ Some Making) ⊎ (part_of words ≡ Some Growth)
-    ⊎ ((part_of words ≡ Some Adoption) × (may_make (drop 1 words) ≡ true))
+    (part_of words ≡ Some Making) ⊎ ((part_of words ≡ Some Adoption) × (may_make (drop 1 words) ≡ true))
 
 -- What is promised of these arguments after the first, of a run that left such sources and disks: all that the part
 -- promises, over the files and disks that they name, each opened once, and no other. For no part the usage line was

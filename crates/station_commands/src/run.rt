@@ -59,7 +59,7 @@ pub enum StationFiles<O: Source, I: Source, D: CutDisk> {
 /// Runs what the arguments ask for over the files that they name. It gives the status that the program ends with, and
 /// the sources of the files and the disks as the run left them. `-` names the input, which is taken then; a second `-`
 /// is a missing source. If the first argument is another one nothing is opened, and the status is 2, or 6 if the sink
-/// failed. Only `slots make` and `grow`, and `ledger` with `--new`, may make a file.
+/// failed. Only `slots make` and `ledger` with `--new` may make a file.
 pub fn station_words<O: Opener, P: DiskOpener, I: Source + Drop, K: Sink>(
     alloc: Global,
     opener: &mut O,

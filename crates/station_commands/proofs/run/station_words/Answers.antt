@@ -137,14 +137,12 @@ returns-in-Making-clause-none_made g c not =
     absurd (not (inl part_is))
 
 pub returns-in-Growth-clause-none_made : goal.returns-in-Growth-clause-none_made
-returns-in-Growth-clause-none_made g c not =
-    let part_is : part_of (map string_bytes c.args.words.now) ≡ Some Growth = cc (c.in-Some.ensures, c.in-Growth.is) in
-    absurd (not (inr (inl part_is)))
+returns-in-Growth-clause-none_made g c not = c.grow_words-status.ensures.none_made
 
 pub returns-in-Adoption-clause-none_made : goal.returns-in-Adoption-clause-none_made
 returns-in-Adoption-clause-none_made g c not =
     let part_is : part_of (map string_bytes c.args.words.now) ≡ Some Adoption = cc (c.in-Some.ensures, c.in-Adoption.is) in
     elim (cases_Bool (may_make (drop 1 (map string_bytes c.args.words.now)))) [
-      | inl may ↦ absurd (not (inr (inr (part_is, may))))
+      | inl may ↦ absurd (not (inr (part_is, may)))
       | inr none ↦ c.adopts_words-status.ensures.none_made (ap may_make c.after_part-rest.ensures ∙ none)
     ]
