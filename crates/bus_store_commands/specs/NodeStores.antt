@@ -20,7 +20,6 @@ use Rattle.secoc_node.specs.declared.faults.AttachFault.TheVariants as cells
 use Rattle.secoc_node.specs.Cells.{CellsOf, IsKept, SlotsButNoBound}
 use Rattle.bus_world.specs.TakingUp.{cells_in, new_cells}
 use Rattle.bus_world.specs.Opening.{StandsAs}
-use Rattle.store_growing.specs.declared.headers.StoreHeader.{StoreHeader}
 use Rattle.store_growing.specs.StoreHeaders.{HeaderStands}
 use Rattle.bus_store_commands.specs.declared.making.MakeFault.{MakeFault}
 use Rattle.bus_store_commands.specs.declared.making.MakeFault.TheVariants as fault
@@ -62,8 +61,9 @@ IsNotTaken kind version config x =
     ⊎ (IsFound kind version (cells_in config) x found.Older
     ⊎ (IsFound kind version (cells_in config) x found.Blank × (¬ AllZeros x)))
 
--- Why bytes are refused. They aren't the node's store, and the store whose header stands there is named, if one does. Or
--- the node's store does stand, and a place is damaged, or a cell holds nothing that it is to hold: the first is named.
+-- Why bytes are refused. They aren't the node's store, and the store whose header stands there is named, if one does.
+-- Or the node's store does stand, and a place is damaged, or a cell holds something else than it is to: the first is
+-- named.
 abbrev pub BytesRefused : Kind → Version → Config → List ℕ → MakeFault → Type 0
 BytesRefused kind version config x (fault.OtherStore there) =
     IsNotTaken kind version config x × HeaderStands x (Some there)

@@ -56,8 +56,9 @@ pub fn grow_named<P: DiskOpener, K: Sink>(
     sink: &mut K,
 ) -> (u8, Option<P::Opened>)
     requires { length routes.now ≤ 256 }
-    ensures grows { (was : Option DiskState) × EndsInRow (ComesNamed (P.opens disk_opener.old) (P.opened disk_opener.old)
-        (P.opened disk_opener.new) word.now wanted routes.now was (option_map P.Opened.state result.1))
+    ensures grows { (was : Option DiskState) × EndsInRow (ComesNamed (P.opens disk_opener.old)
+        (P.opened disk_opener.old) (P.opened disk_opener.new) word.now wanted routes.now was
+        (option_map P.Opened.state result.1))
         (record { before = K.state sink.old; after = K.state sink.new; status = result.0 }) }
     ensures none_made { P.made disk_opener.new ≡ P.made disk_opener.old }
 {

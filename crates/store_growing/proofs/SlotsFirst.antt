@@ -7,7 +7,7 @@ use Rattle.key_slots.specs.declared.memory.Slot.{Slot}
 use Rattle.slot_disk.specs.Cell.{HoldsSlot}
 use Rattle.store_growing.specs.declared.faults.GrowFault.{GrowFault}
 use Rattle.store_growing.specs.declared.faults.GrowFault.TheVariants as fault
-use Rattle.store_growing.specs.RouteCells.{HasSlot, HaveSlots, SlotDamaged, HoldsNoSlot}
+use Rattle.store_growing.specs.RouteCells.{HasSlot, HaveSlots, SlotDamaged, NoSlotInCell}
 use Rattle.store_growing.specs.LookSteps.{RefusesSlot, RefusesSlots}
 use Rattle.store_growing.proofs.SlotOrNot.{slot_or_not}
 
@@ -40,7 +40,7 @@ module _ (x : List ℕ) where
   pub of_damaged : (cell : ℕ) → SlotDamaged x cell → NoSlotFirst cell
   of_damaged cell d = record { below = d.below; before = d.before; none = damaged_none cell d.none }
 
-  pub of_bad : (cell : ℕ) → HoldsNoSlot x cell → NoSlotFirst cell
+  pub of_bad : (cell : ℕ) → NoSlotInCell x cell → NoSlotFirst cell
   of_bad cell b = record { below = b.below; before = b.before; none = bad_none cell b.bytes b.holds b.none }
 
   pub not_whole : (cell : ℕ) → NoSlotFirst cell → HaveSlots x 14 → ⊥
@@ -56,7 +56,7 @@ module _ (x : List ℕ) where
   ]
 
   -- one cell isn't both
-  pub not_both : (cell other : ℕ) → SlotDamaged x cell → HoldsNoSlot x other → ⊥
+  pub not_both : (cell other : ℕ) → SlotDamaged x cell → NoSlotInCell x other → ⊥
   not_both cell other d b =
       let e : cell ≡ other = one_first cell other (of_damaged cell d) (of_bad other b) in
       let none : cell_at x other ≡ None = subst (λ (k : ℕ). cell_at x k ≡ None) e d.none in

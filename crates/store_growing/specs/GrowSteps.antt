@@ -22,7 +22,7 @@ use Rattle.store_growing.specs.GrowingStores.{OfBytes, IsOther, first_copy, with
 abbrev pub Sees : DiskState → List ℕ → Type 0
 Sees disk image = OfBytes disk (λ x. image ≡ x)
 
--- a bus wants a twin store of version 1, and the header of one stands in these bytes of the disk; none of version 2 does
+-- a bus wants a twin store of version 1, and the header of one stands in these bytes of the disk; none of version 2
 pub record FitsWanted (wanted : Layout) (image : List ℕ) (old : DiskState) : Type 0 where
   pub wants : wanted ≡ twin_layout One
   pub version : OfBytes old (λ x. ¬ HasVersionTwo x)

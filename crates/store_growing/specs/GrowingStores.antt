@@ -80,8 +80,8 @@ CutsStore routes old new = (new.told ≡ old.told) ⊎ OfBytes old (λ x. EachIm
 abbrev pub HasRouteRoom : List Route → DiskState → Type 0
 HasRouteRoom routes disk = twin_size (route_cell (length routes) + 1) ≤ disk.size
 
--- The store on a disk can be grown to a cell for each route: the bus wants a twin store of version 1, there is room, and
--- the bytes that the disk tells, none of them loose, have no store of version 2, but one that can get the cells.
+-- The store on a disk can be grown to a cell for each route: the bus wants a twin store of version 1, there is room,
+-- and the bytes that the disk tells, none of them loose, have no store of version 2, but one that can get the cells.
 pub record CanBeGrown (wanted : Layout) (routes : List Route) (old : DiskState) : Type 0 where
   pub wants : wanted ≡ twin_layout One
   pub room : HasRouteRoom routes old
@@ -108,17 +108,19 @@ pub data CannotBeGrown (wanted : Layout) (routes : List Route) (old : DiskState)
       → CannotBeGrown wanted routes old fault
 
 -- the disk was only read; this is the first cause, if none of its bytes is loose
-abbrev pub RefusesStore : Layout → List Route → DiskState → DiskState → GrowFault → Type 0
-RefusesStore wanted routes old new fault = AsBefore 2 old new × OfBytes old (λ x. CannotBeGrown wanted routes old fault)
+abbrev pub RefusesGrowth : Layout → List Route → DiskState → DiskState → GrowFault → Type 0
+RefusesGrowth wanted routes old new fault =
+    AsBefore 2 old new × OfBytes old (λ x. CannotBeGrown wanted routes old fault)
 
 -- Why a store doesn't get the cells. Nothing was written, unless a call of the disk failed.
 abbrev pub NotGrown : Layout → List Route → DiskState → DiskState → GrowFault → Type 0
 NotGrown wanted routes old new TooSmall = AsBefore 2 old new
-    × ((old.size < twin_size (route_cell (length routes) + 1)) ⊎ OfBytes old (λ x. CannotBeGrown wanted routes old TooSmall))
-NotGrown wanted routes old new (OtherStore there) = RefusesStore wanted routes old new (OtherStore there)
-NotGrown wanted routes old new NotFormatted = RefusesStore wanted routes old new NotFormatted
-NotGrown wanted routes old new (Damaged cell) = RefusesStore wanted routes old new (Damaged cell)
-NotGrown wanted routes old new (BadSlot cell) = RefusesStore wanted routes old new (BadSlot cell)
-NotGrown wanted routes old new (BadBound cell) = RefusesStore wanted routes old new (BadBound cell)
+    × ((old.size < twin_size (route_cell (length routes) + 1))
+    ⊎ OfBytes old (λ x. CannotBeGrown wanted routes old TooSmall))
+NotGrown wanted routes old new (OtherStore there) = RefusesGrowth wanted routes old new (OtherStore there)
+NotGrown wanted routes old new NotFormatted = RefusesGrowth wanted routes old new NotFormatted
+NotGrown wanted routes old new (Damaged cell) = RefusesGrowth wanted routes old new (Damaged cell)
+NotGrown wanted routes old new (BadSlot cell) = RefusesGrowth wanted routes old new (BadSlot cell)
+NotGrown wanted routes old new (BadBound cell) = RefusesGrowth wanted routes old new (BadBound cell)
 NotGrown wanted routes old new Memory = AsBefore 2 old new
 NotGrown wanted routes old new DiskFailed = Rose old.faults new.faults × CutsStore routes old new

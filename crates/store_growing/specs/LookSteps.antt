@@ -7,7 +7,7 @@ use Rattle.freshness_routes.specs.declared.routes.Route.{Route}
 use Rattle.store_growing.specs.declared.faults.GrowFault.{GrowFault}
 use Rattle.store_growing.specs.declared.faults.GrowFault.TheVariants.{Damaged, BadSlot}
 use Rattle.store_growing.specs.RouteCells.{route_cell, RouteAt, HoldsRoute, HaveCells, IsFree, FreeFrom}
-use Rattle.store_growing.specs.RouteCells.{SlotDamaged, HoldsNoSlot}
+use Rattle.store_growing.specs.RouteCells.{SlotDamaged, NoSlotInCell}
 
 -- why this cell is no slot's
 abbrev pub RefusesSlot : List ℕ → ℕ → GrowFault → Type 0
@@ -19,7 +19,7 @@ RefusesSlot x cell fault = ⊥
 -- why the first cells aren't those of fourteen slots
 abbrev pub RefusesSlots : List ℕ → GrowFault → Type 0
 RefusesSlots x (Damaged cell) = SlotDamaged x cell
-RefusesSlots x (BadSlot cell) = HoldsNoSlot x cell
+RefusesSlots x (BadSlot cell) = NoSlotInCell x cell
 RefusesSlots x fault = ⊥
 
 -- so many of the first routes have their cells, and the next has none

@@ -63,9 +63,9 @@ pub record HaveCells (routes : List Route) (x : List ℕ) (count : ℕ) : Type 0
 abbrev pub EndsErased : List Route → List ℕ → Type 0
 EndsErased routes x = IsErased (first_at (route_cell (length routes))) 68 x
 
--- A twin store of version 1 has its fourteen slots. So many of the first routes have their cells, and those of the others
--- can be written. What comes after them is erased, so the store has no further cell: a number above that of the routes'
--- cells is one that a cut left.
+-- A twin store of version 1 has its fourteen slots. So many of the first routes have their cells, and those of the
+-- others can be written. What comes after them is erased, so the store has no further cell: a number above that of the
+-- routes' cells is one that a cut left.
 pub record CanGrow (routes : List Route) (x : List ℕ) (count : ℕ) : Type 0 where
   pub head : HasFirstHead Twin x
   pub slots : HaveSlots x 14
@@ -83,7 +83,7 @@ pub record SlotDamaged (x : List ℕ) (cell : ℕ) : Type 0 where
   pub none : cell_at x cell ≡ None
 
 -- or what it holds is no slot
-pub record HoldsNoSlot (x : List ℕ) (cell : ℕ) : Type 0 where
+pub record NoSlotInCell (x : List ℕ) (cell : ℕ) : Type 0 where
   pub below : cell < 14
   pub before : HaveSlots x cell
   pub bytes : List ℕ
@@ -114,7 +114,7 @@ pub record IsUsedAfter (routes : List Route) (x : List ℕ) : Type 0 where
 -- for which fault of these bytes; the other faults aren't theirs
 abbrev pub RefusesBytes : List Route → List ℕ → GrowFault → Type 0
 RefusesBytes routes x (Damaged cell) = SlotDamaged x cell
-RefusesBytes routes x (BadSlot cell) = HoldsNoSlot x cell
+RefusesBytes routes x (BadSlot cell) = NoSlotInCell x cell
 RefusesBytes routes x (BadBound cell) = HoldsOther routes x cell
 RefusesBytes routes x TooSmall = IsUsedAfter routes x
 RefusesBytes routes x (OtherStore there) = ⊥

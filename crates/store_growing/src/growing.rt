@@ -22,10 +22,10 @@ use freshness_store::bound_bytes;
 use std::alloc::{AllocError, Global};
 use store_plan::has_head;
 
-/// Grows the twin store of version 1 on a disk to a cell for each of these routes, at most 256, if that is the store that
-/// the bus wants. Those that have cells are the first of them. It gives the number of cells, also if none was lacking.
-/// Cells are written first, each whole or absent whenever the power goes, and then their number. A cell that is counted
-/// is never written. After a cut the same call goes on. If it is refused, but for `DiskFailed`, the disk is as it was.
+/// Grows the twin store of version 1 on a disk to a cell for each of these routes, at most 256, if the bus wants such a
+/// store. Those that have cells are the first of them. It gives the number of cells, also if none was lacking. Cells
+/// are written first, each whole or absent whenever the power goes, and then their number. A cell that is counted is
+/// never written. After a cut the same call goes on. If it is refused, except for `DiskFailed`, the disk is as it was.
 ///
 /// Errors, in this order: `TooSmall` of the disk; `Memory`; `DiskFailed` of a read; `OtherStore` and `NotFormatted`;
 /// `Damaged` and `BadSlot` of the first slot that is either; `BadBound`; `TooSmall` of what comes after the cells.

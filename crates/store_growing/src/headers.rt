@@ -1,12 +1,14 @@
 //! Which store's header stands on a disk.
-ghost use Rattle.std.specs.Prelude.{◌≡◌, ◌↔◌, ◌≤◌, ℕ, List, [], length, Some, IsTrue, IfOk, IfSome, OnOk, OnErr, MatchOption};
+ghost use Rattle.std.specs.Prelude.{◌≡◌, ◌↔◌, ◌≤◌, ℕ, List, [], length, Some, IsTrue, IfOk, IfSome, OnOk, OnErr};
+ghost use Rattle.std.specs.Prelude.{MatchOption};
 ghost use Rattle.cut_disk.specs.State.{Told};
 ghost use Rattle.cut_disk.specs.Calls.{Rose, Runs};
 ghost use Rattle.cell_store.specs.declared.kinds.Kind.{Kind};
 ghost use Rattle.cell_store.specs.declared.kinds.Version.TheVariants.{One, Two};
 ghost use Rattle.cell_store.specs.Layout.{part, from_base};
 ghost use Rattle.cell_store.specs.Store.{Probes};
-ghost use Rattle.store_growing.specs.StoreHeaders.{HasVersionTwo, HasFirstHead, HeaderStands, store_header, cells_counted};
+ghost use Rattle.store_growing.specs.StoreHeaders.{HasVersionTwo, HasFirstHead, HeaderStands, store_header};
+ghost use Rattle.store_growing.specs.StoreHeaders.{cells_counted};
 
 use any_cells::probe_two;
 use cell_store::{Kind, Layout, Probe, StoreFault, Version, is_header};

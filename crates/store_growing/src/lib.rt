@@ -6,7 +6,7 @@
 //! and then their number in the header. The bus has to want such a store, and its fourteen slots have to be whole. A
 //! cell that the header counts is never written: a number that a cut left may be any, so no number says that such a
 //! cell is nobody's. Each new cell is whole or absent whenever the power goes, every cell holds what it held, and the
-//! same call goes on after a cut, to the same bytes ([`laws`]). [`header_on`] says which store's header stands on a disk.
+//! same call goes on after a cut, to the same bytes ([`laws`]). [`header_on`] says which store's header stands there.
 #![tactic(auto)]
 
 mod faults;

@@ -18,8 +18,8 @@ use store_plan::cell_in;
 /// How many cells the key slots have: those of the routes come after them.
 pub(crate) const SLOT_COUNT: u16 = 14;
 
-/// How many of the routes, from the first on, have their cells in these bytes of a store with its fourteen slots; or why
-/// the others can't get theirs.
+/// How many of the routes, from the first on, have their cells in these bytes of a store with its fourteen slots; or
+/// why the others can't get theirs.
 pub(crate) fn routes_there(image: &[u8], routes: &[Route]) -> Result<u16, GrowFault>
     requires few { length routes.now ≤ 256 }
     requires room { twin_size (route_cell (length routes.now) + 1) ≤ length image.now }
