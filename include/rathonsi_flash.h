@@ -4,8 +4,8 @@
  *
  * The library touches no flash. It hands out one operation after another: READ, ERASE, PROGRAM. The
  * caller performs each and reports its outcome. Routes and slots work as rathonsi_store.h says, over
- * an image in RAM. Only the caller's read_device and write_device change. One thing isn't to be had:
- * a store on flash doesn't grow. See "What isn't covered".
+ * an image in RAM. Only the caller's read_device and write_device change. One thing is missing: a
+ * store on flash doesn't grow. See "What isn't covered".
  *
  * No call waits, calls back or takes memory. All state is the caller's.
  *
@@ -14,10 +14,10 @@
  *     first one that the comment of the call names.
  *   - With a status other than RATHONSI_OK every output is as before.
  *
- * More is proved of a caller that keeps what it owes, over all lives with a flash on which
+ * More is proved of a caller that keeps what it owes. It holds over all lives with a flash on which
  * rathonsi_flash_take made a store, to its last operation. If the power cut that last operation, the
- * store is there whole or not at all, and the same holds once a start has found it. A life lasts from
- * one power-up to the next, and the power may go at any time.
+ * store is there whole or not at all. The same holds then once a start has found it. A life lasts
+ * from one power-up to the next, and the power may go at any time.
  *   - Once the store is ready, its cells are what the puts that were done made of the first ones. A
  *     put that the power cut is there whole or not at all, and that stays so.
  *   - Each start finds the store: RATHONSI_NO_STORE never comes.
@@ -75,7 +75,8 @@
  *     then rathonsi_store_done is called; or all begins again as at power-up. It isn't dropped, and
  *     no other plan is made before.
  *   - unit, banks, bank_size, the number of cells, and which sectors a bank is, are the same in every
- *     life, also after an update of the software.
+ *     life, also after an update of the software. Exception: the number of
+ *     cells may be another if rathonsi_flash_take makes the store anew.
  *   - If rathonsi_flash_next answers another status than RATHONSI_OK, all begins again as at
  *     power-up.
  *
@@ -101,22 +102,22 @@
  *     are programmed by half can be read today and be gone tomorrow. Read a line with margin, at both
  *     margins if the part has them, and answer NOTHING if the reads differ. Several reads without
  *     margin find only cells that change now; they don't show that a cell keeps what it has. Don't
- *     keep a store on a part that can't do this: the head of a log is such a line, too. Without settled
- *     reads the store may fall back to an older one unseen, on any part, also on one that never answers
- *     BLANK. A counter goes from 100 to 0 and its PDUs are accepted again, or a key that was confirmed
- *     is gone. Or the whole store is lost.
+ *     keep a store on a part that can't do this: the head of a log is such a line, too. The store may
+ *     fall back to an older one unseen without settled reads. This holds on any part, also on one
+ *     that never answers BLANK. A counter goes from 100 to 0 and its PDUs are accepted again, or a
+ *     key that was confirmed is gone. Or the whole store is lost.
  *   - A line that was programmed whole is always read so. Take only margins that such a line passes
  *     as long as the device lives. If a line isn't read, the puts after it are lost with it. That is a
  *     fault of the part, which nothing here mends.
- *   - A corrected error sets two duties against each other. The line may be whole and old, or a cut one
- *     that changes soon. Corrected reads don't tell which. That a whole line is always read goes
- *     before settled reads: if all corrected reads agree, answer DONE. For every part ages, and an old
- *     line that isn't read takes all puts after it along. A cut line goes only if another bit of it
- *     changes before a start has copied it; each start without BLANK does. The way out is a read with
- *     margin while the correction is off. If both margins give the same bits, correct them and answer
- *     DONE. If they differ, answer NOTHING.
- *   - BLANK is believed. Answer it to a READ only if the part proves that the line was erased in full
- *     and that no PROGRAM of it was begun since. No check that looks at levels alone proves that, at
+ *   - Two duties conflict after a corrected error. The line may be whole and old, or a cut one that
+ *     changes soon. Corrected reads don't tell which. Reading each whole line is more important than
+ *     settled reads: answer DONE if all corrected reads agree. Every part ages, and all puts after an
+ *     old line that isn't read are lost with it. A cut line is lost only if another bit of it changes
+ *     before a start has copied it. A start without BLANK always copies. The way out is a read with
+ *     margin while the correction is off. Correct the bits and answer DONE if both margins give the
+ *     same. Answer NOTHING if they differ.
+ *   - BLANK is believed. Answer it to a READ only if the part proves two things. The line was erased
+ *     in full, and no PROGRAM of it was begun since. No check that looks at levels alone proves that, at
  *     whatever margin: a cut PROGRAM may leave the levels of a blank line for now. A part without such
  *     a proof never answers BLANK: each start then erases a bank. Seemingly blank units do no harm then.
  *   - A unit that resets again and again waits before rathonsi_flash_begin, longer each time: see
@@ -195,9 +196,9 @@
  *   - Erases of a bank over all years, without BLANK: at most (starts + puts / (P - n - 1)) / B; with
  *     BLANK puts / (P - n - 1) / B. No bank is erased more often than another by more than one and the
  *     number of copies that were begun and not done, as the power went or an operation failed.
- *   - A reset loop: without BLANK each start is an erase and n + 1 PROGRAMs, also if nothing was put
- *     since the last one. 1,000 starts are 1,000 erases. At ten starts a second 2 banks of 10^4 cycles
- *     are worn out in 33 minutes, of 10^5 cycles in 5.6 hours.
+ *   - A reset loop: each start without BLANK is an erase and n + 1 PROGRAMs, also if nothing was put
+ *     since the last one. 1,000 starts are 1,000 erases, which the banks share. Two banks of 10^4
+ *     cycles are worn out in 33 minutes at ten starts a second. Of 10^5 cycles they last 5.6 hours.
  *   - RAM: RathonsiFlash 216 bytes, an operation 144, cells and scratch 64 * n, the image
  *     32 + 68 * n.
  *
@@ -274,10 +275,10 @@ int32_t rathonsi_flash_begin(RathonsiFlash *flash, uint16_t unit, uint8_t banks,
                              size_t cells);
 
 /* For the production line, and to move a store from a device of bytes: makes a store on the flash that
- * has the cells of this image, which rathonsi_store_check answers RATHONSI_OK for. It erases all banks.
+ * has the cells of this image. rathonsi_store_check answers RATHONSI_OK for it. It erases all banks.
  * Once its operations are done, rathonsi_flash_next answers NONE, and all begins again with
  * rathonsi_flash_begin. If the power goes before all banks are erased, the flash has no store, or one
- * that it had before, which need not be its last one: begin with this call again. After that it has
+ * that it had before. That need not be its last one: begin with this call again. After that it has
  * none; and if the power goes within the last operation, this store whole, or none.
  * To move, a start does this in order, each step durable before the next. The flash never had a store,
  * or the production line erased its banks.

@@ -54,7 +54,8 @@
  *   - The caller zeroes the plan as each power-up begins, and whenever all begins again as at
  *     power-up. It does so whatever was planned before, also if the plan's memory outlives a reset.
  *   - Software with routes that the production line didn't make calls rathonsi_store_grow for each
- *     of them, as said there. It does so at each power-up, whatever rathonsi_store_size says.
+ *     of them, as said there. It does so at each power-up, whatever rathonsi_store_size says. Then
+ *     it asks rathonsi_store_size, as does the first software of a unit that may get an update.
  *   - What is read at power-up is durable, and reads the same ever after. A device with a cache is
  *     synced before it is read. Otherwise what a failed write left may be read, relied on, and then
  *     be gone.
@@ -102,7 +103,9 @@
  *     void power_up(void) {
  *         memset(&plan, 0, sizeof plan);
  *         read_device(image, sizeof image);
- *         // routes that the production line didn't make: rathonsi_store_grow, see there
+ *         // A unit that may get an update has a longer array. Here it calls rathonsi_store_grow
+ *         // for each route that the production line didn't make. Then check and open take the
+ *         // size that rathonsi_store_size tells, not sizeof image. See both calls.
  *         if (rathonsi_store_check(image, sizeof image) != RATHONSI_OK)
  *             stop();
  *         if (rathonsi_routes_open(routes, 2u, image, sizeof image, &which) != RATHONSI_OK)
@@ -184,7 +187,7 @@ extern "C" {
 #define RATHONSI_KEY_WRITE_PROTECTED 15
 /* M3, the UID or the counter of the request is refused. */
 #define RATHONSI_KEY_UPDATE_ERROR 16
-/* A fault of the configuration: the image ends before the cell of the route, or the cell holds
+/* A fault of the configuration: the image ends before the cell of the route. Or the cell holds
  * something else than a bound of this Data ID and direction. A cell that rathonsi_route_make never
  * made holds zero bytes. */
 #define RATHONSI_WRONG_CELL 17
@@ -235,10 +238,10 @@ typedef struct RathonsiRoute {
      * and not sent. It makes a receiver refuse what is reserved and not accepted. */
     uint16_t reserve;
     /* How far above its counter a receiver accepts freshness, 1 to 256. A receiver falls behind by
-     * what its sender sends while it is down (rate times seconds), and by what the sender skips at
-     * its power cuts (what is reserved and not sent). If that is more than the window, it accepts
-     * nothing until it takes an answer of the sender: see rathonsi_sync_take. A route that sends has a
-     * window in this range, too, and makes no use of it. */
+     * what its sender sends while it is down (rate times seconds). It falls behind, too, by what the
+     * sender skips at its power cuts (what is reserved and not sent). It accepts nothing if the sum
+     * is more than the window, until it takes an answer of the sender: see rathonsi_sync_take. A
+     * route that sends has a window in this range, too, and makes no use of it. */
     uint16_t window;
     /* The slot of its key, 4 to 13. */
     uint8_t slot;
@@ -284,7 +287,8 @@ int32_t rathonsi_store_make(uint8_t *image, size_t image_length);
  * bound. That bound is 0, unless a counter is taken over.
  * The device is then written in this order, each step durable before the next:
  *   1. 32 zero bytes at byte 0;
- *   2. the image from byte 32 on;
+ *   2. the image from byte 32 on, and 00 or ff in the room after it: 68 bytes for each route that
+ *      later software may add, and 68 more (see rathonsi_store_grow);
  *   3. the first 32 bytes of the image.
  * RATHONSI_BAD_LENGTH: as for rathonsi_store_make.
  * RATHONSI_BAD_VALUE: a number of the route is outside its range, or the image has no such cell. */
@@ -307,53 +311,63 @@ int32_t rathonsi_store_check(const uint8_t *image, size_t image_length);
 RATHONSI_CHECKED
 int32_t rathonsi_store_look(const uint8_t *image, size_t image_length, uint16_t *cell);
 
-/* Tells the size in bytes of the store that begins with these 32 bytes. Software that grows its store,
- * or that a roll-back may bring back, asks it at each power-up. It does so after all calls of
- * rathonsi_store_grow, never to decide whether to make them. This many bytes are its image then.
- * After a roll-back they are more than the routes of the older software need, and all calls work in
- * them. So size the image array for later software.
+/* Tells the size in bytes of the store that begins with these 32 bytes. Software of a unit that may
+ * get an update asks it at each power-up. The first software does so, too: a roll-back may bring it
+ * back. It asks after all calls of rathonsi_store_grow, never to decide whether to make them.
+ * This many bytes are then its image, for check, open and all later calls. After a roll-back they
+ * are more than the routes of the older software need, and all calls work in them. The software
+ * stops if they are more than its image array has. So size that array for later software.
  * RATHONSI_NO_STORE: they are not the header of a store of up to 256 routes. */
 RATHONSI_CHECKED
 int32_t rathonsi_store_size(const uint8_t head[32], uint32_t *size);
 
 /* For a software update that adds a route: plans the cell of the route as one more at the end of
- * the store. The cell holds this bound at once, so there is no store in which it counts and is
- * nobody's. The bound is 0, unless a counter is taken over. The plan's last write is the number of
- * cells in the header.
+ * the store. The cell holds this bound at once: the store never counts a cell without an owner. The
+ * bound is 0, unless a counter is taken over. The plan's last write is the number of cells in the
+ * header. A store on NOR flash doesn't grow: rathonsi_flash_put refuses the plan.
  *
- * It is called at each power-up, before the routes are opened, for each route that the production
- * line didn't make, in the order of their cells. For each route the caller calls, does the plan and
- * calls rathonsi_store_done, until the plan stays empty. If it answers another status than
- * RATHONSI_OK, the unit stops.
- * It is called whatever rathonsi_store_size says. A cut within the last write may leave any number of
- * cells: a smaller one, a larger one, none of a store. Only this call puts the number right. A caller
- * that asks the size, and then calls no growth, may find RATHONSI_NO_STORE or RATHONSI_DAMAGED at
- * each power-up from then on.
- * The plan stays empty if the store has this cell already. After a power cut the same call, with the
- * same route and bound, on the bytes that the device holds, goes on. If the cut left another number
- * of cells, the call finds both copies of the cell as it wrote them, and plans the number alone.
+ * The caller makes the calls at each power-up, before it opens the routes. It makes them for each
+ * route that the production line didn't make, in the order of their cells. A route that went is one
+ * of them, with the Data ID and direction that it had. For each route the caller calls, does the
+ * plan and calls rathonsi_store_done. It does so until the plan stays empty: the lengths of all
+ * three writes are 0. The unit stops if a call answers another status than RATHONSI_OK.
+ * The caller makes the calls whatever rathonsi_store_size says. A cut within the last write may
+ * leave any number of cells: a smaller one, a larger one, or one that no store has. Only the call
+ * for the new cell puts the number right. A caller that skips it because of the size may be stuck:
+ * RATHONSI_NO_STORE or RATHONSI_DAMAGED comes at each power-up.
+ * After a power cut the same call goes on, with the same route and bound, on the bytes that the
+ * device holds. It plans the number alone if the cut left neither the old nor the new one. It finds
+ * both copies of the cell as it wrote them.
+ * The plan stays empty if the store has this cell already. It does so, too, while the growth of a
+ * later cell is cut and the number is torn. The status is RATHONSI_OK if the cell holds a bound of
+ * this route, however far it has counted.
  *
- * image is what the device holds, with room for this cell and one more. What lies there after the
- * store is erased: all bytes 00, or all ff, as in place of bytes that the device hasn't. If the 68
- * bytes after this cell are neither, the store has more cells, or is to get them, or a cell of it
- * is damaged. Then the call plans nothing. So the store of newer software stays as it is, and so
- * does one whose number of cells was cut as a later cell was added: only software with that cell
- * puts the number right. A cell that a fault erased whole can't be told from one that isn't there
- * yet.
+ * image is what the device holds, with room for this cell and one more. The device has room for this
+ * cell. Bytes of the image that the device hasn't are ff.
+ * The room behind the store is erased: all bytes 00, or all ff. The production line does that, over
+ * 68 bytes for each later route, and 68 more as far as the device goes. The call looks at the 68
+ * bytes after this cell. It plans nothing if they are neither all 00 nor all ff. The store then has
+ * a later cell, or is to get one, or a cell is damaged, or nobody erased these bytes.
+ * So the store of newer software stays as it is. So does a store whose number of cells was cut as a
+ * later cell was added: only software with that cell puts the number right.
+ * If nobody erased them, the new software stops at each power-up, and the older one works on. Such a
+ * unit needs the room erased before its first growth. A later erase may take cells.
+ * A cell that a fault erased whole can't be told from one that isn't there yet.
  * RATHONSI_BUSY.
  * RATHONSI_BAD_VALUE: a number of the route is outside its range.
  * RATHONSI_BAD_LENGTH: image_length is below RATHONSI_STORE_SIZE(cell - RATHONSI_SLOT_CELLS + 2), or
  * the cell is above 269.
- * RATHONSI_NO_STORE: the image is no store of this layout. Or its number of cells is wrong, and this
- * cell isn't as the call wrote it.
- * RATHONSI_WRONG_CELL, RATHONSI_DAMAGED: nothing is to be planned, and rathonsi_route_open has
- * these. */
+ * RATHONSI_NO_STORE: the image is no store of this layout, whatever its number of cells. Or all of
+ * this holds: the number is neither that before this cell nor that with it; the 68 bytes after this
+ * cell are erased; and this cell isn't as the call wrote it.
+ * RATHONSI_WRONG_CELL, RATHONSI_DAMAGED: nothing is planned, as the store has this cell, or the 68
+ * bytes after it aren't erased. rathonsi_route_open would answer this. */
 RATHONSI_CHECKED
 int32_t rathonsi_store_grow(const RathonsiRoute *route, uint64_t bound, const uint8_t *image, size_t image_length,
                             RathonsiPlan *plan);
 
 /* By this call the caller says that all writes of the plan are durable. The call brings the image
- * up to date, and empties the plan. If the plan is empty, the image stays as it is.
+ * up to date, and empties the plan. The image stays as it is if the plan is empty.
  * RATHONSI_BAD_VALUE: a write with a length above 0 reaches beyond the image, or a write has more
  * than 40 bytes. */
 RATHONSI_CHECKED
@@ -437,8 +451,8 @@ int32_t rathonsi_route_send(RathonsiRoute *route, const uint8_t *image, size_t i
  * RATHONSI_KEY_EMPTY, RATHONSI_KEY_INVALID, RATHONSI_KEY_NOT_AVAILABLE: as for rathonsi_route_send.
  * RATHONSI_FRESHNESS_FAILURE, RATHONSI_VERIFICATION_FAILURE.
  * RATHONSI_RESERVE, after all refusals above: the bound in the image doesn't cover the freshness
- * yet. The authenticator of the PDU agrees. So without the key, a PDU makes the device wear once in
- * 2^24 tries on average.
+ * yet. The authenticator of the PDU agrees. So somebody without the key makes the device write once
+ * in 2^24 PDUs, on average.
  * freshness is the one to reserve. Once it is reserved and the plan is done, the same call accepts
  * the PDU. This is proved. */
 RATHONSI_CHECKED

@@ -130,12 +130,12 @@ static int leaves_out(const struct unit *unit) {
     }
 }
 
-/* The store gets the cell of this route, unless it has it. */
+/* The store gets the cell of this route, unless it has it. Then the call plans nothing, also while the number of cells is torn. */
 static enum outcome grow_by(struct unit *unit, const RathonsiRoute *route) {
     for (;;) {
         if (rathonsi_store_grow(route, 0, unit->image, sizeof unit->image, &unit->plan) != RATHONSI_OK)
             return STOPPED;
-        if (unit->plan.writes[2].length == 0u) /* nothing is planned */
+        if (unit->plan.writes[2].length == 0u) /* nothing is planned: the last write of a growth is never empty */
             return UP;
         counted += unit->plan.writes[0].length == 0u;
         grown += unit->plan.writes[0].length != 0u;
@@ -249,6 +249,7 @@ static void roll_back(struct unit *unit) {
 
 /* ---- The production line ---- */
 
+/* Makes a unit of one route, with all the room behind its store erased. A device that began with old bytes there couldn't grow. */
 static void make_unit(struct unit *unit) {
     unit->count = 0;
     add_route(unit);
