@@ -172,9 +172,9 @@ impl ByteFile for SystemFile {
     }
 }
 
-/// Opens the file, or makes it if it is to be made, and syncs it and its folder: what a program that was killed has left
-/// is then what a power cut leaves. Descriptors 0 to 2 are taken meanwhile: of a program that was started with a stream closed the
-/// file doesn't become that stream.
+/// Opens the file, or makes it if it is to be made, and syncs it and its folder: what a program that was killed has
+/// left is then what a power cut leaves. Descriptors 0 to 2 are taken meanwhile: of a program that was started with a
+/// stream closed the file doesn't become that stream.
 fn opened(rt: &HostRuntime, path: &str, missing: Missing) -> io::Result<SystemFile>
     ensures there { IfOk result (λ file. is_there file ≡ true) }
     ensures fresh { IfOk result (λ file. has_failed file ≡ false) }
@@ -307,7 +307,7 @@ impl FileDisk<HeldFile<SystemFile>> {
         Ok(FileDisk::held(SystemFile::on(rt, path), room))
     }
 
-    /// The same over a file that is there: none is made. If none is there it is the disk of a file that can't be opened.
+    /// The same over a file that is there: none is made. If none is there it is the disk of one that can't be opened.
     pub fn standing(
         alloc: Global,
         rt: &HostRuntime,

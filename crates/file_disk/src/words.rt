@@ -51,7 +51,8 @@ pub fn open_disks<P: DiskOpener>(
         (option_map (λ w. w.now) word.entry) (map P.Opened.state disks.items)) }
     ensures unopened { OnErr result (P.opened opener.new ≡ P.opened opener.old) }
     ensures wanted { OnErr result (option_map (λ w. w.now) word.entry ≢ None) }
-    ensures made { OnOk result (P.made opener.new ≡ with_opened (option_map (λ w. w.now) word.entry) (P.made opener.old)) }
+    ensures made { OnOk result
+        (P.made opener.new ≡ with_opened (option_map (λ w. w.now) word.entry) (P.made opener.old)) }
     ensures unmade { OnErr result (P.made opener.new ≡ P.made opener.old) }
 {
     match word {

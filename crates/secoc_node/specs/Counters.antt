@@ -3,6 +3,7 @@ use Rattle.std.specs.Prelude.{◌≡◌, ℕ, ◌+◌, ◌<◌, ◌≤◌, List,
 use Rattle.freshness_routes.specs.declared.routes.Direction.{Direction}
 use Rattle.freshness_routes.specs.declared.routes.Direction.TheVariants.{Sends, Receives}
 use Rattle.freshness_routes.specs.declared.routes.Route.{Route}
+use Rattle.freshness_routes.specs.declared.config.TheConstants.{MOST_ROUTES}
 use Rattle.freshness_routes.specs.Config.{IsRoute}
 use Rattle.freshness_store.specs.Bound.{HoldsBound}
 use Rattle.secoc_node.specs.Cells.{cell_in, route_in}
@@ -58,7 +59,7 @@ pub record CountRoutes (routes : List Route) (counters : List RouteCounter) : Ty
 
 -- routes as a configuration has them
 pub record AreRoutes (routes : List Route) : Type 0 where
-  pub few : length routes ≤ 256
+  pub few : length routes ≤ MOST_ROUTES
   pub are : All IsRoute routes
 
 -- the counter is that of this route, and begins at the bound in this cell
