@@ -1,10 +1,11 @@
 -- The lemmas that crates above cite.
-use Rattle.std.specs.Prelude.{◌≡◌, ℕ, ◌≤◌, length, List, [], Some, ◌≢◌, ◌⊎◌, ◌==◌, false, ◌++◌}
+use Rattle.std.specs.Prelude.{◌≡◌, ℕ, ◌+◌, ◌<◌, ◌≤◌, length, List, [], Some, ◌≢◌, ◌⊎◌, ◌==◌, false, ◌++◌}
 use Rattle.std.proofs.Common.{inl, inr, refl, arith, ap, subst, sym, length-append, ◌∙◌}
 use Rattle.std.proofs.lemmas.Bool.Decides.{nat_tests}
 use Rattle.bus_port.specs.Source.{SourceState, Came}
-use Rattle.bus_port.specs.Whole.{CameWithin, CameBeyond}
-use Rattle.program_edge.specs.Input.{input_limit}
+use Rattle.bus_port.specs.Fault.{last_count}
+use Rattle.bus_port.specs.Whole.{ReadsAll, CameWithin, CameBeyond}
+use Rattle.program_edge.specs.Input.{input_limit, input_fault_status}
 use Rattle.program_edge.specs.declared.input.InputFault.{InputFault}
 use Rattle.program_edge.specs.Inputs.{Reading, IsUnread, ReadsWhole, Lacks, CountsFault, CountsTooMuch, Offers}
 use Rattle.bus_port.specs.Sink.{SinkState}
@@ -71,6 +72,57 @@ Offers-clean r text told short calm = (
   short,
   λ rose. elim rose [ inl more ↦ absurd (omega (arith, more, calm)) | inr last ↦ absurd (omega (arith, last, calm)) ],
 )
+
+-- ---- laws of a source that was read: what a status says of it
+
+-- at most so many bytes were counted
+abbrev pub TakesAtMost : ℕ → Reading → Type 0
+TakesAtMost limit r = r.before.taken + limit < last_count → r.after.taken ≤ r.before.taken + limit
+
+-- no fault was counted
+abbrev pub CountsNone : Reading → Type 0
+CountsNone r = r.after.faults ≡ r.before.faults
+
+-- 5, and not a byte too many; 8, and no fault; or neither
+abbrev pub SourceTells : ℕ → Reading → ℕ → Type 0
+SourceTells limit r status = ((status ≡ 5) × TakesAtMost limit r) ⊎ ((status ≡ 8) × CountsNone r) ⊎ (CountsNone r × TakesAtMost limit r)
+
+TakesAtMost-came : (limit : ℕ) (r : Reading) → CameWithin r.before r.after limit → TakesAtMost limit r
+TakesAtMost-came limit r came below = omega (arith, came.1, came.2.counted, below)
+
+pub SourceTells-rose : (limit : ℕ) (r : Reading) → CameWithin r.before r.after limit → SourceTells limit r 5
+SourceTells-rose limit r within = inl (refl, TakesAtMost-came limit r within)
+
+pub SourceTells-beyond : (limit : ℕ) (r : Reading) → CountsNone r → SourceTells limit r 8
+SourceTells-beyond limit r calm = inr (inl (refl, calm))
+
+pub SourceTells-within : (limit : ℕ) (r : Reading) (status : ℕ) → CountsNone r → CameWithin r.before r.after limit → SourceTells limit r status
+SourceTells-within limit r status calm within = inr (inr (calm, TakesAtMost-came limit r within))
+
+pub SourceTells-unread : (limit : ℕ) (r : Reading) (status : ℕ) → IsUnread r → SourceTells limit r status
+SourceTells-unread limit r status same =
+    inr (inr (ap (λ (s : SourceState). s.faults) same, λ below. omega (arith, ap (λ (s : SourceState). s.taken) same)))
+
+pub SourceTells-whole : (limit : ℕ) (r : Reading) (status : ℕ) (text : List ℕ) → ReadsAll r.before r.after limit text → SourceTells limit r status
+SourceTells-whole limit r status text whole = SourceTells-within limit r status whole.no_fault (text, whole.within, whole.came)
+
+pub SourceTells-lacks : (r : Reading) (fault : InputFault) → Lacks r fault → SourceTells input_limit r (input_fault_status fault)
+SourceTells-lacks r input.ReadFault (rose, within) = SourceTells-rose input_limit r within
+SourceTells-lacks r input.TooLong (same, beyond) = SourceTells-beyond input_limit r same
+SourceTells-lacks r input.Memory (same, within) = SourceTells-within input_limit r 7 same within
+
+-- if the count of faults rose it is 5
+pub SourceTells-fault : (limit : ℕ) (r : Reading) (status : ℕ) → SourceTells limit r status → CountsFault r → status ≡ 5
+SourceTells-fault limit r status (inl five) counts = five.0
+SourceTells-fault limit r status (inr (inl (eight, calm))) counts = absurd (omega (arith, calm, counts))
+SourceTells-fault limit r status (inr (inr (calm, within))) counts = absurd (omega (arith, calm, counts))
+
+-- if a byte too many was counted it is 8
+pub SourceTells-long : (limit : ℕ) (r : Reading) (status : ℕ) → SourceTells limit r status
+    → (r.before.taken + limit < last_count) × (r.before.taken + limit < r.after.taken) → status ≡ 8
+SourceTells-long limit r status (inl (five, within)) (room, more) = absurd (let most = within room in omega (arith, most, more))
+SourceTells-long limit r status (inr (inl (eight, calm))) counts = eight
+SourceTells-long limit r status (inr (inr (calm, within))) (room, more) = absurd (let most = within room in omega (arith, most, more))
 
 -- ---- laws of endings, whatever rows a program has
 

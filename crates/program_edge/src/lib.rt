@@ -7,8 +7,8 @@
 //! an ending whole, with its status, or a strict prefix with 6. [`Refusal`] is a row of answers instead of
 //! what the program was asked to do, and [`tell_refusal`] prints it. Rows 5, 8 and 7, of an input that isn't
 //! there, are those of every program that reads. [`arguments`] drops the program's name by a function whose
-//! clause says so. No clause says what the system hands out as arguments, or which file [`Paths`] opens: both are
-//! tested.
+//! clause says so. That it calls this function, what the system hands out as arguments, and which file [`Paths`]
+//! opens are tested: no clause says it.
 #![tactic(auto)]
 
 mod input;
