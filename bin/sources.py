@@ -8,7 +8,7 @@ from typing import NamedTuple
 
 TOP = os.path.dirname(os.path.dirname(os.path.realpath(__file__)))
 # the name of each definition that begins in this line
-DEFINES = re.compile(r"(?:(?:abbrev|unfoldable)(?: pub)?|(?:pub )?(?:record|data)) ([^\s(:{]+)")
+DEFINES = re.compile(r"(?:(?:abbrev|unfoldable)(?: pub)?|(?:pub )?(?:record|data)|module) ([^\s(:{]+)")
 MEMBER = re.compile(r"  (?:pub )?([^\W\d][\w'-]*) : ")
 FUNCTION = re.compile(r'(?m)^(    )?(?:#\[[^\]\n]*\] *)?(pub )?(?:const |unsafe |extern "C" )*fn (\w+)')
 SIGNATURE_ENDS = re.compile(r"(?m)\b(?:ensures|requires)\b(?= *\w* *\{)|\{|;$")
@@ -18,6 +18,10 @@ OWNER = re.compile(r"(?m)^(?:pub )?(?:unsafe )?(impl|trait|struct|enum)\b(.*?)[{
 NUMBER = re.compile(r"(?m)^ *(?:pub )?const (\w+): \w+ = (\d[\d_]*);")
 # a string, or what opens or closes a clause
 PIECE = re.compile(r'"(?:[^"\\]|\\.)*"|[{}]')
+STRING = re.compile(r'"(?:[^"\\]|\\.)*"')
+USE = re.compile(r"(?m)^ *(?:pub |ghost )?use Rattle\.([\w.]+?)\.\{([^}]*)\}")
+# a name, or an operator
+NAME = re.compile(r"[^\W\d][\w'-]*|[^\s\w(){}\[\].,;:]+")
 
 
 class Clause(NamedTuple):
@@ -157,7 +161,7 @@ def definitions_in(files):
 def definitions_of_specs(path, text):
     """The definitions of one file, each with the comment right above it and all lines up to the next item."""
     name, start, comment, body, held = None, 0, [], [], []
-    for number, line in enumerate([*text.split("\n"), "use"], 1):
+    for number, line in enumerate([*without_modules(text.split("\n")), "use"], 1):
         if line[:1].isspace() or not line or line.startswith("--"):
             held.append(line)
             continue
@@ -170,6 +174,17 @@ def definitions_of_specs(path, text):
                 yield Definition(path.split("/")[1], name, path, start, comment, trimmed([*body, *held[: len(held) - len(above)]]))
             name, start, comment, body = (defined[1], number, above, [line]) if defined else (None, 0, [], [])
         held = []
+
+
+def without_modules(lines):
+    """The lines, in which what stands in `module _ (..) where` stands in the first column, like all else."""
+    in_head = in_module = False
+    for line in lines:
+        if line and not line[0].isspace() and not line.startswith("--"):
+            in_head, in_module = line.startswith("module "), False
+        yield line.removeprefix("  ") if in_module else line
+        if in_head and line.endswith(" where"):
+            in_head, in_module = False, True
 
 
 def comment_at_end(lines):
@@ -204,3 +219,65 @@ def numbers_in(files):
         for name, number in NUMBER.findall(text) if path.endswith(".rt") else []:
             found.setdefault(name, set()).add(number.replace("_", ""))
     return {name: numbers.pop() for name, numbers in found.items() if len(numbers) == 1}
+
+
+class Names:
+    """Which definition a name means, by the `use` lines of the file that it stands in. A type that the code declares counts
+    as one, too; what the kit's libraries define doesn't."""
+
+    def __init__(self, files):
+        self.files, self.used, self.defined = files, {}, {}
+        for path, text in files.items():
+            names = self.used[path] = {}
+            for module, listed in USE.findall(text):
+                names.update((name.strip().strip("◌"), module.split(".")) for name in listed.split(","))
+        for it in definitions_in(files):
+            self.defined.setdefault(it.file, {}).setdefault(it.name.strip("◌"), it)
+
+    def find(self, file, name):
+        """The definition that this name has in this file, or None if it is no definition of this repository."""
+        while name not in self.defined.get(file, {}):
+            crate, _, *module = self.used.get(file, {}).get(name, ["", ""])
+            if module[:1] == ["declared"]:
+                return self.declared(crate, module[1:])
+            if not module:
+                return None
+            file = f"crates/{crate}/specs/{'/'.join(module)}.antt"
+        return self.defined[file][name]
+
+    def declared(self, crate, module):
+        """The type that the code declares in this module; its variants are a module of its own."""
+        path, name = module[: -1 - (module[-1] == "TheVariants")], module[-1 - (module[-1] == "TheVariants")]
+        for file in (f"crates/{crate}/src/{'/'.join(path) or 'lib'}.rt", f"crates/{crate}/src/main.rt"):
+            text = self.files.get(file, "")
+            if head := re.search(rf"(?m)^pub (?:enum|struct) {name}\b[^{{;]*(\{{|;)", text):
+                end = end_of_braces(text, head.end()) + 1 if head[1] == "{" else head.end()
+                above = text[: head.start()].rstrip("\n").split("\n")
+                at = len(above)
+                while at and re.match(r"///|#\[", above[at - 1]):
+                    at -= 1
+                comment = [line for line in above[at:] if line.startswith("///")]
+                return Definition(crate, name, file, line_of(text, head.start()), comment, text[head.start() : end].split("\n"))
+        return None
+
+    def cited(self, file, text):
+        """The definitions that this text, of this file, names, in their order."""
+        found = (self.find(file, name) for name in NAME.findall(STRING.sub("", text)))
+        return list(dict.fromkeys((it.file, it.name) for it in found if it))
+
+    def below(self, starts):
+        """These definitions, by file and name, and all that they stand on, each before what it names first."""
+        found, left = {}, list(reversed(starts))
+        while left:
+            file, name = left.pop()
+            if (file, name) not in found:
+                it = found[file, name] = self.item(file, name)
+                if file.endswith(".antt"):
+                    left += reversed(self.cited(file, " ".join(code_of(it))))
+        return list(found.values())
+
+    def item(self, file, name):
+        """The definition or the type of this name in its own file."""
+        it = self.defined.get(file, {}).get(name.strip("◌"))
+        crate, _, *path = os.path.splitext(file)[0].split("/")[1:]
+        return it or self.declared(crate, [*([] if path in (["lib"], ["main"]) else path), name])
