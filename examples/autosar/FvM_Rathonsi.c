@@ -1,0 +1,406 @@
+/* The freshness manager: see FvM_Rathonsi.h and README.md. */
+#include "FvM_Rathonsi.h"
+
+#include <string.h>
+
+#include "FvM_Cfg.h"
+#include "FvM_Memory.h"
+#include "rathonsi_freshness.h"
+
+static FvM_StateType FvM_State = FVM_STOPPED;
+/* The memory writes the plan. */
+static boolean FvM_Writing;
+static int32_t FvM_Fault = RATHONSI_OK;
+
+static uint8 FvM_Image[RATHONSI_STORE_SIZE(FVM_CELLS)];
+static RathonsiPlan FvM_Plan;
+static RathonsiRoute FvM_Route[FVM_ROUTES];
+/* What SecOC was given and verifies now; 0 if there is nothing. */
+static uint64 FvM_Candidate[FVM_ROUTES];
+/* A freshness that no bound covered when it was asked for. */
+static uint64 FvM_Wanted[FVM_ROUTES];
+/* The plan is that of a key, and isn't begun yet. */
+static boolean FvM_KeyWaits;
+
+static void stop(int32_t status)
+{
+    FvM_State = FVM_STOPPED;
+    FvM_Writing = 0u;
+    FvM_Fault = status;
+}
+
+/* ---- Bits: the most significant bit of a value is the highest bit of byte 0 ----------------------------------- */
+
+static uint64 value_of(const uint8 *bytes, uint32 bits)
+{
+    uint64 value = 0u;
+    for (uint32 i = 0u; i < bits; i++) {
+        const uint32 bit = ((uint32)bytes[i / 8u] >> (7u - (i % 8u))) & 1u;
+        value <<= 1u;
+        value |= bit;
+    }
+    return value;
+}
+
+/* Writes the low bits of a value. Bits of the last byte that aren't used are zero. */
+static void put_value(uint64 value, uint32 bits, uint8 *bytes)
+{
+    uint64 rest = value;
+    (void)memset(bytes, 0, ((size_t)bits + 7u) / 8u);
+    for (uint32 i = bits; i > 0u; i--) {
+        if ((rest % 2u) != 0u) {
+            bytes[(i - 1u) / 8u] |= (uint8)(0x80u >> ((i - 1u) % 8u));
+        }
+        rest /= 2u;
+    }
+}
+
+static boolean fits(uint64 value, uint32 bits)
+{
+    return ((bits >= 64u) || ((value >> bits) == 0u)) ? 1u : 0u;
+}
+
+/* ---- Routes ------------------------------------------------------------------------------------------------------- */
+
+/* The route of an ID in a direction, or FVM_ROUTES. */
+static uint32 route_of(uint16 freshnessId, uint8 direction)
+{
+    uint32 i = 0u;
+    while ((i < FVM_ROUTES)
+           && ((FvM_Routes[i].freshnessId != freshnessId) || (FvM_Routes[i].direction != direction))) {
+        i++;
+    }
+    return i;
+}
+
+static void fill_routes(void)
+{
+    (void)memset(FvM_Route, 0, sizeof FvM_Route);
+    for (uint32 i = 0u; i < FVM_ROUTES; i++) {
+        FvM_Route[i].data_id = FvM_Routes[i].freshnessId;
+        FvM_Route[i].cell = FvM_Routes[i].cell;
+        FvM_Route[i].reserve = FvM_Routes[i].reserve;
+        FvM_Route[i].window = FvM_Routes[i].window;
+        FvM_Route[i].direction = FvM_Routes[i].direction;
+        FvM_Route[i].freshness_only = 1u;
+        /* A slot has to be named. It isn't read. */
+        FvM_Route[i].slot = 4u;
+        FvM_Candidate[i] = 0u;
+        FvM_Wanted[i] = 0u;
+    }
+}
+
+/* The freshness that the next bound of a route has to cover, or 0 if its bound is far enough. */
+static uint64 due(uint32 i)
+{
+    RathonsiRouteState told;
+    uint64 freshness = 0u;
+    const int32_t status = rathonsi_route_state(&FvM_Route[i], FvM_Image, sizeof FvM_Image, &told);
+    if (status != RATHONSI_OK) {
+        stop(status);
+    } else if (FvM_Wanted[i] > told.bound) {
+        freshness = FvM_Wanted[i];
+    } else if (((told.bound - told.counter) < FvM_Routes[i].least) && (told.bound < UINT64_MAX)) {
+        freshness = told.bound + 1u;
+    } else {
+        FvM_Wanted[i] = 0u;
+    }
+    return freshness;
+}
+
+/* ---- The memory ----------------------------------------------------------------------------------------------------- */
+
+/* The store was read: all routes are opened. */
+static void open_routes(void)
+{
+    uint32_t which = 0u;
+    int32_t status = rathonsi_store_check(FvM_Image, sizeof FvM_Image);
+    if (status == RATHONSI_OK) {
+        status = rathonsi_routes_open(FvM_Route, FVM_ROUTES, FvM_Image, sizeof FvM_Image, &which);
+    }
+    if (status == RATHONSI_OK) {
+        FvM_State = FVM_UP;
+    } else {
+        stop(status);
+    }
+}
+
+/* Plans the bound of the next route that is due, unless the plan of a key waits. The routes take turns. Says whether there is a plan. */
+static boolean make_plan(void)
+{
+    static uint32 turn;
+    boolean planned = FvM_KeyWaits;
+    FvM_KeyWaits = 0u;
+    for (uint32 k = 0u; (k < FVM_ROUTES) && (planned == 0u) && (FvM_State == FVM_UP); k++) {
+        const uint32 i = (turn + k) % FVM_ROUTES;
+        const uint64 freshness = due(i);
+        if ((FvM_State == FVM_UP) && (freshness != 0u)) {
+            const int32_t status =
+                rathonsi_route_reserve(&FvM_Route[i], freshness, FvM_Image, sizeof FvM_Image, &FvM_Plan);
+            if (status == RATHONSI_OK) {
+                turn = i + 1u;
+                planned = 1u;
+            } else {
+                stop(status);
+            }
+        }
+    }
+    return planned;
+}
+
+/* The memory was reading, or it wrote a plan or a whole store. */
+static void take_outcome(FvM_MemoryState memory)
+{
+    if (memory == FVM_MEMORY_FAILED) {
+        stop(RATHONSI_FAILED);
+    } else if (memory == FVM_MEMORY_BUSY) {
+        /* It goes on. */
+    } else if (FvM_State == FVM_READING) {
+        open_routes();
+    } else if (FvM_State == FVM_MAKING) {
+        stop(RATHONSI_OK);
+    } else {
+        const int32_t status = rathonsi_store_done(FvM_Image, sizeof FvM_Image, &FvM_Plan);
+        FvM_Writing = 0u;
+        if (status != RATHONSI_OK) {
+            stop(status);
+        }
+    }
+}
+
+void FvM_Init(void)
+{
+    FVM_ENTER();
+    (void)memset(&FvM_Plan, 0, sizeof FvM_Plan);
+    fill_routes();
+    FvM_State = FVM_READING;
+    FvM_Writing = 0u;
+    FvM_KeyWaits = 0u;
+    FvM_Fault = RATHONSI_OK;
+    FVM_LEAVE();
+    if (FvM_Memory_Read(FvM_Image, sizeof FvM_Image) != E_OK) {
+        FVM_ENTER();
+        stop(RATHONSI_FAILED);
+        FVM_LEAVE();
+    }
+}
+
+void FvM_MainFunction(void)
+{
+    boolean begins = 0u;
+    if ((FvM_State == FVM_READING) || (FvM_State == FVM_MAKING) || (FvM_Writing != 0u)) {
+        const FvM_MemoryState memory = FvM_Memory_Poll();
+        FVM_ENTER();
+        take_outcome(memory);
+        FVM_LEAVE();
+    }
+    FVM_ENTER();
+    if ((FvM_State == FVM_UP) && (FvM_Writing == 0u)) {
+        begins = make_plan();
+        FvM_Writing = begins;
+    }
+    FVM_LEAVE();
+    if ((begins != 0u) && (FvM_Memory_Write(&FvM_Plan, FvM_Image, sizeof FvM_Image) != E_OK)) {
+        FVM_ENTER();
+        stop(RATHONSI_FAILED);
+        FVM_LEAVE();
+    }
+}
+
+FvM_StateType FvM_GetState(void)
+{
+    return FvM_State;
+}
+
+int32_t FvM_GetFault(void)
+{
+    return FvM_Fault;
+}
+
+/* ---- The callouts of SecOC ------------------------------------------------------------------------------------------ */
+
+/* What a callout answers for a status of Rathonsi. */
+static Std_ReturnType answer_of(int32_t status)
+{
+    Std_ReturnType answer = E_NOT_OK;
+    if (status == RATHONSI_OK) {
+        answer = E_OK;
+    } else if (status == RATHONSI_RESERVE) {
+        answer = E_BUSY;
+    } else {
+        /* E_NOT_OK */
+    }
+    return answer;
+}
+
+/* Takes the next freshness of a sender. */
+static Std_ReturnType next_freshness(uint32 i, uint64 *freshness)
+{
+    Std_ReturnType answer = (FvM_State == FVM_READING) ? E_BUSY : E_NOT_OK;
+    if (FvM_State == FVM_UP) {
+        const int32_t status =
+            rathonsi_freshness_next(&FvM_Route[i], FvM_Image, sizeof FvM_Image, freshness);
+        if (status == RATHONSI_RESERVE) {
+            FvM_Wanted[i] = FvM_Route[i].counter + 1u;
+        }
+        answer = answer_of(status);
+    }
+    return answer;
+}
+
+Std_ReturnType SecOC_GetTxFreshnessTruncData(uint16 SecOCFreshnessValueID, uint8 *SecOCFreshnessValue,
+                                             uint32 *SecOCFreshnessValueLength, uint8 *SecOCTruncatedFreshnessValue,
+                                             uint32 *SecOCTruncatedFreshnessValueLength)
+{
+    Std_ReturnType answer = E_NOT_OK;
+    const uint32 i = route_of(SecOCFreshnessValueID, RATHONSI_SENDS);
+    if ((i < FVM_ROUTES) && (*SecOCFreshnessValueLength >= FvM_Routes[i].bits)
+        && (*SecOCTruncatedFreshnessValueLength <= FvM_Routes[i].bits)) {
+        uint64 freshness = 0u;
+        FVM_ENTER();
+        answer = next_freshness(i, &freshness);
+        FVM_LEAVE();
+        if ((answer == E_OK) && (fits(freshness, FvM_Routes[i].bits) == 0u)) {
+            answer = E_NOT_OK;
+        }
+        if (answer == E_OK) {
+            put_value(freshness, FvM_Routes[i].bits, SecOCFreshnessValue);
+            *SecOCFreshnessValueLength = FvM_Routes[i].bits;
+            put_value(freshness, *SecOCTruncatedFreshnessValueLength, SecOCTruncatedFreshnessValue);
+        }
+    }
+    return answer;
+}
+
+Std_ReturnType SecOC_GetTxFreshness(uint16 SecOCFreshnessValueID, uint8 *SecOCFreshnessValue,
+                                    uint32 *SecOCFreshnessValueLength)
+{
+    uint8 none[8];
+    uint32 noBits = 0u;
+    return SecOC_GetTxFreshnessTruncData(SecOCFreshnessValueID, SecOCFreshnessValue, SecOCFreshnessValueLength,
+                                         none, &noBits);
+}
+
+/* The freshness is the next one with these low bits, and SecOC verifies with it. */
+static Std_ReturnType candidate(uint32 i, uint64 truncated, uint32 bits, uint64 *freshness)
+{
+    Std_ReturnType answer = (FvM_State == FVM_READING) ? E_BUSY : E_NOT_OK;
+    FvM_Candidate[i] = 0u;
+    if (FvM_State == FVM_UP) {
+        const int32_t status = rathonsi_freshness_candidate(&FvM_Route[i], FvM_Image, sizeof FvM_Image, truncated,
+                                                            (uint8)bits, freshness);
+        if (status == RATHONSI_RESERVE) {
+            FvM_Wanted[i] = *freshness;
+        }
+        answer = answer_of(status);
+        if ((answer == E_OK) && (fits(*freshness, FvM_Routes[i].bits) == 0u)) {
+            answer = E_NOT_OK;
+        }
+        if (answer == E_OK) {
+            FvM_Candidate[i] = *freshness;
+        }
+    }
+    return answer;
+}
+
+Std_ReturnType SecOC_GetRxFreshness(uint16 SecOCFreshnessValueID, const uint8 *SecOCTruncatedFreshnessValue,
+                                    uint32 SecOCTruncatedFreshnessValueLength, uint16 SecOCAuthVerifyAttempts,
+                                    uint8 *SecOCFreshnessValue, uint32 *SecOCFreshnessValueLength)
+{
+    Std_ReturnType answer = E_NOT_OK;
+    const uint32 i = route_of(SecOCFreshnessValueID, RATHONSI_RECEIVES);
+    /* Only one freshness within the window has these low bits: a second attempt would be the same. */
+    if ((i < FVM_ROUTES) && (SecOCAuthVerifyAttempts == 0u) && (SecOCTruncatedFreshnessValueLength >= 1u)
+        && (SecOCTruncatedFreshnessValueLength <= 64u) && (*SecOCFreshnessValueLength >= FvM_Routes[i].bits)) {
+        uint64 freshness = 0u;
+        const uint64 truncated = value_of(SecOCTruncatedFreshnessValue, SecOCTruncatedFreshnessValueLength);
+        FVM_ENTER();
+        answer = candidate(i, truncated, SecOCTruncatedFreshnessValueLength, &freshness);
+        FVM_LEAVE();
+        if (answer == E_OK) {
+            put_value(freshness, FvM_Routes[i].bits, SecOCFreshnessValue);
+            *SecOCFreshnessValueLength = FvM_Routes[i].bits;
+        }
+    }
+    return answer;
+}
+
+/* A freshness counts as used once it was given: whether its PDU went out changes nothing. */
+void SecOC_SPduTxConfirmation(uint16 SecOCFreshnessValueID)
+{
+    (void)SecOCFreshnessValueID;
+}
+
+void FvM_VerificationStatus(SecOC_VerificationStatusType status)
+{
+    const uint32 i = route_of(status.freshnessValueID, RATHONSI_RECEIVES);
+    if (i < FVM_ROUTES) {
+        FVM_ENTER();
+        if ((FvM_State == FVM_UP) && (FvM_Candidate[i] != 0u)
+            && (status.verificationStatus == SECOC_VERIFICATIONSUCCESS)) {
+            const int32_t accepted = rathonsi_freshness_accept(&FvM_Route[i], FvM_Image, sizeof FvM_Image,
+                                                               FvM_Candidate[i]);
+            if (accepted != RATHONSI_OK) {
+                stop(accepted);
+            }
+        }
+        FvM_Candidate[i] = 0u;
+        FVM_LEAVE();
+    }
+}
+
+/* ---- Keys, for the Crypto driver -------------------------------------------------------------------------------------- */
+
+int32_t FvM_LoadKey(const RathonsiRequest *request)
+{
+    int32_t status = RATHONSI_BUSY;
+    FVM_ENTER();
+    if ((FvM_State == FVM_UP) && (FvM_Writing == 0u)) {
+        status = rathonsi_slot_load(FvM_Uid, 0u, request, FvM_Image, sizeof FvM_Image, &FvM_Plan);
+        FvM_KeyWaits = (status == RATHONSI_OK) ? 1u : 0u;
+    }
+    FVM_LEAVE();
+    return status;
+}
+
+int32_t FvM_ConfirmKey(const uint8 m1[16], RathonsiReply *reply)
+{
+    int32_t status = RATHONSI_BUSY;
+    FVM_ENTER();
+    if ((FvM_State == FVM_UP) && (FvM_Writing == 0u) && (FvM_KeyWaits == 0u)) {
+        status = rathonsi_slot_confirm(FvM_Uid, m1, FvM_Image, sizeof FvM_Image, reply);
+    }
+    FVM_LEAVE();
+    return status;
+}
+
+int32_t FvM_MakeMac(uint8 slot, const uint8 *message, uint32 length, uint8 mac[16])
+{
+    int32_t status = RATHONSI_BUSY;
+    FVM_ENTER();
+    if (FvM_State == FVM_UP) {
+        status = rathonsi_slot_mac(slot, 0u, FvM_Image, sizeof FvM_Image, message, length, mac);
+    }
+    FVM_LEAVE();
+    return status;
+}
+
+/* ---- The production line -------------------------------------------------------------------------------------------- */
+
+Std_ReturnType FvM_MakeStore(void)
+{
+    int32_t status = rathonsi_store_make(FvM_Image, sizeof FvM_Image);
+    fill_routes();
+    for (uint32 i = 0u; (i < FVM_ROUTES) && (status == RATHONSI_OK); i++) {
+        status = rathonsi_route_make(&FvM_Route[i], 0u, FvM_Image, sizeof FvM_Image);
+    }
+    stop(status);
+    if (status == RATHONSI_OK) {
+        if (FvM_Memory_Make(FvM_Image, sizeof FvM_Image) == E_OK) {
+            FvM_State = FVM_MAKING;
+        } else {
+            stop(RATHONSI_FAILED);
+        }
+    }
+    return (FvM_State == FVM_MAKING) ? E_OK : E_NOT_OK;
+}
