@@ -240,11 +240,14 @@ module _ (payload : ℕ → List ℕ) (sized : (i : ℕ) → length (payload i) 
     finds = elim ready [
       | inl r ↦ elim (cases_lt i t) [
         | inl there ↦ elim (cases_lt (i + 1) t) [
-          | inl later ↦ (Beyond, (
+          | inl later ↦ (
+            Beyond,
+            (
               (λ h. (let e : i + 1 ≡ t = same-number x (i + 1) t (omega arith) (let l = s.most in omega arith) h r.0 in omega arith)),
               head-counted t (i + 1) x (omega (arith, narrow)) r.0,
               not_erased x i wide (s.cells (i + 1) later),
-            ))
+            ),
+          )
           | inr end ↦ (let e : t ≡ i + 1 = omega arith in (After, subst (λ l. Head l x) e r.0))
         ]
         | inr end ↦ (let e : t ≡ i = (let l = r.1 in omega arith) in (Before, (subst (λ l. Head l x) e r.0, s.erased i end below)))
@@ -345,22 +348,22 @@ module _ (payload : ℕ → List ℕ) (sized : (i : ℕ) → length (payload i) 
       let made = cut-pass n p t x h.0 e s (ready-first p t x before s) h.1.0 in
       cut-ups cuts p n made.0 h.0 y before e made.1 h.1.1
 
-module _ (cuts p n m i : ℕ) (payload : ℕ → List ℕ) (x y : List ℕ) (sized : (j : ℕ) → length (payload j) ≡ 32) (before : p ≤ m) (r : StoreWithRoom m (p + n) x) (to : ComesToCall cuts payload p n i x y) where
-  first-has : Has payload m (p + n) x m x
-  first-has = record {
-    least = omega arith;
-    most = r.least;
-    room = r.room;
-    cells = r.cells;
-    erased = r.erased;
-    kept = λ j b. refl;
-    made = λ j at b. absurd (omega arith);
-    is = inl r.head;
-  }
+first-has : (p n m : ℕ) (payload : ℕ → List ℕ) (x : List ℕ) → p ≤ m → StoreWithRoom m (p + n) x → Has payload m (p + n) x m x
+first-has p n m payload x before r = record {
+  least = omega arith;
+  most = r.least;
+  room = r.room;
+  cells = r.cells;
+  erased = r.erased;
+  kept = λ j b. refl;
+  made = λ j at b. absurd (omega arith);
+  is = inl r.head;
+}
 
+module _ (cuts p n m i : ℕ) (payload : ℕ → List ℕ) (x y : List ℕ) (sized : (j : ℕ) → length (payload j) ≡ 32) (before : p ≤ m) (r : StoreWithRoom m (p + n) x) (to : ComesToCall cuts payload p n i x y) where
   at-call : (t : ℕ) × (Has payload m (p + n) x t y × Ready payload m i t y)
   at-call =
-      let b = cut-ups payload sized m (p + n) r.most x cuts p n m x to.begun before refl first-has to.cut in
+      let b = cut-ups payload sized m (p + n) r.most x cuts p n m x to.begun before refl (first-has p n m payload x before r) to.cut in
       let least = to.least in
       let most = to.most in
       comes payload sized m (p + n) r.most x (i - p) p i b.0 to.begun y (omega arith) (omega arith) b.1 (ready-first payload sized m (p + n) r.most x p b.0 to.begun before b.1) to.calls
@@ -378,7 +381,7 @@ module _ (cuts p n m i : ℕ) (payload : ℕ → List ℕ) (x y : List ℕ) (siz
 pub all_cells : (cuts p n m : ℕ) (payload : ℕ → List ℕ) (x z : List ℕ) → ((i : ℕ) → length (payload i) ≡ 32) → p ≤ m → StoreWithRoom m (p + n) x → PowerUps cuts payload p n x z
     → HasAllCells payload m (p + n) x z
 all_cells cuts p n m payload x z sized before r h =
-    let start = first-has payload m p n x before r in
+    let start = first-has p n m payload x before r in
     let end = power-ups payload sized m (p + n) r.most x cuts p n m x z before refl start h in
     record { head = end.1; cells = end.0.cells; kept = end.0.kept; made = end.0.made }
 
@@ -403,12 +406,15 @@ module _ (cuts p n m bound : ℕ) (payload : ℕ → List ℕ) (x y : List ℕ) 
     | inl old ↦
         let b = w.there old in
         (b.0, record { room = omega (arith, room.1); bytes = b.1.bytes; is = g.kept h old ∙ b.1.is; holds = b.1.holds })
-    | inr new ↦ (bound, record {
+    | inr new ↦ (
+      bound,
+      record {
         room = omega (arith, room.1);
         bytes = payload route.cell;
         is = g.made h new;
         holds = record { id_fits = w.id_fits; bound_fits = w.bound_fits; cell_is = w.payload_is };
-      })
+      },
+    )
   ]
 
   pub call_is_ok : (status : ℤ) → GrowAnswers route bound y plan status → status ≡ OK
