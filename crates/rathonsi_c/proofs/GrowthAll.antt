@@ -1,17 +1,23 @@
 -- Over all power-ups a store gets all its cells, if the caller calls for each of them, in order, at each power-up.
-use Rattle.std.proofs.Common.{◌≡◌, ◌≢◌, ℕ, zero, suc, ◌+◌, ◌<◌, ◌≤◌, ◌⊎◌, inl, inr, Some, IsSome, Option, List, length, refl, sym, subst, ◌∙◌, arith}
+use Rattle.std.proofs.Common.{ℤ, ◌≡◌, ◌≢◌, ℕ, zero, suc, ◌+◌, ◌-◌, ◌<◌, ◌≤◌, ◌⊎◌, inl, inr, Some, IsSome, Option, List, length, refl, sym, subst, ◌∙◌, arith}
 use Rattle.std.proofs.lemmas.Bool.{cases_lt}
+use Rattle.basics.specs.Numbers.{bytes_of}
+use Rattle.basics.proofs.CallerLemmas.{length-bytes_of}
 use Rattle.cell_store.specs.declared.kinds.Version.TheVariants.{One}
 use Rattle.cell_store.specs.Layout.{SameOutside, twin_layout}
 use Rattle.cell_store.specs.Twin.{twin_size, first_at, cell_at}
-use Rattle.cell_store.proofs.CallerLemmas.{part-same, cell_at-fresh, header-number}
+use Rattle.cell_store.proofs.CallerLemmas.{part-same, cell_at-fresh, header-number, SameOutside-splice}
 use Rattle.store_plan.specs.declared.growing.Growth.{Growth}
 use Rattle.store_plan.specs.declared.growing.Growth.TheVariants.{Before, Counting, After, Beyond}
 use Rattle.store_plan.specs.declared.planning.Plan.{Plan}
 use Rattle.store_plan.specs.Plans.{CutWithin, applied}
-use Rattle.store_plan.specs.Growing.{IsGrowth, PlansFor, IsErasedAfter}
-use Rattle.store_plan.proofs.CallerLemmas.{count-cut, count-done, count-others, count-within, grew-ends, growth-cut, growth-done, growth-others, growth-within}
-use Rattle.rathonsi_c.specs.Growing.{CallsFor, Calls, CutCalls, PowerUps, StoreWithRoom, HasAllCells}
+use Rattle.store_plan.specs.Growing.{IsGrowth, PlansFor, IsErasedAfter, HasHeadButCount, with_number}
+use Rattle.store_plan.proofs.CallerLemmas.{but-count, count-cut, count-done, count-others, count-within, decide-head, grew-ends, growth-cut, growth-done, growth-others, growth-within, head-counted}
+use Rattle.rathonsi_c.specs.declared.TheConstants.{OK}
+use Rattle.rathonsi_c.specs.declared.route.RathonsiRoute.{RathonsiRoute}
+use Rattle.rathonsi_c.specs.Images.{ImageBound}
+use Rattle.rathonsi_c.specs.Growing.{CallsFor, Calls, CutCalls, PowerUps, StoreWithRoom, HasAllCells, CutPowerUps, ComesToCall, HasGrown, CallGoesOn, CallsWith, GrowAnswers, GoesSo}
+use Rattle.rathonsi_c.proofs.AnswerLaws.{damaged_keeps_none}
 use Rattle.rathonsi_c.proofs.GrowthCalls.{Head, not_erased, some-cell}
 
 -- ---- how far the store is
@@ -48,6 +54,14 @@ later-erased : (i : ℕ) (c x y : List ℕ) (j : ℕ) → Changes i c x y → i 
 later-erased i c x y j ch after erased =
     let same = part-same (first_at (j + 1)) 68 10 (first_at i + 58) x y ch.within (inr (omega arith)) in
     elim erased [ inl zeros ↦ inl (same ∙ zeros) | inr ones ↦ inr (same ∙ ones) ]
+
+-- a header that is one but for its number is that of any number
+any-count : (k n : ℕ) (x : List ℕ) → 32 ≤ length x → HasHeadButCount x k → HasHeadButCount x n
+any-count k n x room h =
+    let two = length-bytes_of 2 k in
+    let s = subst (λ b. SameOutside 10 b x (with_number k x)) two (SameOutside-splice 10 (bytes_of 2 k) x (omega (arith, two))) in
+    let back : SameOutside 10 2 (with_number k x) x = record { lengths = sym s.lengths; below = λ j l. sym (s.below j l); above = λ j l. sym (s.above j l) } in
+    but-count n (with_number k x) x (let l = s.lengths in omega arith) back (head-counted k n (with_number k x) (let l = s.lengths in omega arith) h)
 
 module _ (payload : ℕ → List ℕ) (sized : (i : ℕ) → length (payload i) ≡ 32) (m top : ℕ) (few : top ≤ 270) (first : List ℕ) where
   abbrev S : ℕ → List ℕ → Type 0
@@ -221,6 +235,55 @@ module _ (payload : ℕ → List ℕ) (sized : (i : ℕ) → length (payload i) 
       ]
     ]
 
+    -- what the call finds
+    finds : (growth : Growth) × IsGrowth x i (payload i) growth
+    finds = elim ready [
+      | inl r ↦ elim (cases_lt i t) [
+        | inl there ↦ elim (cases_lt (i + 1) t) [
+          | inl later ↦ (
+            Beyond,
+            (
+              (λ h. (let e : i + 1 ≡ t = same-number x (i + 1) t (omega arith) (let l = s.most in omega arith) h r.0 in omega arith)),
+              head-counted t (i + 1) x (omega (arith, narrow)) r.0,
+              not_erased x i wide (s.cells (i + 1) later),
+            ),
+          )
+          | inr end ↦ (let e : t ≡ i + 1 = omega arith in (After, subst (λ l. Head l x) e r.0))
+        ]
+        | inr end ↦ (let e : t ≡ i = (let l = r.1 in omega arith) in (Before, (subst (λ l. Head l x) e r.0, s.erased i end below)))
+      ]
+      | inr r ↦ elim (decide-head (i + 1) x) [
+        | inl new ↦ (After, new)
+        | inr other ↦ elim (cases_lt (i + 1) t) [
+          | inl later ↦ (Beyond, (other, any-count (r.0.1.0 + 1) (i + 1) x (omega (arith, narrow)) r.0.1.1.1.2, not_erased x i wide (s.cells (i + 1) later)))
+          | inr end ↦
+              let e : r.0.1.0 ≡ i = (let a = r.0.1.1.0 in let b = r.1 in omega arith) in
+              (Counting, subst (λ l. IsGrowth x l (payload l) Counting) e r.0.1.1.1)
+        ]
+      ]
+    ]
+
+    -- if it plans nothing, the cell is there
+    is-there : HasGrown x i (payload i) → i < t
+    is-there h = elim ready [
+      | inl r ↦ elim (cases_lt i t) [
+        | inl there ↦ there
+        | inr end ↦ elim h [
+          | inl new ↦ absurd (let e : i + 1 ≡ t = same-number x (i + 1) t (omega arith) (let l = s.most in omega arith) new r.0 in omega arith)
+          | inr beyond ↦ absurd (beyond.2 (s.erased i end below))
+        ]
+      ]
+      | inr r ↦ r.1
+    ]
+
+    goes-on : CallGoesOn payload m i first x
+    goes-on = record {
+      growth = finds.0;
+      is = finds.1;
+      kept = λ h b. s.kept i b;
+      made = λ h at. s.made i at (is-there h);
+    }
+
     call-step : (y : List ℕ) → CallsFor i (payload i) x y → (u : ℕ) × (S u y × Ready payload m (i + 1) u y)
     call-step y call = elim call [
       | inl grows ↦ elim grows [
@@ -269,18 +332,111 @@ module _ (payload : ℕ → List ℕ) (sized : (i : ℕ) → length (payload i) 
       let made = cut-pass n p t x y e s (ready-first p t x before s) h.1.0 in
       power-ups cuts p n made.0 y z before e made.1 h.1.1
 
+  -- ---- up to a call
+
+  comes : (k i j t : ℕ) (x y : List ℕ) → i + k ≡ j → j ≤ top → S t x → Ready payload m i t x → Calls payload i k x y → (u : ℕ) × (S u y × Ready payload m j u y)
+  comes zero i j t x y e upto s ready same =
+      let at : i ≡ j = omega arith in
+      subst (λ (w : List ℕ). (u : ℕ) × (S u w × Ready payload m j u w)) (sym same) (t, (s, subst (λ l. Ready payload m l t x) at ready))
+  comes (suc k) i j t x y e upto s ready calls =
+      let made = call-step t i x s ready (omega arith) calls.0 calls.1.0 in
+      comes k (i + 1) j made.0 calls.0 y (omega arith) upto made.1.0 made.1.1 calls.1.1
+
+  cut-ups : (cuts p n t : ℕ) (x y : List ℕ) → p ≤ m → p + n ≡ top → S t x → CutPowerUps cuts payload p n x y → (u : ℕ) × S u y
+  cut-ups zero p n t x y before e s same = (t, subst (λ (w : List ℕ). S t w) (sym same) s)
+  cut-ups (suc cuts) p n t x y before e s h =
+      let made = cut-pass n p t x h.0 e s (ready-first p t x before s) h.1.0 in
+      cut-ups cuts p n made.0 h.0 y before e made.1 h.1.1
+
+first-has : (p n m : ℕ) (payload : ℕ → List ℕ) (x : List ℕ) → p ≤ m → StoreWithRoom m (p + n) x → Has payload m (p + n) x m x
+first-has p n m payload x before r = record {
+  least = omega arith;
+  most = r.least;
+  room = r.room;
+  cells = r.cells;
+  erased = r.erased;
+  kept = λ j b. refl;
+  made = λ j at b. absurd (omega arith);
+  is = inl r.head;
+}
+
+module _ (cuts p n m i : ℕ) (payload : ℕ → List ℕ) (x y : List ℕ) (sized : (j : ℕ) → length (payload j) ≡ 32) (before : p ≤ m) (r : StoreWithRoom m (p + n) x) (to : ComesToCall cuts payload p n i x y) where
+  at-call : (t : ℕ) × (Has payload m (p + n) x t y × Ready payload m i t y)
+  at-call =
+      let b = cut-ups payload sized m (p + n) r.most x cuts p n m x to.begun before refl (first-has p n m payload x before r) to.cut in
+      let least = to.least in
+      let most = to.most in
+      comes payload sized m (p + n) r.most x (i - p) p i b.0 to.begun y (omega arith) (omega arith) b.1 (ready-first payload sized m (p + n) r.most x p b.0 to.begun before b.1) to.calls
+
+  pub call_goes_on : CallGoesOn payload m i x y
+  call_goes_on = goes-on payload sized m (p + n) r.most x at-call.0 i y at-call.1.0 at-call.1.1 to.most
+
+  pub call_room : (i < 270) × (twin_size (i + 2) ≤ length y)
+  call_room =
+      let long = at-call.1.0.room in
+      let most = to.most in
+      let few = r.most in
+      (omega arith, omega arith)
+
 pub all_cells : (cuts p n m : ℕ) (payload : ℕ → List ℕ) (x z : List ℕ) → ((i : ℕ) → length (payload i) ≡ 32) → p ≤ m → StoreWithRoom m (p + n) x → PowerUps cuts payload p n x z
     → HasAllCells payload m (p + n) x z
 all_cells cuts p n m payload x z sized before r h =
-    let start : Has payload m (p + n) x m x = record {
-      least = omega arith;
-      most = r.least;
-      room = r.room;
-      cells = r.cells;
-      erased = r.erased;
-      kept = λ j b. refl;
-      made = λ j at b. absurd (omega arith);
-      is = inl r.head;
-    } in
+    let start = first-has p n m payload x before r in
     let end = power-ups payload sized m (p + n) r.most x cuts p n m x z before refl start h in
     record { head = end.1; cells = end.0.cells; kept = end.0.kept; made = end.0.made }
+
+-- ---- what the call answers
+
+module _ (cuts p n m bound : ℕ) (payload : ℕ → List ℕ) (x y : List ℕ) (route : RathonsiRoute) (plan : Plan) (sized : (j : ℕ) → length (payload j) ≡ 32) (before : p ≤ m) (r : StoreWithRoom m (p + n) x)
+    (to : ComesToCall cuts payload p n route.cell x y) (w : CallsWith route bound plan payload m x) where
+  g : CallGoesOn payload m route.cell x y
+  g = call_goes_on cuts p n m route.cell payload x y sized before r to
+
+  room : (route.cell < 270) × (twin_size (route.cell + 2) ≤ length y)
+  room = call_room cuts p n m route.cell payload x y sized before r to
+
+  went : GoesSo route bound y g.growth
+  went = record { direction = w.direction; ranges = w.ranges; is = subst (λ (c : List ℕ). IsGrowth y route.cell c g.growth) w.payload_is g.is }
+
+  grown : GoesSo route bound y After ⊎ GoesSo route bound y Beyond → HasGrown y route.cell (payload route.cell)
+  grown h = elim h [ inl after ↦ inl after.is | inr beyond ↦ inr beyond.is ]
+
+  keeps : HasGrown y route.cell (payload route.cell) → (kept : ℕ) × ImageBound y route.cell route.data_id w.direction kept
+  keeps h = elim (cases_lt route.cell m) [
+    | inl old ↦
+        let b = w.there old in
+        (b.0, record { room = omega (arith, room.1); bytes = b.1.bytes; is = g.kept h old ∙ b.1.is; holds = b.1.holds })
+    | inr new ↦ (
+      bound,
+      record {
+        room = omega (arith, room.1);
+        bytes = payload route.cell;
+        is = g.made h new;
+        holds = record { id_fits = w.id_fits; bound_fits = w.bound_fits; cell_is = w.payload_is };
+      },
+    )
+  ]
+
+  pub call_is_ok : (status : ℤ) → GrowAnswers route bound y plan status → status ≡ OK
+  call_is_ok status a = elim a [
+    | inl (full, _) ↦ absurd (full w.empty)
+    | inr (_, b) ↦ elim b [
+      | inl (out, _) ↦ absurd (out w.direction w.ranges)
+      | inr (_, l) ↦ elim l [
+        | inl (short, _) ↦ absurd (short (record { most = room.0; room = room.1 }))
+        | inr (_, s) ↦ elim s [
+          | inl (none, _) ↦ absurd (none g.growth went)
+          | inr (_, has) ↦ elim has [
+            | inl (_, done) ↦ done
+            | inr (which, cell) ↦ elim cell [
+              | inl (others, _) ↦ absurd ((others w.direction w.ranges).no_bound (keeps (grown which)).0 (keeps (grown which)).1)
+              | inr (_, whole) ↦ elim whole [
+                | inl (damaged, _) ↦ absurd (damaged_keeps_none y route.cell route.data_id w.direction (keeps (grown which)).0 damaged (keeps (grown which)).1)
+                | inr (_, done) ↦ done
+              ]
+            ]
+          ]
+        ]
+      ]
+    ]
+  ]

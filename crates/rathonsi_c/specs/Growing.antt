@@ -1,5 +1,5 @@
 -- A store that gets the cell of one route more, by a software update; and the size of a store by its first 32 bytes.
-use Rattle.std.specs.Prelude.{ℤ, ◌≡◌, ℕ, zero, suc, ◌+◌, ◌<◌, ◌≤◌, ◌⊎◌, IsSome, Some, List, ◌++◌, length}
+use Rattle.std.specs.Prelude.{ℤ, ◌≡◌, ℕ, zero, suc, ◌+◌, ◌-◌, ◌^◌, ◌<◌, ◌≤◌, ◌⊎◌, IsSome, Some, List, ◌++◌, length}
 use Rattle.cell_store.specs.declared.kinds.Version.TheVariants.{One}
 use Rattle.cell_store.specs.Layout.{twin_layout, header}
 use Rattle.cell_store.specs.Twin.{twin_size, cell_at}
@@ -136,6 +136,44 @@ CutCalls payload i (suc n) x y =
 abbrev pub PowerUps : ℕ → (ℕ → List ℕ) → ℕ → ℕ → List ℕ → List ℕ → Type 0
 PowerUps zero payload i n x z = Calls payload i n x z
 PowerUps (suc cuts) payload i n x z = (y : List ℕ) × (CutCalls payload i n x y × PowerUps cuts payload i n y z)
+
+-- so many power-ups are cut so, one after the other, and leave y
+abbrev pub CutPowerUps : ℕ → (ℕ → List ℕ) → ℕ → ℕ → List ℕ → List ℕ → Type 0
+CutPowerUps zero payload i n x y = y ≡ x
+CutPowerUps (suc cuts) payload i n x y = (w : List ℕ) × (CutCalls payload i n x w × CutPowerUps cuts payload i n w y)
+
+-- The caller comes to the call for cell i, of n cells from cell p on, and the device holds y. So many power-ups were cut,
+-- and this one made the calls for the cells before cell i.
+pub record ComesToCall (cuts : ℕ) (payload : ℕ → List ℕ) (p n i : ℕ) (x y : List ℕ) : Type 0 where
+  pub least : p ≤ i
+  pub most : i < p + n
+  pub begun : List ℕ
+  pub cut : CutPowerUps cuts payload p n x begun
+  pub calls : Calls payload p (i - p) begun y
+
+-- the store has cell i: the call for it plans nothing
+abbrev pub HasGrown : List ℕ → ℕ → List ℕ → Type 0
+HasGrown y i c = IsGrowth y i c After ⊎ IsGrowth y i c Beyond
+
+-- The call for cell i goes on: it finds how far the store went. If the store has the cell, the cell is as x has it, if it
+-- is one of the first m, and else it has its payload.
+pub record CallGoesOn (payload : ℕ → List ℕ) (m i : ℕ) (x y : List ℕ) : Type 0 where
+  pub growth : Growth
+  pub is : IsGrowth y i (payload i) growth
+  pub kept : HasGrown y i (payload i) → i < m → cell_at y i ≡ cell_at x i
+  pub made : HasGrown y i (payload i) → m ≤ i → cell_at y i ≡ Some (payload i)
+
+-- The caller calls for the cell of this route with this bound and an empty plan. The payload of the cell is that bound.
+-- If the cell is one of the first m, x has a bound of the route there, however far it counted.
+pub record CallsWith (route : RathonsiRoute) (bound : ℕ) (plan : Plan) (payload : ℕ → List ℕ) (m : ℕ) (x : List ℕ)
+    : Type 0 where
+  pub direction : Direction
+  pub ranges : InRanges route direction
+  pub id_fits : route.data_id < 2 ^ 16
+  pub bound_fits : bound < 2 ^ 64
+  pub payload_is : payload route.cell ≡ bound_cell route.data_id direction bound
+  pub there : route.cell < m → (kept : ℕ) × ImageBound x route.cell route.data_id direction kept
+  pub empty : IsEmptyPlan plan
 
 -- x begins with a store of m cells, each with a copy that counts. Behind the place of each cell up to cell n - 1 the bytes
 -- are erased, and there is room for a cell more.

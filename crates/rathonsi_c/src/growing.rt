@@ -16,8 +16,8 @@ use store_plan::{Growth, Plan, count_in, growth_of, is_empty, plan_count, plan_g
 /// cell after it. The plan stays empty if the store has the cell already, or what is after it isn't erased. After a cut
 /// within the plan the same call goes on. `BUSY`. `BAD_VALUE`: a number of the route is outside its range. `BAD_LENGTH`:
 /// the image is too short, or no store has such a cell. `NO_STORE`: the image is no store, or its number of cells is
-/// wrong and this cell isn't as the call wrote it. `WRONG_CELL`, `DAMAGED`: nothing is to be planned, and
-/// `rathonsi_route_open` has these. The first that applies.
+/// wrong, the bytes after this cell are erased, and the cell isn't as the call wrote it. `WRONG_CELL`, `DAMAGED`: nothing
+/// is to be planned, and `rathonsi_route_open` has these. The first that applies.
 #[unsafe(no_mangle)]
 pub extern "C" fn rathonsi_store_grow(
     route: &RathonsiRoute,
