@@ -54,21 +54,23 @@ pub fn bound_held(cell: &[u8; 32]) -> Option<BoundHeld>
     ensures some { IfSome result (λ held. HoldsBound cell.now held.id held.direction held.bound) }
     ensures none { IfNone result (¬ IsBoundCell cell.now) }
 {
-    let [_, number, high, low, ..] = *cell;
+    let [_, _, high, low, ..] = *cell;
     let id = u16::from_be_bytes([high, low]);
-    let direction = if number == 1 {
-        Direction::Sends
-    } else {
-        Direction::Receives
-    };
-    match bound_in(cell, id, direction) {
-        Some(bound) => Some(BoundHeld {
+    if let Some(bound) = bound_in(cell, id, Direction::Sends) {
+        return Some(BoundHeld {
             id,
-            direction,
+            direction: Direction::Sends,
             bound,
-        }),
-        None => None,
+        });
     }
+    let Some(bound) = bound_in(cell, id, Direction::Receives) else {
+        return None;
+    };
+    Some(BoundHeld {
+        id,
+        direction: Direction::Receives,
+        bound,
+    })
 }
 
 // The bound of this Data ID and direction that the image keeps in this cell.
