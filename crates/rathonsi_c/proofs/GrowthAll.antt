@@ -383,11 +383,11 @@ module _ (cuts p n m i : ℕ) (payload : ℕ → List ℕ) (x y : List ℕ) (siz
       let upto : i ≤ at-call.0 = elim at-call.1.1 [ inl r ↦ r.1 | inr r ↦ omega (arith, r.1) ] in
       elim (cases_lt j m) [
         | inl old ↦ none old bound (record {
-            room = (let long = r.room in let least = r.least in omega arith);
-            bytes = h.bytes;
-            is = sym (s.kept j old) ∙ h.is;
-            holds = h.holds;
-          })
+          room = (let long = r.room in let least = r.least in omega arith);
+          bytes = h.bytes;
+          is = sym (s.kept j old) ∙ h.is;
+          holds = h.holds;
+        })
         | inr new ↦ none_made new bound (subst (λ (c : List ℕ). HoldsBound c id d bound) (same_Some _ _ (sym h.is ∙ s.made j new (omega arith))) h.holds)
       ]
 

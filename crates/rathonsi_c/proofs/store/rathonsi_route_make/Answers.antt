@@ -41,10 +41,10 @@ returns-clause-answer c =
     let d = c.in-Some-direction_of.direction in
     let ranges = c.in-Some-direction_of.ensures.some in
     let alone : (n : ℕ) × (IsSize n (length image) × RouteIdIsHeld r image n) → ⊥ = λ h.
-        let same = one_size h.0 c.in-Some.cells _ h.1.0 c.in-Some.ensures in
-        let one = one_direction r h.1.1.0 d h.1.1.1.0 ranges in
-        let held = subst (λ n. IdIsHeld image n r.cell r.data_id d) same (subst (λ (e : Direction). IdIsHeld image h.0 r.cell r.data_id e) one h.1.1.1.1) in
-        true≢false (sym (c.id_is_held.ensures.1 held) ∙ c.if-id_is_held.false) in
+    let same = one_size h.0 c.in-Some.cells _ h.1.0 c.in-Some.ensures in
+    let one = one_direction r h.1.1.0 d h.1.1.1.0 ranges in
+    let held = subst (λ n. IdIsHeld image n r.cell r.data_id d) same (subst (λ (e : Direction). IdIsHeld image h.0 r.cell r.data_id e) one h.1.1.1.1) in
+    true≢false (sym (c.id_is_held.ensures.1 held) ∙ c.if-id_is_held.false) in
     inr (
       (λ none. none c.in-Some.cells c.in-Some.ensures),
       inr (in_image r d image c.in-Some.cells ranges c.in-Some.ensures (let t = c.if-route-cells.false in omega arith), inr (alone, refl)),
