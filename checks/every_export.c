@@ -9,7 +9,7 @@
 
 #include "rathonsi_flash.h"
 
-enum { ROUTES = 3, SIZE = RATHONSI_STORE_SIZE(ROUTES), MORE = 68, SLOTS = 14, STATUSES = 19 };
+enum { ROUTES = 3, SIZE = RATHONSI_STORE_SIZE(ROUTES), MORE = 68, SLOTS = 14, STATUSES = 20 };
 enum { CELLS = RATHONSI_FLASH_CELLS(ROUTES), LINES = CELLS + 6, BANKS = 3 };
 
 static uint8_t image[SIZE + 2 * MORE], key[16], uid[15], text[320], pdu[80], payload[80], mac[16], iv[16], keys[SLOTS][16];
@@ -308,6 +308,10 @@ static void grow(void) {
     add_number(told);
     it.cell = (uint16_t)(RATHONSI_SLOT_CELLS + ROUTES - (one_in(6) ? 1u : 0u));
     it.data_id++;
+    if (one_in(8)) {
+        it.data_id = routes[0].data_id;
+        it.direction = routes[0].direction;
+    }
     const uint64_t bound = freshness(); /* the arguments of a call are evaluated in any order */
     status(rathonsi_store_grow(&it, bound, image, one_in(8) ? SIZE : SIZE + 2 * MORE, &plan));
     add_plan();

@@ -43,7 +43,8 @@
  *   - A store has one image, one plan and one task at a time. Several stores share nothing: each
  *     has its own.
  *   - A Data ID in one direction has one cell and one route. No other route uses the cell.
- *     rathonsi_routes_open sees to it, if one call gets all routes of the store.
+ *     rathonsi_routes_open sees to it, if one call gets all routes of the store. A second cell is
+ *     refused: see RATHONSI_DUPLICATE_ID.
  *   - An open route is not filled in with another Data ID, direction or cell.
  *   - A route has the same Data ID, direction and cell in every life. Slot, window, reserve and
  *     booted may change. The caller zeroes opened at power-up, and never sets it.
@@ -193,6 +194,9 @@ extern "C" {
 #define RATHONSI_WRONG_CELL 17
 /* An operation on the flash failed. Only rathonsi_flash_next answers it. */
 #define RATHONSI_FAILED 18
+/* A fault of the configuration: another cell has this Data ID and direction already. In a second
+ * cell its freshness would begin again. */
+#define RATHONSI_DUPLICATE_ID 19
 
 /* All statuses of all headers, for a table of names: RATHONSI_STATUSES(X) is X(name, number) for
  * each of them. Of X(name, number) as `case number: return #name;` comes a function that names
@@ -201,7 +205,8 @@ extern "C" {
     X(OK, 0) X(BAD_LENGTH, 1) X(BAD_VALUE, 2) X(FRESHNESS_FAILURE, 3) X(VERIFICATION_FAILURE, 4) \
     X(BAD_ID, 5) X(BAD_MAC, 6) X(NO_STORE, 7) X(DAMAGED, 8) X(BUSY, 9) X(RESERVE, 10) \
     X(EXHAUSTED, 11) X(KEY_EMPTY, 12) X(KEY_INVALID, 13) X(KEY_NOT_AVAILABLE, 14) \
-    X(KEY_WRITE_PROTECTED, 15) X(KEY_UPDATE_ERROR, 16) X(WRONG_CELL, 17) X(FAILED, 18)
+    X(KEY_WRITE_PROTECTED, 15) X(KEY_UPDATE_ERROR, 16) X(WRONG_CELL, 17) X(FAILED, 18) \
+    X(DUPLICATE_ID, 19)
 
 /* A store is a twin store of version 1. It has a header, fourteen cells of key slots, and after
  * them a cell for each route, up to 256. */
@@ -291,7 +296,8 @@ int32_t rathonsi_store_make(uint8_t *image, size_t image_length);
  *      later software may add, and 68 more (see rathonsi_store_grow);
  *   3. the first 32 bytes of the image.
  * RATHONSI_BAD_LENGTH: as for rathonsi_store_make.
- * RATHONSI_BAD_VALUE: a number of the route is outside its range, or the image has no such cell. */
+ * RATHONSI_BAD_VALUE: a number of the route is outside its range, or the image has no such cell.
+ * RATHONSI_DUPLICATE_ID. */
 RATHONSI_CHECKED
 int32_t rathonsi_route_make(const RathonsiRoute *route, uint64_t bound, uint8_t *image, size_t image_length);
 
@@ -303,11 +309,14 @@ RATHONSI_CHECKED
 int32_t rathonsi_store_check(const uint8_t *image, size_t image_length);
 
 /* Looks at each cell, and names the first that isn't as it should be. The first fourteen cells are
- * slots. Each later one is a bound, or zero bytes: rathonsi_route_make never made that one.
- * cell is written with RATHONSI_DAMAGED and RATHONSI_WRONG_CELL, and with no other status.
+ * slots. Each later one is a bound, or zero bytes: rathonsi_route_make never made that one. It
+ * compares each route with those before it: with 256 routes it reads some 33,000 cells.
+ * cell is written with RATHONSI_DAMAGED, RATHONSI_WRONG_CELL and RATHONSI_DUPLICATE_ID, and with no
+ * other status.
  * RATHONSI_BAD_LENGTH, RATHONSI_NO_STORE: as for rathonsi_store_check.
  * RATHONSI_DAMAGED: no copy of the cell counts. The device is at fault.
- * RATHONSI_WRONG_CELL: the cell holds something else than its place is for. */
+ * RATHONSI_WRONG_CELL: the cell holds something else than its place is for.
+ * RATHONSI_DUPLICATE_ID: a cell before it has its Data ID and direction. */
 RATHONSI_CHECKED
 int32_t rathonsi_store_look(const uint8_t *image, size_t image_length, uint16_t *cell);
 
@@ -334,7 +343,8 @@ int32_t rathonsi_store_size(const uint8_t head[32], uint32_t *size);
  * The caller makes the calls whatever rathonsi_store_size says. A cut within the last write may
  * leave any number of cells: a smaller one, a larger one, or one that no store has. Only the call
  * for the new cell puts the number right. A caller that skips it because of the size may be stuck:
- * RATHONSI_NO_STORE or RATHONSI_DAMAGED comes at each power-up.
+ * RATHONSI_NO_STORE or RATHONSI_DAMAGED comes at each power-up. Whatever the number, each call of a
+ * caller that makes all of them answers RATHONSI_OK. This is proved.
  * After a power cut the same call goes on, with the same route and bound, on the bytes that the
  * device holds. It plans the number alone if the cut left neither the old nor the new one. It finds
  * both copies of the cell as it wrote them.
@@ -360,6 +370,7 @@ int32_t rathonsi_store_size(const uint8_t head[32], uint32_t *size);
  * RATHONSI_NO_STORE: the image is no store of this layout, whatever its number of cells. Or all of
  * this holds: the number is neither that before this cell nor that with it; the 68 bytes after this
  * cell are erased; and this cell isn't as the call wrote it.
+ * RATHONSI_DUPLICATE_ID: a cell before it has the Data ID and direction.
  * RATHONSI_WRONG_CELL, RATHONSI_DAMAGED: nothing is planned, as the store has this cell, or the 68
  * bytes after it aren't erased. rathonsi_route_open would answer this. */
 RATHONSI_CHECKED

@@ -161,6 +161,12 @@ static void short_pdu(struct unit *unit) { unit->pdu_length = unit->payload_leng
 static void four_bytes(struct unit *unit) { unit->pdu_length = 4; }
 static void low_cell(struct unit *unit) { unit->route.cell = 13; }
 static void far_cell(struct unit *unit) { unit->route.cell = RATHONSI_SLOT_CELLS + ROUTES; }
+static void next_cell(struct unit *unit) { unit->route.cell++; }
+static void cell_before(struct unit *unit) { unit->route.cell--; }
+static void next_cell_other_direction(struct unit *unit) {
+    unit->route.cell++;
+    unit->route.direction ^= 3;
+}
 static void no_reserve(struct unit *unit) { unit->route.reserve = 0; }
 static void long_reserve(struct unit *unit) { unit->route.reserve = 129; }
 static void no_window(struct unit *unit) { unit->route.window = 0; }
@@ -340,6 +346,9 @@ static const struct {
     {ROUTE_MAKE, 0, odd_image, RATHONSI_BAD_LENGTH, "a byte less"},
     {ROUTE_MAKE, 0, far_cell, RATHONSI_BAD_VALUE, "a cell behind the last"},
     {ROUTE_MAKE, 0, low_slot, RATHONSI_BAD_VALUE, "slot 3"},
+    {ROUTE_MAKE, 0, next_cell, RATHONSI_DUPLICATE_ID, "a Data ID that another cell has"},
+    {ROUTE_MAKE, 1, cell_before, RATHONSI_DUPLICATE_ID, "a Data ID that a later cell has"},
+    {ROUTE_MAKE, 0, next_cell_other_direction, RATHONSI_OK, "its other direction"},
     {ROUTE_STATE, 0, not_open, RATHONSI_OK, "a route that isn't open"},
     {ROUTE_STATE, 0, low_slot, RATHONSI_BAD_VALUE, "slot 3"},
     {ROUTE_STATE, 0, other_id, RATHONSI_WRONG_CELL, "another Data ID"},

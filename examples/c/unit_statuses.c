@@ -144,6 +144,14 @@ static void look(void) {
     looks(SIZE, RATHONSI_OK, 77, "look: a cell that was never made");
     image[32 + 68 * 15 + 3] = 1;
     looks(SIZE, RATHONSI_WRONG_CELL, 15, "look: no bound");
+    begin();
+    memcpy(image + 32 + 68 * 15, image + 32 + 68 * 14, 68);
+    looks(SIZE, RATHONSI_DUPLICATE_ID, 15, "look: a Data ID that a cell before it has");
+    image[32 + 68 * 15 + 3] ^= 3;
+    looks(SIZE, RATHONSI_OK, 77, "look: its other direction");
+    memset(image + 32 + 68 * 14 + 2, 0, 32);
+    memset(image + 32 + 68 * 15 + 2, 0, 32);
+    looks(SIZE, RATHONSI_OK, 77, "look: two cells that were never made");
 }
 
 /* ---- Growing ---- */
@@ -170,6 +178,11 @@ static void grow(void) {
     grows(&route, GROWN + 67, RATHONSI_BAD_LENGTH, "grow: no room");
     route.cell = 270;
     grows(&route, ROOM, RATHONSI_BAD_LENGTH, "grow: too many cells");
+    for (unsigned i = 0; i < ROUTES; i++) {
+        route = route_of(i);
+        route.cell = RATHONSI_SLOT_CELLS + ROUTES;
+        grows(&route, ROOM, RATHONSI_DUPLICATE_ID, "grow: a Data ID that a cell has");
+    }
     route = route_of(ROUTES);
     grows(&route, ROOM, RATHONSI_OK, "grow: a cell");
     expect(plan.writes[0].length + plan.writes[1].length + plan.writes[2].length, 34 + 34 + 2, "grow: three writes");
@@ -179,6 +192,9 @@ static void grow(void) {
     expect(rathonsi_store_check(image, GROWN), RATHONSI_OK, "grow: the store is whole");
     expect(rathonsi_route_open(&route, image, GROWN), RATHONSI_OK, "grow: the route opens");
     expect((long)route.counter, 6, "grow: at its bound");
+    RathonsiRoute twice = route_of(0);
+    twice.cell = route.cell;
+    grows(&twice, ROOM, RATHONSI_DUPLICATE_ID, "grow: a Data ID that a cell has, and the cell is another's");
     route.data_id++;
     grows(&route, ROOM, RATHONSI_WRONG_CELL, "grow: the cell is another's");
     gates_closed(route.cell);

@@ -1,12 +1,15 @@
 -- Over all power-ups a store gets all its cells, if the caller calls for each of them, in order, at each power-up.
 use Rattle.std.proofs.Common.{ℤ, ◌≡◌, ◌≢◌, ℕ, zero, suc, ◌+◌, ◌-◌, ◌<◌, ◌≤◌, ◌⊎◌, inl, inr, Some, IsSome, Option, List, length, refl, sym, subst, ◌∙◌, arith}
 use Rattle.std.proofs.lemmas.Bool.{cases_lt}
+use Rattle.std.proofs.lemmas.Option.{same_Some}
 use Rattle.basics.specs.Numbers.{bytes_of}
 use Rattle.basics.proofs.CallerLemmas.{length-bytes_of}
 use Rattle.cell_store.specs.declared.kinds.Version.TheVariants.{One}
 use Rattle.cell_store.specs.Layout.{SameOutside, twin_layout}
 use Rattle.cell_store.specs.Twin.{twin_size, first_at, cell_at}
 use Rattle.cell_store.proofs.CallerLemmas.{part-same, cell_at-fresh, header-number, SameOutside-splice}
+use Rattle.freshness_routes.specs.declared.routes.Direction.{Direction}
+use Rattle.freshness_store.specs.Bound.{HoldsBound, HoldsNoBound}
 use Rattle.store_plan.specs.declared.growing.Growth.{Growth}
 use Rattle.store_plan.specs.declared.growing.Growth.TheVariants.{Before, Counting, After, Beyond}
 use Rattle.store_plan.specs.declared.planning.Plan.{Plan}
@@ -15,9 +18,11 @@ use Rattle.store_plan.specs.Growing.{IsGrowth, PlansFor, IsErasedAfter, HasHeadB
 use Rattle.store_plan.proofs.CallerLemmas.{but-count, count-cut, count-done, count-others, count-within, decide-head, grew-ends, growth-cut, growth-done, growth-others, growth-within, head-counted}
 use Rattle.rathonsi_c.specs.declared.TheConstants.{OK}
 use Rattle.rathonsi_c.specs.declared.route.RathonsiRoute.{RathonsiRoute}
-use Rattle.rathonsi_c.specs.Images.{ImageBound}
+use Rattle.rathonsi_c.specs.Images.{ImageBound, NoBound}
+use Rattle.rathonsi_c.specs.Stores.{RouteIdIsHeld}
 use Rattle.rathonsi_c.specs.Growing.{CallsFor, Calls, CutCalls, PowerUps, StoreWithRoom, HasAllCells, CutPowerUps, ComesToCall, HasGrown, CallGoesOn, CallsWith, GrowAnswers, GoesSo}
 use Rattle.rathonsi_c.proofs.AnswerLaws.{damaged_keeps_none}
+use Rattle.rathonsi_c.proofs.ImageLaws.{one_direction}
 use Rattle.rathonsi_c.proofs.GrowthCalls.{Head, not_erased, some-cell}
 
 -- ---- how far the store is
@@ -371,6 +376,21 @@ module _ (cuts p n m i : ℕ) (payload : ℕ → List ℕ) (x y : List ℕ) (siz
   pub call_goes_on : CallGoesOn payload m i x y
   call_goes_on = goes-on payload sized m (p + n) r.most x at-call.0 i y at-call.1.0 at-call.1.1 to.most
 
+  -- a bound in a cell before it is one that x has, or a payload
+  pub call_before : (j id : ℕ) (d : Direction) (bound : ℕ) → j < i → ImageBound y j id d bound → (j < m → NoBound x j id d) → (m ≤ j → HoldsNoBound (payload j) id d) → ⊥
+  call_before j id d bound earlier h none none_made =
+      let s = at-call.1.0 in
+      let upto : i ≤ at-call.0 = elim at-call.1.1 [ inl r ↦ r.1 | inr r ↦ omega (arith, r.1) ] in
+      elim (cases_lt j m) [
+        | inl old ↦ none old bound (record {
+          room = (let long = r.room in let least = r.least in omega arith);
+          bytes = h.bytes;
+          is = sym (s.kept j old) ∙ h.is;
+          holds = h.holds;
+        })
+        | inr new ↦ none_made new bound (subst (λ (c : List ℕ). HoldsBound c id d bound) (same_Some _ _ (sym h.is ∙ s.made j new (omega arith))) h.holds)
+      ]
+
   pub call_room : (i < 270) × (twin_size (i + 2) ≤ length y)
   call_room =
       let long = at-call.1.0.room in
@@ -417,6 +437,13 @@ module _ (cuts p n m bound : ℕ) (payload : ℕ → List ℕ) (x y : List ℕ) 
     )
   ]
 
+  alone : RouteIdIsHeld route y route.cell → ⊥
+  alone h =
+      let k = h.1.1 in
+      call_before cuts p n m route.cell payload x y sized before r to k.place route.data_id h.0 k.bound k.below k.kept
+      (λ old. subst (λ (d : Direction). NoBound x k.place route.data_id d) (one_direction route w.direction h.0 w.ranges h.1.0) (w.apart k.place k.below old))
+      (λ new. subst (λ (d : Direction). HoldsNoBound (payload k.place) route.data_id d) (one_direction route w.direction h.0 w.ranges h.1.0) (w.apart_made k.place k.below new))
+
   pub call_is_ok : (status : ℤ) → GrowAnswers route bound y plan status → status ≡ OK
   call_is_ok status a = elim a [
     | inl (full, _) ↦ absurd (full w.empty)
@@ -426,13 +453,16 @@ module _ (cuts p n m bound : ℕ) (payload : ℕ → List ℕ) (x y : List ℕ) 
         | inl (short, _) ↦ absurd (short (record { most = room.0; room = room.1 }))
         | inr (_, s) ↦ elim s [
           | inl (none, _) ↦ absurd (none g.growth went)
-          | inr (_, has) ↦ elim has [
-            | inl (_, done) ↦ done
-            | inr (which, cell) ↦ elim cell [
-              | inl (others, _) ↦ absurd ((others w.direction w.ranges).no_bound (keeps (grown which)).0 (keeps (grown which)).1)
-              | inr (_, whole) ↦ elim whole [
-                | inl (damaged, _) ↦ absurd (damaged_keeps_none y route.cell route.data_id w.direction (keeps (grown which)).0 damaged (keeps (grown which)).1)
-                | inr (_, done) ↦ done
+          | inr (_, o) ↦ elim o [
+            | inl (twice, _) ↦ absurd (alone twice)
+            | inr (_, has) ↦ elim has [
+              | inl (_, done) ↦ done
+              | inr (which, cell) ↦ elim cell [
+                | inl (others, _) ↦ absurd ((others w.direction w.ranges).no_bound (keeps (grown which)).0 (keeps (grown which)).1)
+                | inr (_, whole) ↦ elim whole [
+                  | inl (damaged, _) ↦ absurd (damaged_keeps_none y route.cell route.data_id w.direction (keeps (grown which)).0 damaged (keeps (grown which)).1)
+                  | inr (_, done) ↦ done
+                ]
               ]
             ]
           ]

@@ -1,7 +1,7 @@
 -- What the look at a cell finds.
-use Rattle.std.proofs.Common.{◌≡◌, ℕ, ◌∷◌, [], List, true, false, Option, Some, None, get_or, refl, sym, ap, subst, ◌∙◌, arith}
+use Rattle.std.proofs.Common.{◌≡◌, ℕ, ◌∷◌, [], List, true, Option, Some, None, get_or, refl, sym, ap, subst, ◌∙◌, arith}
 use Rattle.std.specs.Option.{MatchOption, is_some}
-use Rattle.std.proofs.lemmas.Bool.{some_since, true≢false, false≢true}
+use Rattle.std.proofs.lemmas.Bool.{false≢true}
 use Rattle.basics.specs.Numbers.{number_of, bytes_of}
 use Rattle.basics.proofs.CallerLemmas.{number_of-bytes_of-lt}
 use Rattle.key_slots.specs.declared.memory.Slot.{Slot}
@@ -9,7 +9,7 @@ use Rattle.slot_disk.specs.Cell.{HoldsSlot}
 use Rattle.freshness_routes.specs.declared.routes.Direction.{Direction}
 use Rattle.freshness_routes.specs.declared.routes.Direction.TheVariants.{Sends, Receives}
 use Rattle.freshness_store.specs.Bound.{bound_cell, HoldsBound, HoldsNoBound}
-use Rattle.rathonsi_c.specs.Looking.{IsBoundCell}
+use Rattle.rathonsi_c.specs.Images.{IsBoundCell}
 
 id_bytes : (cell : List ℕ) (id : ℕ) (direction : Direction) (bound : ℕ) → cell ≡ bound_cell id direction bound → get_or cell 2 0 ∷ get_or cell 3 0 ∷ [] ≡ bytes_of 2 id
 unfolding bound_cell bytes_of
@@ -20,19 +20,10 @@ pub bound_id : (cell : List ℕ) (id : ℕ) (direction : Direction) (bound : ℕ
 bound_id cell id direction bound h =
     ap number_of (id_bytes cell id direction bound h.cell_is) ∙ number_of-bytes_of-lt 2 id (omega (arith, h.id_fits))
 
--- a bound that was found in a cell
-pub found_bound : (found : Option ℕ) (cell : List ℕ) (id : ℕ) (direction : Direction) → MatchOption found (HoldsNoBound cell id direction) (HoldsBound cell id direction) → is_some found ≡ true → IsBoundCell cell
-found_bound (Some bound) cell id direction held e = (id, (direction, (bound, held)))
-found_bound None cell id direction held e = absurd (false≢true e)
-
--- a cell that holds a bound, but none that is sent with, holds one that is received with
-pub other_bound : (cell : List ℕ) (id other bound : ℕ) (direction : Direction) (sends receives : Option ℕ) → id ≡ other → HoldsBound cell other direction bound
-    → MatchOption sends (HoldsNoBound cell id Sends) (HoldsBound cell id Sends) → is_some sends ≡ false
-    → MatchOption receives (HoldsNoBound cell id Receives) (HoldsBound cell id Receives) → is_some receives ≡ true
-other_bound cell id other bound Sends sends receives e h m none_sent n =
-    absurd (true≢false (sym (some_since sends _ _ m (λ none. none bound (subst (λ i. HoldsBound cell i Sends bound) (sym e) h))) ∙ none_sent))
-other_bound cell id other bound Receives sends receives e h m none_sent n =
-    some_since receives _ _ n (λ none. none bound (subst (λ i. HoldsBound cell i Receives bound) (sym e) h))
+-- a cell that holds no bound in either direction, of the Data ID that its bytes have, is none of a bound
+pub no_bound : (cell : List ℕ) (id : ℕ) → id ≡ number_of (get_or cell 2 0 ∷ get_or cell 3 0 ∷ []) → HoldsNoBound cell id Sends → HoldsNoBound cell id Receives → IsBoundCell cell → ⊥
+no_bound cell id is none_sent none_received (other, (Sends, (bound, h))) = none_sent bound (subst (λ i. HoldsBound cell i Sends bound) (sym (is ∙ bound_id cell other Sends bound h)) h)
+no_bound cell id is none_sent none_received (other, (Receives, (bound, h))) = none_received bound (subst (λ i. HoldsBound cell i Receives bound) (sym (is ∙ bound_id cell other Receives bound h)) h)
 
 -- a slot that was found in a cell
 pub found_slot : (found : Option Slot) (cell : List ℕ) → MatchOption found ((slot : Slot) → ¬ HoldsSlot cell slot) (HoldsSlot cell) → is_some found ≡ true → (slot : Slot) × HoldsSlot cell slot

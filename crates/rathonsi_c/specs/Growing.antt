@@ -5,19 +5,19 @@ use Rattle.cell_store.specs.Layout.{twin_layout, header}
 use Rattle.cell_store.specs.Twin.{twin_size, cell_at}
 use Rattle.cell_store.specs.Store.{HasHeader}
 use Rattle.freshness_routes.specs.declared.routes.Direction.{Direction}
-use Rattle.freshness_store.specs.Bound.{bound_cell}
+use Rattle.freshness_store.specs.Bound.{bound_cell, HoldsNoBound}
 use Rattle.store_plan.specs.declared.growing.Growth.{Growth}
 use Rattle.store_plan.specs.declared.growing.Growth.TheVariants.{Before, Counting, After, Beyond}
 use Rattle.store_plan.specs.declared.planning.Plan.{Plan}
 use Rattle.store_plan.specs.Plans.{IsEmptyPlan}
 use Rattle.store_plan.specs.Leaving.{LeavesPut}
 use Rattle.store_plan.specs.Growing.{IsGrowth, IsErasedAfter, PlansFor, GrowsTo, CutGrowth, Grew}
-use Rattle.rathonsi_c.specs.declared.TheConstants.{BAD_LENGTH, BAD_VALUE, NO_STORE, BUSY}
+use Rattle.rathonsi_c.specs.declared.TheConstants.{BAD_LENGTH, BAD_VALUE, NO_STORE, BUSY, DUPLICATE_ID}
 use Rattle.rathonsi_c.specs.declared.route.RathonsiRoute.{RathonsiRoute}
 use Rattle.rathonsi_c.specs.Causes.{IfCause, IsDone}
-use Rattle.rathonsi_c.specs.Images.{ImageBound}
+use Rattle.rathonsi_c.specs.Images.{ImageBound, NoBound}
 use Rattle.rathonsi_c.specs.Routes.{InRanges, OutOfRanges, CellAnswers, Opens}
-use Rattle.rathonsi_c.specs.Stores.{IsSize}
+use Rattle.rathonsi_c.specs.Stores.{IsSize, RouteIdIsHeld}
 use Rattle.rathonsi_c.specs.Lives.{Memory, OpensFilled, Apart}
 
 -- a store has this cell, and the image has room for it and for a cell after it
@@ -40,7 +40,8 @@ HasCellAnswers r bound image status =
 -- what it answers by how far the image went
 abbrev pub StateAnswers : RathonsiRoute → ℕ → List ℕ → ℤ → Type 0
 StateAnswers r bound image status =
-    IfCause ((growth : Growth) → ¬ GoesSo r bound image growth) NO_STORE (HasCellAnswers r bound image) status
+    IfCause ((growth : Growth) → ¬ GoesSo r bound image growth) NO_STORE
+    (IfCause (RouteIdIsHeld r image r.cell) DUPLICATE_ID (HasCellAnswers r bound image)) status
 
 -- what `rathonsi_store_grow` answers
 abbrev pub GrowAnswers : RathonsiRoute → ℕ → List ℕ → Plan → ℤ → Type 0
@@ -164,7 +165,8 @@ pub record CallGoesOn (payload : ℕ → List ℕ) (m i : ℕ) (x y : List ℕ) 
   pub made : HasGrown y i (payload i) → m ≤ i → cell_at y i ≡ Some (payload i)
 
 -- The caller calls for the cell of this route with this bound and an empty plan. The payload of the cell is that bound.
--- If the cell is one of the first m, x has a bound of the route there, however far it counted.
+-- If the cell is one of the first m, x has a bound of the route there, however far it counted. No cell before it is of the
+-- route's Data ID and direction: neither one of the first m, as x has it, nor a later one by its payload.
 pub record CallsWith (route : RathonsiRoute) (bound : ℕ) (plan : Plan) (payload : ℕ → List ℕ) (m : ℕ) (x : List ℕ)
     : Type 0 where
   pub direction : Direction
@@ -173,6 +175,8 @@ pub record CallsWith (route : RathonsiRoute) (bound : ℕ) (plan : Plan) (payloa
   pub bound_fits : bound < 2 ^ 64
   pub payload_is : payload route.cell ≡ bound_cell route.data_id direction bound
   pub there : route.cell < m → (kept : ℕ) × ImageBound x route.cell route.data_id direction kept
+  pub apart : (j : ℕ) → j < route.cell → j < m → NoBound x j route.data_id direction
+  pub apart_made : (j : ℕ) → j < route.cell → m ≤ j → HoldsNoBound (payload j) route.data_id direction
   pub empty : IsEmptyPlan plan
 
 -- x begins with a store of m cells, each with a copy that counts. Behind the place of each cell up to cell n - 1 the bytes

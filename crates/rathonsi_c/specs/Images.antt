@@ -1,5 +1,5 @@
 -- What the image of a store keeps of a route and of a key slot: cells with both copies within it.
-use Rattle.std.specs.Prelude.{◌≡◌, ℕ, ◌+◌, ◌≤◌, ◌⊎◌, Bool, Some, None, List, length}
+use Rattle.std.specs.Prelude.{◌≡◌, ◌≢◌, ℕ, ◌+◌, ◌<◌, ◌≤◌, ◌⊎◌, Bool, Some, None, List, length}
 use Rattle.cell_store.specs.Twin.{twin_size, cell_at}
 use Rattle.key_slots.specs.declared.memory.Flags.{Flags}
 use Rattle.key_slots.specs.declared.memory.Slot.{Slot}
@@ -23,6 +23,19 @@ pub record ImageBound (image : List ℕ) (place id : ℕ) (direction : Direction
 -- or it keeps none of this Data ID and direction there
 abbrev pub NoBound : List ℕ → ℕ → ℕ → Direction → Type 0
 NoBound image place id direction = (bound : ℕ) → ¬ ImageBound image place id direction bound
+
+-- the cell holds the bound of some Data ID and direction
+abbrev pub IsBoundCell : List ℕ → Type 0
+IsBoundCell bytes = (id : ℕ) × ((direction : Direction) × ((bound : ℕ) × HoldsBound bytes id direction bound))
+
+-- a cell of a route before `upto`, and another than `own`, keeps a bound of this Data ID and direction
+pub record IdIsHeld (image : List ℕ) (upto own id : ℕ) (direction : Direction) : Type 0 where
+  pub place : ℕ
+  pub least : 14 ≤ place
+  pub below : place < upto
+  pub other : place ≢ own
+  pub bound : ℕ
+  pub kept : ImageBound image place id direction bound
 
 -- no copy of the cell at this place counts
 pub record DamagedCell (image : List ℕ) (place : ℕ) : Type 0 where

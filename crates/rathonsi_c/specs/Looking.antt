@@ -8,24 +8,31 @@ use Rattle.key_slots.specs.declared.memory.Slot.{Slot}
 use Rattle.slot_disk.specs.Cell.{HoldsSlot}
 use Rattle.freshness_routes.specs.declared.routes.Direction.{Direction}
 use Rattle.freshness_store.specs.Bound.{HoldsBound}
-use Rattle.rathonsi_c.specs.declared.TheConstants.{OK, BAD_LENGTH, NO_STORE, DAMAGED, WRONG_CELL}
+use Rattle.rathonsi_c.specs.declared.TheConstants.{OK, BAD_LENGTH, NO_STORE, DAMAGED, WRONG_CELL, DUPLICATE_ID}
 use Rattle.rathonsi_c.specs.Causes.{IfCause, IsDone}
+use Rattle.rathonsi_c.specs.Images.{IsBoundCell, IdIsHeld}
 use Rattle.rathonsi_c.specs.Stores.{IsSize, NoSize}
-
--- the cell holds the bound of some Data ID and direction
-abbrev pub IsBoundCell : List ℕ → Type 0
-IsBoundCell bytes = (id : ℕ) × ((direction : Direction) × ((bound : ℕ) × HoldsBound bytes id direction bound))
 
 -- the cell holds what its place is for: one of the first fourteen a slot, each later one a bound, or nothing yet
 pub record IsInPlace (place : ℕ) (bytes : List ℕ) : Type 0 where
   pub slot : place < 14 → (slot : Slot) × HoldsSlot bytes slot
   pub bound : 14 ≤ place → (bytes ≡ replicate 32 0) ⊎ IsBoundCell bytes
 
+-- these bytes, of the cell at this place, hold a bound of a Data ID and direction that a cell before it has, too
+pub record IsDuplicate (image : List ℕ) (place : ℕ) (bytes : List ℕ) : Type 0 where
+  pub id : ℕ
+  pub direction : Direction
+  pub bound : ℕ
+  pub held : HoldsBound bytes id direction bound
+  pub taken : IdIsHeld image place place id direction
+
 -- what a cell of an image is found to be
 abbrev pub CellLooks : List ℕ → ℕ → ℤ → Type 0
 CellLooks image place status =
     IfCause (cell_at image place ≡ None) DAMAGED
-    (IfCause ((bytes : List ℕ) → cell_at image place ≡ Some bytes → ¬ IsInPlace place bytes) WRONG_CELL IsDone) status
+    (IfCause ((bytes : List ℕ) → cell_at image place ≡ Some bytes → ¬ IsInPlace place bytes) WRONG_CELL
+    (IfCause ((bytes : List ℕ) × ((cell_at image place ≡ Some bytes) × IsDuplicate image place bytes)) DUPLICATE_ID
+    IsDone)) status
 
 -- every cell of n is as it should be
 abbrev pub NoneOdd : List ℕ → ℕ → Type 0

@@ -9,10 +9,10 @@ use Rattle.freshness_routes.specs.declared.routes.Direction.{Direction}
 use Rattle.freshness_store.specs.Bound.{bound_cell}
 use Rattle.store_plan.specs.declared.planning.Plan.{Plan}
 use Rattle.store_plan.specs.Plans.{PlanFits}
-use Rattle.rathonsi_c.specs.declared.TheConstants.{BAD_LENGTH, BAD_VALUE, NO_STORE, DAMAGED}
+use Rattle.rathonsi_c.specs.declared.TheConstants.{BAD_LENGTH, BAD_VALUE, NO_STORE, DAMAGED, DUPLICATE_ID}
 use Rattle.rathonsi_c.specs.declared.route.RathonsiRoute.{RathonsiRoute}
 use Rattle.rathonsi_c.specs.Causes.{IfCause, IsDone}
-use Rattle.rathonsi_c.specs.Images.{ImageBound}
+use Rattle.rathonsi_c.specs.Images.{ImageBound, IdIsHeld}
 use Rattle.rathonsi_c.specs.Routes.{InRanges, OutOfRanges}
 
 -- a store of n cells has so many bytes: fourteen slots and at most 256 routes
@@ -50,11 +50,16 @@ CheckAnswers image status =
     (IfCause ((n : ℕ) → IsSize n (length image) → ¬ HasHeader (twin_layout One) n image) NO_STORE
     (IfCause (HasDamage image) DAMAGED IsDone)) status
 
+-- another cell of n has the Data ID and direction of the route already
+abbrev pub RouteIdIsHeld : RathonsiRoute → List ℕ → ℕ → Type 0
+RouteIdIsHeld r image n = (direction : Direction) × (InRanges r direction × IdIsHeld image n r.cell r.data_id direction)
+
 -- what `rathonsi_route_make` answers
 abbrev pub RouteMakeAnswers : RathonsiRoute → List ℕ → ℤ → Type 0
 RouteMakeAnswers r image status =
     IfCause (NoSize (length image)) BAD_LENGTH
-    (IfCause (OutOfRanges r ⊎ (length image < twin_size (r.cell + 1))) BAD_VALUE IsDone) status
+    (IfCause (OutOfRanges r ⊎ (length image < twin_size (r.cell + 1))) BAD_VALUE
+    (IfCause ((n : ℕ) × (IsSize n (length image) × RouteIdIsHeld r image n)) DUPLICATE_ID IsDone)) status
 
 -- both copies of the route's cell hold the bound, and every other cell is as before
 pub record RouteMade (r : RathonsiRoute) (bound : ℕ) (image new : List ℕ) : Type 0 where

@@ -7,8 +7,9 @@ ghost use Rattle.rathonsi_c.specs.Causes.{IsDone};
 ghost use Rattle.rathonsi_c.specs.Images.{ImageBound};
 ghost use Rattle.rathonsi_c.specs.Routes.{InRanges, CellAnswers};
 
+use crate::images::id_is_held;
 use crate::route::{RathonsiRoute, bound_of, direction_of};
-use crate::{BAD_LENGTH, BAD_VALUE, BUSY, NO_STORE, OK};
+use crate::{BAD_LENGTH, BAD_VALUE, BUSY, DUPLICATE_ID, NO_STORE, OK};
 use freshness_store::{Direction, bound_bytes};
 use store_plan::{Growth, Plan, count_in, growth_of, is_empty, plan_count, plan_growth};
 
@@ -16,8 +17,9 @@ use store_plan::{Growth, Plan, count_in, growth_of, is_empty, plan_count, plan_g
 /// cell after it. The plan stays empty if the store has the cell already, or what is after it isn't erased. After a cut
 /// within the plan the same call goes on. `BUSY`. `BAD_VALUE`: a number of the route is outside its range. `BAD_LENGTH`:
 /// the image is too short, or no store has such a cell. `NO_STORE`: the image is no store, or its number of cells is
-/// wrong, the bytes after this cell are erased, and the cell isn't as the call wrote it. `WRONG_CELL`, `DAMAGED`: nothing
-/// is to be planned, and `rathonsi_route_open` has these. The first that applies.
+/// wrong, the bytes after this cell are erased, and the cell isn't as the call wrote it. `DUPLICATE_ID`: a cell before
+/// it has its Data ID and direction. `WRONG_CELL`, `DAMAGED`: nothing is to be planned, and `rathonsi_route_open` has
+/// these. The first that applies.
 #[unsafe(no_mangle)]
 pub extern "C" fn rathonsi_store_grow(
     route: &RathonsiRoute,
@@ -67,6 +69,9 @@ fn grow(
     let Some(growth) = growth_of(image, route.cell, &payload) else {
         return NO_STORE;
     };
+    if id_is_held(image, route.cell, route.cell, route.data_id, direction) {
+        return DUPLICATE_ID;
+    }
     match growth {
         Growth::Before => {
             *plan = plan_growth(route.cell, &payload);

@@ -126,3 +126,6 @@ pub const WRONG_CELL: i32 = 17;
 
 /// An operation on the flash failed.
 pub const FAILED: i32 = 18;
+
+/// Another cell has this Data ID and direction already.
+pub const DUPLICATE_ID: i32 = 19;

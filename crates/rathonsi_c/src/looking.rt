@@ -4,22 +4,33 @@ ghost use Rattle.cell_store.specs.declared.kinds.Version.TheVariants.{One};
 ghost use Rattle.cell_store.specs.Layout.{twin_layout};
 ghost use Rattle.cell_store.specs.Twin.{twin_size};
 ghost use Rattle.cell_store.specs.Store.{HasHeader};
-ghost use Rattle.rathonsi_c.specs.Looking.{IsBoundCell, CellLooks, FirstOdd, NoneOdd, LookAnswers, TellsCell};
+ghost use Rattle.rathonsi_c.specs.Looking.{IsInPlace, IsDuplicate, CellLooks, FirstOdd, NoneOdd, LookAnswers, TellsCell};
 
+use crate::images::{bound_held, id_is_held};
 use crate::store::cells_of;
-use crate::{BAD_LENGTH, DAMAGED, NO_STORE, OK, WRONG_CELL};
-use freshness_store::{Direction, bound_in};
+use crate::{BAD_LENGTH, DAMAGED, DUPLICATE_ID, NO_STORE, OK, WRONG_CELL};
 use slot_disk::slot_in;
 use store_plan::{ImageFault, cell_in, check};
 
-// Whether a cell holds a bound, of whichever Data ID and direction.
-fn is_bound(cell: &[u8; 32]) -> bool
-    ensures { IsTrue result ↔ IsBoundCell cell.now }
+// Whether the cell at this place holds what its place is for.
+fn is_in_place(cell: u16, bytes: &[u8; 32]) -> bool
+    ensures { IsTrue result ↔ IsInPlace cell bytes.now }
 {
-    let [_, _, high, low, ..] = *cell;
-    let id = u16::from_be_bytes([high, low]);
-    bound_in(cell, id, Direction::Sends).is_some()
-        || bound_in(cell, id, Direction::Receives).is_some()
+    if cell < 14 {
+        slot_in(bytes).is_some()
+    } else {
+        *bytes == [0; 32] || bound_held(bytes).is_some()
+    }
+}
+
+// Whether these bytes, of the cell at this place, hold a bound of a Data ID and direction that a cell before it has.
+fn is_duplicate(image: &[u8], cell: u16, bytes: &[u8; 32]) -> bool
+    ensures { IsTrue result ↔ IsDuplicate image.now cell bytes.now }
+{
+    match bound_held(bytes) {
+        Some(held) => id_is_held(image, cell, cell, held.id, held.direction),
+        None => false,
+    }
 }
 
 // What a cell is found to be: OK, or the status of what is wrong with it.
@@ -30,12 +41,13 @@ fn look_of(image: &[u8], cell: u16) -> i32
     let Ok(bytes) = cell_in(image, cell) else {
         return DAMAGED;
     };
-    let known = if cell < 14 {
-        slot_in(&bytes).is_some()
-    } else {
-        bytes == [0; 32] || is_bound(&bytes)
-    };
-    if known { OK } else { WRONG_CELL }
+    if !is_in_place(cell, &bytes) {
+        return WRONG_CELL;
+    }
+    if is_duplicate(image, cell, &bytes) {
+        return DUPLICATE_ID;
+    }
+    OK
 }
 
 // The first cell that isn't as it should be, and its status.
@@ -74,7 +86,8 @@ fn has_header(image: &[u8], cells: u16) -> bool
 
 /// Looks at each cell of an image, and names the first that isn't as it should be. `BAD_LENGTH`, `NO_STORE` as
 /// `rathonsi_store_check` has them. `DAMAGED`: no copy of the cell counts. `WRONG_CELL`: it is one of the fourteen and
-/// holds no slot, or one after them and holds neither a bound nor zero bytes.
+/// holds no slot, or one after them and holds neither a bound nor zero bytes. `DUPLICATE_ID`: it holds a bound of a Data
+/// ID and direction that a cell before it has.
 #[unsafe(no_mangle)]
 pub extern "C" fn rathonsi_store_look(image: &[u8], cell: &mut u16) -> i32
     ensures answer { LookAnswers image.now result }

@@ -9,8 +9,9 @@ ghost use Rattle.store_plan.specs.Plans.{no_plan};
 ghost use Rattle.rathonsi_c.specs.Stores.{IsSize, NoSize, IsWhole, MakeAnswers, CheckAnswers, RouteMakeAnswers, RouteMade, DoneAnswers};
 ghost use Rattle.rathonsi_c.specs.Lives.{PlanDone};
 
+use crate::images::id_is_held;
 use crate::route::{RathonsiRoute, direction_of};
-use crate::{BAD_LENGTH, BAD_VALUE, DAMAGED, NO_STORE, OK};
+use crate::{BAD_LENGTH, BAD_VALUE, DAMAGED, DUPLICATE_ID, NO_STORE, OK};
 use freshness_store::bound_bytes;
 use store_plan::{ImageFault, Plan, check, count_of, done, is_within, make, make_cell};
 
@@ -46,7 +47,8 @@ pub extern "C" fn rathonsi_store_make(image: &mut [u8]) -> i32
 }
 
 /// Makes the cell of a route hold this bound, as in a fresh store. `BAD_LENGTH` as above. `BAD_VALUE`: a number of the
-/// route is outside its range, or the image has no such cell.
+/// route is outside its range, or the image has no such cell. `DUPLICATE_ID`: another cell has its Data ID and
+/// direction already.
 #[unsafe(no_mangle)]
 pub extern "C" fn rathonsi_route_make(route: &RathonsiRoute, bound: u64, image: &mut [u8]) -> i32
     ensures answer { RouteMakeAnswers route.now image.old result }
@@ -61,6 +63,9 @@ pub extern "C" fn rathonsi_route_make(route: &RathonsiRoute, bound: u64, image: 
     };
     if route.cell >= cells {
         return BAD_VALUE;
+    }
+    if id_is_held(image, cells, route.cell, route.data_id, direction) {
+        return DUPLICATE_ID;
     }
     make_cell(
         image,
