@@ -257,8 +257,11 @@ typedef struct RathonsiRoute {
     /* 1 once rathonsi_route_open or rathonsi_routes_open has opened the route. They alone set it, and
      * zero it if they fail. */
     uint8_t opened;
+    /* 1 if another module makes and checks the authenticators, and asks for the freshness alone: see
+     * rathonsi_freshness.h. Else 0. The same in every life. */
+    uint8_t freshness_only;
     /* Not read. */
-    uint8_t unused[4];
+    uint8_t unused[3];
 } RathonsiRoute;
 
 /* What is told of a route. */

@@ -18,3 +18,4 @@ pub mod SlotLaws
 pub mod BoundLaws
 pub mod InputLaws
 pub mod FlashLaws
+pub mod FreshnessLaws

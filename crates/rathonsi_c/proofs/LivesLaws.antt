@@ -98,6 +98,7 @@ ranges-counted r n d h = record {
   slot_least = h.slot_least;
   slot_most = h.slot_most;
   booted_most = h.booted_most;
+  freshness_only_most = h.freshness_only_most;
 }
 
 ranges-opened : (r : RathonsiRoute) (n : ℕ) (d : Direction) → InRanges r d → InRanges (opened_at r n) d
@@ -110,6 +111,7 @@ ranges-opened r n d h = record {
   slot_least = h.slot_least;
   slot_most = h.slot_most;
   booted_most = h.booted_most;
+  freshness_only_most = h.freshness_only_most;
 }
 
 holds-same : (image y : List ℕ) (plan q : Plan) (r s : RathonsiRoute) → y ≡ image → q ≡ plan → s ≡ r → Holds image plan r → Holds y q s

@@ -29,6 +29,7 @@ pub record InRanges (r : RathonsiRoute) (direction : Direction) : Type 0 where
   pub slot_least : 4 ≤ r.slot
   pub slot_most : r.slot ≤ 13
   pub booted_most : r.booted ≤ 1
+  pub freshness_only_most : r.freshness_only ≤ 1
 
 -- they are outside, in whichever direction
 abbrev pub OutOfRanges : RathonsiRoute → Type 0
@@ -37,6 +38,10 @@ OutOfRanges r = (direction : Direction) → ¬ InRanges r direction
 -- `rathonsi_route_open` opened the route
 abbrev pub IsOpened : RathonsiRoute → Type 0
 IsOpened r = r.opened ≡ 1
+
+-- the caller says that another module makes and checks the authenticators of the route's PDUs
+abbrev pub IsFreshnessOnly : RathonsiRoute → Type 0
+IsFreshnessOnly r = r.freshness_only ≡ 1
 
 -- an opened route whose numbers in this direction are within their ranges
 pub record InUse (r : RathonsiRoute) (direction : Direction) : Type 0 where

@@ -30,10 +30,14 @@ BoundAnswers {A} tell r direction image rest answer =
 
 -- ---- sending
 
+-- what a route that sends answers where the freshness of its next PDU is asked for
+abbrev pub NextFreshness : RathonsiRoute → List ℕ → ℤ → Type 0
+NextFreshness r image status = BoundAnswers status_alone r Sends image (CounterAnswers r image) status
+
 -- what `rathonsi_send_input` answers
 abbrev pub SendInputAnswers : RathonsiRoute → List ℕ → List ℕ → ℤ → Type 0
 SendInputAnswers r image payload status =
-    IfCause (¬ IsPayload payload) BAD_LENGTH (BoundAnswers status_alone r Sends image (CounterAnswers r image)) status
+    IfCause (¬ IsPayload payload) BAD_LENGTH (NextFreshness r image) status
 
 -- the status of why there is no freshness to send with
 abbrev pub NextRefused : RathonsiRoute → List ℕ → ℤ → Type 0

@@ -2,14 +2,15 @@
 //! counters and slots of a store over the caller's own device. Each export is a thin call of a proved
 //! library. It answers a status: [`OK`], or why it did nothing, and then nothing was written. A slice is a
 //! pointer and a length in bytes, and an array of a fixed size a pointer alone. `include/rathonsi.h`,
-//! `include/rathonsi_store.h` and `include/rathonsi_flash.h` declare them, with what a caller owes. Nothing here
-//! takes memory, keeps a state or calls back. docs/guarantees.md has the promises: each status by its cause, and
-//! [`laws`] of all lives of a caller.
+//! `include/rathonsi_store.h`, `include/rathonsi_freshness.h` and `include/rathonsi_flash.h` declare them, with what a
+//! caller owes. Nothing here takes memory, keeps a state or calls back. docs/guarantees.md has the promises: each status
+//! by its cause, and [`laws`] of all lives of a caller.
 #![tactic(auto)]
 
 mod aes;
 mod boot;
 mod flash;
+mod freshness;
 mod growing;
 pub mod growth_laws;
 mod images;
@@ -40,6 +41,9 @@ pub use boot::{
 pub use flash::{
     rathonsi_flash_begin, rathonsi_flash_did, rathonsi_flash_image, rathonsi_flash_next,
     rathonsi_flash_put, rathonsi_flash_take,
+};
+pub use freshness::{
+    rathonsi_freshness_accept, rathonsi_freshness_candidate, rathonsi_freshness_next,
 };
 pub use growing::{rathonsi_store_grow, rathonsi_store_size};
 pub use looking::rathonsi_store_look;

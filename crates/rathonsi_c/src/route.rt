@@ -50,8 +50,10 @@ pub struct RathonsiRoute {
     pub booted: u8,
     /// 1 once `rathonsi_route_open` opened it, with `OK`.
     pub opened: u8,
+    /// 1: another module makes and checks its authenticators, and asks for the freshness alone. 0: this library does.
+    pub freshness_only: u8,
     /// Fills the struct up; not read.
-    pub unused: [u8; 4],
+    pub unused: [u8; 3],
 }
 
 /// The direction of a route whose numbers are within their ranges.
@@ -66,12 +68,16 @@ pub fn direction_of(route: &RathonsiRoute) -> Option<Direction>
         slot,
         direction,
         booted,
+        freshness_only,
         ..
     } = *route;
     if cell < 14 || reserve < 1 || reserve > MOST_RESERVE {
         return None;
     }
-    if window < 1 || window > WIDEST_WINDOW || slot < 4 || slot > 13 || booted > 1 {
+    if window < 1 || window > WIDEST_WINDOW || slot < 4 || slot > 13 {
+        return None;
+    }
+    if booted > 1 || freshness_only > 1 {
         return None;
     }
     match direction {

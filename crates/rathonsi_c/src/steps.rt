@@ -56,8 +56,8 @@ fn is_input(input: &RathonsiInput, id: u16, payload: &[u8], freshness: u64) -> b
     input.bytes == wanted.bytes
 }
 
-// The bound of a route that is open in this direction, or the status of why there is none.
-fn bound_ready(route: &RathonsiRoute, wanted: Direction, image: &[u8]) -> Result<u64, i32>
+/// The bound of a route that is open in this direction, or the status of why there is none.
+pub fn bound_ready(route: &RathonsiRoute, wanted: Direction, image: &[u8]) -> Result<u64, i32>
     ensures in_use { OnOk result (InUse route.now wanted) }
     ensures kept { IfOk result (ImageBound image.now route.now.cell route.now.data_id wanted) }
     ensures refused { IfErr result (BoundAnswers status_alone route.now wanted image.now (λ _. ⊥)) }
@@ -74,8 +74,8 @@ fn bound_ready(route: &RathonsiRoute, wanted: Direction, image: &[u8]) -> Result
     }
 }
 
-// The freshness that a route sends next, or the status of why there is none.
-fn next_freshness(route: &RathonsiRoute, image: &[u8]) -> Result<u64, i32>
+/// The freshness that a route sends next, or the status of why there is none.
+pub fn next_freshness(route: &RathonsiRoute, image: &[u8]) -> Result<u64, i32>
     ensures in_use { OnOk result (InUse route.now Sends) }
     ensures next { IfOk result (λ v. v ≡ route.now.counter + 1) }
     ensures covered { IfOk result (BoundCovers route.now image.now Sends) }

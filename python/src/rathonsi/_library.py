@@ -87,7 +87,8 @@ class RouteStruct(ctypes.Structure):
         ("direction", c_uint8),
         ("booted", c_uint8),
         ("opened", c_uint8),
-        ("unused", c_uint8 * 4),
+        ("freshness_only", c_uint8),
+        ("unused", c_uint8 * 3),
     ]
     counter: int
     data_id: int
@@ -98,6 +99,7 @@ class RouteStruct(ctypes.Structure):
     direction: int
     booted: int
     opened: int
+    freshness_only: int
 
 
 def _found() -> Path:

@@ -1,0 +1,23 @@
+use Rattle.std.proofs.Common.{inr, refl, rules}
+use Rattle.freshness_routes.specs.declared.routes.Direction.TheVariants.{Receives}
+use Rattle.rathonsi_c.specs.declared.TheConstants.{FRESHNESS_FAILURE, RESERVE}
+use Rattle.rathonsi_c.specs.Causes.{IfCause, IsDone}
+use Rattle.rathonsi_c.specs.Routes.{BoundBelow, status_alone}
+use Rattle.rathonsi_c.specs.Freshness.{WithinWindow}
+use Rattle.rathonsi_c.proofs.BoundLaws.{bounded_rest}
+use Rattle.rathonsi_c.proofs.FreshnessLaws.{covered_here}
+use Rattle.rathonsi_c.proofs.freshness.rathonsi_freshness_accept.Goals as goal
+
+pub returns-clause-answer : goal.returns-clause-answer
+returns-clause-answer c =
+    let r = c.args.route.now in
+    let image = c.args.image.now in
+    let freshness = c.args.freshness in
+    let kept = c.in-Ok.ensures.kept in
+    inr (
+      (λ other. other c.if-route-ne1.false),
+      bounded_rest status_alone r Receives image c.in-Ok.bound (IfCause (¬ WithinWindow r.counter r.window freshness) FRESHNESS_FAILURE (IfCause (BoundBelow r image Receives freshness) RESERVE IsDone)) _ c.in-Ok.ensures.in_use kept (inr (
+        (λ out. out (record { above = search rules; near = search rules })),
+        inr ((λ under. covered_here r image Receives c.in-Ok.bound freshness kept (search rules) under), refl),
+      )),
+    )

@@ -1,0 +1,54 @@
+-- A freshness manager: freshness is given and taken, and another module makes and checks the authenticators (AUTOSAR
+-- SecOC, interface to the freshness manager).
+use Rattle.std.specs.Prelude.{ℤ, ◌≡◌, ℕ, ◌+◌, ◌%◌, ◌^◌, ◌<◌, ◌≤◌, List}
+use Rattle.freshness_routes.specs.declared.routes.Direction.TheVariants.{Receives}
+use Rattle.rathonsi_c.specs.declared.TheConstants.{BAD_VALUE, FRESHNESS_FAILURE, RESERVE}
+use Rattle.rathonsi_c.specs.declared.route.RathonsiRoute.{RathonsiRoute}
+use Rattle.rathonsi_c.specs.Causes.{IfCause, IsDone}
+use Rattle.rathonsi_c.specs.Routes.{IsFreshnessOnly, BoundBelow, status_alone}
+use Rattle.rathonsi_c.specs.Steps.{BoundAnswers, NextFreshness}
+
+-- the freshness is one to the window above the counter
+pub record WithinWindow (counter window freshness : ℕ) : Type 0 where
+  pub above : counter < freshness
+  pub near : freshness ≤ counter + window
+
+-- and has these low bits, so many of them
+pub record AheadWithBits (counter window bits truncated freshness : ℕ) : Type 0 where
+  pub within : WithinWindow counter window freshness
+  pub low_is : freshness % 2 ^ bits ≡ truncated
+  pub fits : freshness < 2 ^ 64
+
+-- these are so many bits, and no two freshness values of a window have the same
+pub record TakesBits (window bits truncated : ℕ) : Type 0 where
+  pub bits_least : 1 ≤ bits
+  pub bits_most : bits ≤ 64
+  pub truncated_fits : truncated < 2 ^ bits
+  pub window_fits : window ≤ 2 ^ bits
+
+-- the freshness with these low bits is above the bound in the image
+pub record AheadOfBound (r : RathonsiRoute) (image : List ℕ) (bits truncated : ℕ) : Type 0 where
+  pub freshness : ℕ
+  pub ahead : AheadWithBits r.counter r.window bits truncated freshness
+  pub below : BoundBelow r image Receives freshness
+
+-- what `rathonsi_freshness_next` answers
+abbrev pub NextAnswers : RathonsiRoute → List ℕ → ℤ → Type 0
+NextAnswers r image status = IfCause (¬ IsFreshnessOnly r) BAD_VALUE (NextFreshness r image) status
+
+-- what `rathonsi_freshness_candidate` answers
+abbrev pub CandidateAnswers : RathonsiRoute → List ℕ → ℕ → ℕ → ℤ → Type 0
+CandidateAnswers r image truncated bits status =
+    IfCause (¬ IsFreshnessOnly r) BAD_VALUE
+    (IfCause (¬ TakesBits r.window bits truncated) BAD_VALUE
+    (BoundAnswers status_alone r Receives image
+    (IfCause ((freshness : ℕ) → ¬ AheadWithBits r.counter r.window bits truncated freshness) FRESHNESS_FAILURE
+    (IfCause (AheadOfBound r image bits truncated) RESERVE IsDone)))) status
+
+-- what `rathonsi_freshness_accept` answers
+abbrev pub AcceptAnswers : RathonsiRoute → List ℕ → ℕ → ℤ → Type 0
+AcceptAnswers r image freshness status =
+    IfCause (¬ IsFreshnessOnly r) BAD_VALUE
+    (BoundAnswers status_alone r Receives image
+    (IfCause (¬ WithinWindow r.counter r.window freshness) FRESHNESS_FAILURE
+    (IfCause (BoundBelow r image Receives freshness) RESERVE IsDone))) status
