@@ -1,7 +1,8 @@
 //! The store.
+ghost use Rattle.flash_places.specs.declared.FlashLine.TheVariants.{Entry};
 ghost use Rattle.std.specs.Prelude.{◌≡◌, ◌≤◌, ◌<◌, length, get_or, true, false, Err, IfOk, OnOk, OnErr};
 ghost use Rattle.basics.specs.FaultCount.{Rose};
-ghost use Rattle.flash_places.specs.Places.{SameFlash};
+ghost use Rattle.flash_places.specs.Places.{SameFlash, Programs};
 ghost use Rattle.flash_places.specs.State.{FlashRuns};
 ghost use Rattle.flash_laws.specs.Lives.{off, next_bank};
 ghost use Rattle.flash_log.specs.Going.{machine, layout_on, Goes};
@@ -132,6 +133,8 @@ impl FlashLog {
         ensures exhausted { result ≡ Err put_exhausted → (self.old.generation ≡ last_generation)
             × ((D.state device.old).places ≤ self.old.next) }
         ensures not_ready { result ≡ Err NotReady → ⊥ }
+        ensures room { self.old.next < (D.state device.old).places → D.state device.new ≡ D.state device.old }
+        ensures same { self.old.next < (D.state device.old).places → self.new ≡ self.old }
         ensures unchanged { result ≡ Err put_exhausted → (self.new ≡ self.old)
             × SameFlash (D.state device.old).flash (D.state device.new).flash }
         ensures goes { OnOk result (Goes (layout_on (D.state device.old) (length cells.now))
@@ -185,6 +188,9 @@ impl FlashLog {
         ensures exhausted { result ≡ Err put_exhausted → (self.old.generation ≡ last_generation)
             × ((D.state device.old).places ≤ self.old.next) }
         ensures not_ready { result ≡ Err NotReady → self.old.is_ready ≡ false }
+        ensures one { OnOk result (self.old.next < (D.state device.old).places
+            → Programs self.old.bank self.old.next (Entry cell payload.now) (D.state device.old).flash
+            (D.state device.new).flash) }
         ensures kept { OnErr result (cells.new ≡ cells.old) }
         ensures store { IsStoreOf self.new (length cells.old) (D.state device.new) }
     {

@@ -1,5 +1,5 @@
 -- A format that was cut.
-use Rattle.std.proofs.Common.{◌≡◌, ◌≢◌, inl, inr, ℕ, suc, ◌<◌, ◌≤◌, Option, length, refl, sym, subst, ◌∙◌, arith}
+use Rattle.std.proofs.Common.{◌≡◌, inl, inr, ℕ, suc, ◌<◌, ◌≤◌, Option, length, refl, sym, subst, ◌∙◌, arith}
 use Rattle.std.proofs.lemmas.Bool.{cases_eq}
 use Rattle.flash_places.specs.declared.FlashLine.{FlashLine}
 use Rattle.flash_places.specs.declared.FlashLine.TheVariants.{Head}

@@ -7,3 +7,4 @@ pub mod CutSteps
 pub mod CallerLemmas
 pub mod LeftSteps
 pub mod TellingSteps
+pub mod WearSteps

@@ -4,3 +4,4 @@ pub mod Standing
 pub mod Turns
 pub mod Formatting
 pub mod Telling
+pub mod Wear

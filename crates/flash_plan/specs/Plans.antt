@@ -1,10 +1,11 @@
 -- A plan's sizes, and which operation comes next.
 use Rattle.std.specs.Prelude.{◌≡◌, ◌+◌, ◌-◌, ◌*◌, ◌^◌, ◌<◌, ◌≤◌, ℕ, suc, Option, Some, None, IfSome, [], length, get_or}
-use Rattle.std.specs.Prelude.{nat_eq, nat_lt, if◌then◌else◌}
+use Rattle.std.specs.Prelude.{nat_eq, nat_lt, if◌then◌else◌, false}
 use Rattle.flash_places.specs.declared.FlashLine.TheVariants.{Head, Entry}
 use Rattle.flash_laws.specs.Logs.{CellList}
 use Rattle.flash_laws.specs.Lives.{next_bank}
 use Rattle.flash_log.specs.Taking.{last_generation}
+use Rattle.flash_log.specs.Scanned.{is_past}
 use Rattle.flash_log.specs.declared.scanning.Best.{Best}
 use Rattle.flash_log.specs.declared.scanning.Best.TheVariants.{NoLog, One, Tie}
 use Rattle.flash_plan.specs.declared.operations.Operation.{Operation}
@@ -206,6 +207,19 @@ ChangesAt (Ready bank generation next) = Unit {0}
 ChangesAt (Clearing bank) = Unit {0}
 ChangesAt (Filling done) = Unit {0}
 ChangesAt (Ended end) = ⊥
+
+-- a bank is read on behind its head only if its log is no older than the best of the banks before it
+abbrev pub SkipsOlder : Best → PlanStep → Type 0
+SkipsOlder best (Heading bank) = Unit {0}
+SkipsOlder best (Copied bank generation done) = is_past best generation ≡ false
+SkipsOlder best (Puts bank generation place) = is_past best generation ≡ false
+SkipsOlder best (Free bank generation next place) = is_past best generation ≡ false
+SkipsOlder best (Erasing bank generation) = Unit {0}
+SkipsOlder best (Copying bank generation done) = Unit {0}
+SkipsOlder best (Ready bank generation next) = Unit {0}
+SkipsOlder best (Clearing bank) = Unit {0}
+SkipsOlder best (Filling done) = Unit {0}
+SkipsOlder best (Ended end) = Unit {0}
 
 -- a put that waits takes one program
 abbrev pub put_left : Option WaitingPut → ℕ

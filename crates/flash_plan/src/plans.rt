@@ -1,5 +1,5 @@
 //! The plan: its steps, and which operation each asks for.
-ghost use Rattle.std.specs.Prelude.{◌≡◌, ◌+◌, ◌*◌, ◌^◌, ◌<◌, ◌≤◌, ◌↔◌, ℕ, length, true, Some, Err, IfSome, OnOk, OnErr};
+ghost use Rattle.std.specs.Prelude.{◌≡◌, ◌+◌, ◌-◌, ◌*◌, ◌^◌, ◌<◌, ◌≤◌, ◌↔◌, ℕ, length, true, Some, Err, IfSome, OnOk, OnErr};
 ghost use Rattle.flash_places.specs.Places.{Flash};
 ghost use Rattle.flash_laws.specs.Logs.{CellList};
 ghost use Rattle.flash_laws.specs.Lives.{FlashMachine, off};
@@ -12,6 +12,7 @@ ghost use Rattle.flash_plan.specs.Standing.{plan_layout, StandsAt};
 ghost use Rattle.flash_plan.specs.Formatting.{FormatsAt};
 ghost use Rattle.flash_plan.specs.Telling.{PlaceAnswers, IsTold};
 ghost use Rattle.flash_plan.specs.declared.plans.PlanPutFault.TheVariants.{NotIdle, Exhausted as put_exhausted};
+ghost use Rattle.flash_plan.specs.declared.plans.PlanStep.TheVariants.{Heading, Clearing, Erasing, Ready};
 
 use crate::operations::Operation;
 use flash_log::{Best, next_bank};
@@ -193,6 +194,7 @@ impl FlashPlan {
             → StandsAt (plan_layout result n) result cells scratch (machine f off) f }
         ensures none { result.put ≡ None }
         ensures told { (told : PlaceAnswers) → IsTold told result }
+        ensures first { result.step ≡ Heading 0 }
     {
         FlashPlan {
             banks,
@@ -214,6 +216,7 @@ impl FlashPlan {
         ensures places { result.places ≡ places }
         ensures plan { (n : ℕ) → 0 < n → n < 2 ^ 16 → n + 1 < places → IsPlanOf n result }
         ensures formats { (cells : CellList) (f : Flash) → FormatsAt result cells f }
+        ensures first { result.step ≡ Clearing (banks - 1) }
     {
         FlashPlan {
             banks,
@@ -301,6 +304,10 @@ impl FlashPlan {
             ↔ (IsIdle self.old × IsFullAt self.old.places self.old.step) }
         ensures waits { OnOk result (self.new.put ≡ Some (record { cell = cell; payload = payload.now })) }
         ensures left { OnOk result (operations_left (length cells.now) self.new ≤ length cells.now + 3) }
+        ensures room { (bank generation next : ℕ) → self.old.step ≡ Ready bank generation next
+            → next < self.old.places → self.new.step ≡ self.old.step }
+        ensures full { OnOk result ((bank generation next : ℕ) → self.old.step ≡ Ready bank generation next
+            → self.old.places ≤ next → self.new.step ≡ Erasing bank generation) }
         ensures stands { OnOk result ((scratch : CellList) (at : FlashMachine) (f : Flash)
             → StandsAt (plan_layout self.old (length cells.now)) self.old cells.now scratch at f
             → StandsAt (plan_layout self.old (length cells.now)) self.new cells.now scratch at f) }

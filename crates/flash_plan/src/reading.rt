@@ -7,9 +7,12 @@ ghost use Rattle.flash_places.specs.State.{BlankBehind};
 ghost use Rattle.flash_laws.specs.Logs.{CellList};
 ghost use Rattle.flash_laws.specs.Lives.{off};
 ghost use Rattle.flash_log.specs.Going.{machine};
+ghost use Rattle.flash_log.specs.Scanned.{is_past};
 ghost use Rattle.flash_log.specs.Taking.{last_generation};
+ghost use Rattle.flash_log.specs.declared.scanning.Best.{Best};
 ghost use Rattle.flash_plan.specs.Telling.{PlaceAnswers, LogTold, StartTold, StepTold, IsTold};
-ghost use Rattle.flash_plan.specs.Plans.{IsPlanOf, StepFits, KeepsPut, step_after, step_left, operations_left};
+ghost use Rattle.flash_plan.specs.Plans.{IsPlanOf, StepFits, KeepsPut, SkipsOlder, step_after, step_left};
+ghost use Rattle.flash_plan.specs.Plans.{operations_left};
 ghost use Rattle.flash_plan.specs.Standing.{plan_layout, StandsAt, BeforeBank, WithinBank, ReadsCopy, ReadsPuts};
 ghost use Rattle.flash_plan.specs.Standing.{ReadsBank, ReadsFree, Reaches, ReachesStep};
 ghost use Rattle.flash_plan.specs.declared.plans.PlanEnd.TheVariants.{Exhausted, Failed as end_failed};
@@ -57,6 +60,7 @@ fn after_cell(bank: u8, generation: u64, done: u16, cells: usize) -> PlanStep
     requires few { cells < 2 ^ 16 }
     ensures is { result ≡ step_after bank generation done cells }
     ensures not_failed { result ≢ Ended end_failed }
+    ensures skips { (best : Best) → is_past best generation ≡ false → SkipsOlder best result }
 {
     if (done as usize) + 1 < cells {
         return PlanStep::Copied {
@@ -78,6 +82,7 @@ fn renewing(bank: u8, generation: u64) -> PlanStep
     ensures copied { generation ≢ last_generation → result ≡ Erasing bank generation }
     ensures next { generation ≢ last_generation → generation < last_generation }
     ensures not_failed { result ≢ Ended end_failed }
+    ensures skips { (best : Best) → SkipsOlder best result }
 {
     if generation == u64::MAX {
         return PlanStep::Ended(PlanEnd::Exhausted);
@@ -124,6 +129,7 @@ impl FlashPlan {
         requires inside { bank < self.now.banks }
         ensures fits { StepFits self.now.banks self.now.places (length cells.now) result None }
         ensures not_failed { result ≢ Ended end_failed }
+        ensures skips { SkipsOlder self.now.best result }
         ensures less { step_left self.now.banks self.now.places (length cells.now) None result
             ≤ (self.now.banks - suc bank) * self.now.places + (length cells.now + 2) }
         ensures goes { (first f : Flash) (scratch : CellList)
@@ -170,6 +176,7 @@ impl FlashPlan {
         ensures plan { IsPlanOf (length cells.old) self.new }
         ensures same { KeepsPut self.old self.new }
         ensures not_failed { self.new.step ≢ Ended end_failed }
+        ensures skips { SkipsOlder self.new.best self.new.step }
         ensures less { operations_left (length cells.old) self.new
             ≤ (self.old.banks - suc bank) * self.old.places + (length cells.old + 2) }
         ensures goes { (first f : Flash)
@@ -199,6 +206,7 @@ impl FlashPlan {
         ensures plan { IsPlanOf (length cells.old) self.new }
         ensures same { KeepsPut self.old self.new }
         ensures not_failed { self.new.step ≢ Ended end_failed }
+        ensures skips { SkipsOlder self.new.best self.new.step }
         ensures less { operations_left (length cells.old) self.new
             < (self.old.banks - bank) * self.old.places + (length cells.old + 2) }
         ensures goes { (first f g : Flash)
@@ -244,6 +252,7 @@ impl FlashPlan {
         ensures plan { IsPlanOf (length cells.old) self.new }
         ensures same { KeepsPut self.old self.new }
         ensures not_failed { self.new.step ≢ Ended end_failed }
+        ensures skips { is_past self.old.best generation ≡ false → SkipsOlder self.new.best self.new.step }
         ensures less { operations_left (length cells.old) self.new
             < (self.old.banks - bank) * self.old.places - suc done + (length cells.old + 2) }
         ensures goes { (first f g : Flash)
@@ -282,6 +291,7 @@ impl FlashPlan {
         ensures plan { IsPlanOf (length cells.old) self.new }
         ensures same { KeepsPut self.old self.new }
         ensures not_failed { self.new.step ≢ Ended end_failed }
+        ensures skips { is_past self.old.best generation ≡ false → SkipsOlder self.new.best self.new.step }
         ensures less { operations_left (length cells.old) self.new
             < (self.old.banks - bank) * self.old.places - place + (length cells.old + 2) }
         ensures goes { (first f : Flash)
@@ -329,6 +339,7 @@ impl FlashPlan {
         ensures plan { IsPlanOf (length cells.old) self.new }
         ensures same { KeepsPut self.old self.new }
         ensures not_failed { self.new.step ≢ Ended end_failed }
+        ensures skips { is_past self.old.best generation ≡ false → SkipsOlder self.new.best self.new.step }
         ensures less { operations_left (length cells.old) self.new
             < (self.old.banks - bank) * self.old.places - place + (length cells.old + 2) }
         ensures goes { (first f g : Flash)
@@ -388,6 +399,7 @@ impl FlashPlan {
         ensures plan { IsPlanOf (length cells.old) self.new }
         ensures same { KeepsPut self.old self.new }
         ensures not_failed { self.new.step ≢ Ended end_failed }
+        ensures skips { is_past self.old.best generation ≡ false → SkipsOlder self.new.best self.new.step }
         ensures less { operations_left (length cells.old) self.new
             < (self.old.banks - bank) * self.old.places - place + (length cells.old + 2) }
         ensures goes { (first f g : Flash)

@@ -1,5 +1,5 @@
 //! What the outcome of an operation leads to.
-ghost use Rattle.std.specs.Prelude.{◌≡◌, ◌≢◌, ◌^◌, ◌<◌, ◌≤◌, ◌⊎◌, ◌↔◌, length, true, None, IfSome};
+ghost use Rattle.std.specs.Prelude.{◌≡◌, ◌≢◌, ◌+◌, ◌*◌, ◌^◌, ◌<◌, ◌≤◌, ◌⊎◌, ◌↔◌, length, true, None, IfSome};
 ghost use Rattle.flash_places.specs.Places.{Flash};
 ghost use Rattle.flash_laws.specs.Logs.{CellList};
 ghost use Rattle.flash_laws.specs.Lives.{FlashMachine};
@@ -7,7 +7,8 @@ ghost use Rattle.flash_log.specs.Taking.{last_generation};
 ghost use Rattle.flash_plan.specs.Performing.{Performs};
 ghost use Rattle.flash_plan.specs.Plans.{IsPlanOf, SameSizes, KeepsPut, IsFailure, failed_plan, operation_of, put_in};
 ghost use Rattle.flash_plan.specs.Plans.{step_programmed, step_cleared, step_filled, ReadsAt, ChangesAt};
-ghost use Rattle.flash_plan.specs.Plans.{operations_left};
+ghost use Rattle.flash_plan.specs.Plans.{operations_left, put_left, SkipsOlder};
+ghost use Rattle.flash_plan.specs.Wear.{puts_to_bank, erases_by, erase_credit};
 ghost use Rattle.flash_plan.specs.Standing.{plan_layout, StandsAt, PlanMovesOn};
 ghost use Rattle.flash_plan.specs.Formatting.{FormatsAt};
 ghost use Rattle.flash_plan.specs.Telling.{PlaceAnswers, AnswersSo, IsTold};
@@ -102,6 +103,7 @@ impl FlashPlan {
             self.new cells.new scratch.new at g) }
         ensures told { (told : PlaceAnswers) → IsTold told self.old → IfSome (operation_of self.old cells.old) (λ it.
             AnswersSo told it (Answered answer) → IsTold told self.new) }
+        ensures skips { SkipsOlder self.old.best self.old.step → SkipsOlder self.new.best self.new.step }
     {
         match self.step {
             PlanStep::Heading { bank } => self.after_head(cells, scratch, bank, answer),
@@ -147,6 +149,10 @@ impl FlashPlan {
             → PlanMovesOn (plan_layout self.old (length cells.old)) (put_in self.old) Done
             self.new cells.new scratch at g) }
         ensures told { (told : PlaceAnswers) → IsTold told self.old → IsTold told self.new }
+        ensures skips { SkipsOlder self.new.best self.new.step }
+        ensures wear { erases_by (operation_of self.old cells.old) * puts_to_bank self.old.places (length cells.old)
+            + erase_credit self.old.places (length cells.old) self.new.step
+            ≤ erase_credit self.old.places (length cells.old) self.old.step + put_left (put_in self.old) }
     {
         match self.step {
             PlanStep::Erasing { bank, generation } => {
@@ -239,6 +245,11 @@ impl FlashPlan {
             → FormatsAt self.new cells.new g) }
         ensures told { (told : PlaceAnswers) → IsTold told self.old → IfSome (operation_of self.old cells.old) (λ it.
             AnswersSo told it outcome → IsTold told self.new) }
+        ensures skips { SkipsOlder self.old.best self.old.step → SkipsOlder self.new.best self.new.step }
+        ensures wear { (ReadsAt self.old.step → ⊥)
+            → erases_by (operation_of self.old cells.old) * puts_to_bank self.old.places (length cells.old)
+            + erase_credit self.old.places (length cells.old) self.new.step
+            ≤ erase_credit self.old.places (length cells.old) self.old.step + put_left (put_in self.old) }
         ensures none { operation_of self.old cells.old ≡ None → self.new ≡ self.old }
         ensures failed { self.new.step ≡ Ended end_failed → (self.old.step ≡ Ended end_failed)
             ⊎ IsFailure (operation_of self.old cells.old) outcome }

@@ -10,6 +10,7 @@ use Rattle.flash_plan.proofs.FormatSteps.{format_reads, plan_format_fails}
 use Rattle.flash_plan.proofs.LeftSteps.{fail_less}
 use Rattle.flash_plan.proofs.TellingSteps.{failed_told, if_comes}
 use Rattle.flash_plan.specs.Telling.{AnswersSo, IsTold}
+use Rattle.flash_plan.proofs.WearSteps.{failed_credit, failed_skips}
 use Rattle.flash_plan.proofs.plans.FlashPlan.did.Goals as goal
 
 pub returns-else-reads-clause-steps : goal.returns-else-reads-clause-steps
@@ -85,3 +86,27 @@ returns-else-writes-clause-told c told h =
 pub returns-in-Failed-clause-told : goal.returns-in-Failed-clause-told
 returns-in-Failed-clause-told c told h =
     if_comes (IsTold told c.fail-in-Failed.new.self) told (operation_of c.args.self.now c.args.cells.now) c.args.outcome (failed_told told c.args.self.now c.fail-in-Failed.new.self c.fail-in-Failed.ensures.fails h)
+
+pub returns-then-reads-clause-wear : goal.returns-then-reads-clause-wear
+returns-then-reads-clause-wear c quiet = absurd (quiet (c.reads.ensures.0 c.if-reads.true))
+
+pub returns-else-reads-clause-wear : goal.returns-else-reads-clause-wear
+returns-else-reads-clause-wear c quiet = failed_credit (length c.args.cells.now) c.args.self.now c.fail.new.self c.args.cells.now c.fail.ensures.fails
+
+pub returns-then-writes-clause-wear : goal.returns-then-writes-clause-wear
+returns-then-writes-clause-wear c quiet = c.did_change.ensures.wear
+
+pub returns-else-writes-clause-wear : goal.returns-else-writes-clause-wear
+returns-else-writes-clause-wear c quiet = failed_credit (length c.args.cells.now) c.args.self.now c.fail-else-writes.new.self c.args.cells.now c.fail-else-writes.ensures.fails
+
+pub returns-in-Failed-clause-wear : goal.returns-in-Failed-clause-wear
+returns-in-Failed-clause-wear c quiet = failed_credit (length c.args.cells.now) c.args.self.now c.fail-in-Failed.new.self c.args.cells.now c.fail-in-Failed.ensures.fails
+
+pub returns-else-reads-clause-skips : goal.returns-else-reads-clause-skips
+returns-else-reads-clause-skips c h = failed_skips c.args.self.now c.fail.new.self c.fail.ensures.fails h
+
+pub returns-else-writes-clause-skips : goal.returns-else-writes-clause-skips
+returns-else-writes-clause-skips c h = failed_skips c.args.self.now c.fail-else-writes.new.self c.fail-else-writes.ensures.fails h
+
+pub returns-in-Failed-clause-skips : goal.returns-in-Failed-clause-skips
+returns-in-Failed-clause-skips c h = failed_skips c.args.self.now c.fail-in-Failed.new.self c.fail-in-Failed.ensures.fails h

@@ -9,6 +9,8 @@ use Rattle.flash_plan.specs.Plans.{step_left}
 use Rattle.flash_plan.proofs.LeftSteps.{copy_left, clear_left, fill_left}
 use Rattle.flash_plan.proofs.TellingSteps.{programmed_told}
 use Rattle.flash_plan.specs.Telling.{StepTold}
+use Rattle.flash_plan.proofs.WearSteps.{spent, copy_left_none, fill_left_none, cleared_pays}
+use Rattle.flash_plan.specs.Plans.{put_left, put_in}
 use Rattle.flash_plan.proofs.plans.FlashPlan.did_change.Goals as goal
 
 pub returns-in-Erasing-clause-steps : goal.returns-in-Erasing-clause-steps
@@ -74,3 +76,26 @@ returns-in-Clearing-clause-told c told h =
 pub returns-in-Filling-clause-told : goal.returns-in-Filling-clause-told
 returns-in-Filling-clause-told c told h =
     absurd (subst (λ (s : PlanStep). StepTold told c.args.self.now.banks c.args.self.now.places c.args.self.now.put c.args.self.now.best c.args.self.now.latest s) c.in-Filling.is h)
+
+pub returns-in-Erasing-clause-wear : goal.returns-in-Erasing-clause-wear
+returns-in-Erasing-clause-wear c =
+    spent c.args.self.now.banks c.args.self.now.places (length c.args.cells.now) (put_left (put_in c.args.self.now)) c.args.self.now.put c.args.cells.now c.args.self.now.step
+    (Copying c.in-Erasing.bank c.in-Erasing.generation 0) refl
+
+pub returns-in-Copying-clause-wear : goal.returns-in-Copying-clause-wear
+returns-in-Copying-clause-wear c =
+    spent c.args.self.now.banks c.args.self.now.places (length c.args.cells.now) (put_left (put_in c.args.self.now)) c.args.self.now.put c.args.cells.now c.args.self.now.step
+    c.after_program-self.result
+    (copy_left_none c.args.self.now.places (length c.args.cells.now) (length c.args.cells.now) c.args.self.now.banks c.in-Copying.bank c.in-Copying.generation c.in-Copying.done c.after_program-self.result refl
+    c.after_program-self.ensures.is)
+
+pub returns-in-Clearing-clause-wear : goal.returns-in-Clearing-clause-wear
+returns-in-Clearing-clause-wear c =
+    cleared_pays c.args.self.now.banks c.args.self.now.places (length c.args.cells.now) c.args.cells.now c.args.self.now.step c.args.self.now.put
+    c.in-Clearing.bank c.after_clearing-self.result c.in-Clearing.is c.after_clearing-self.ensures.is
+
+pub returns-in-Filling-clause-wear : goal.returns-in-Filling-clause-wear
+returns-in-Filling-clause-wear c =
+    spent c.args.self.now.banks c.args.self.now.places (length c.args.cells.now) (put_left (put_in c.args.self.now)) c.args.self.now.put c.args.cells.now c.args.self.now.step
+    c.after_filling-self.result
+    (fill_left_none c.args.self.now.places (length c.args.cells.now) (length c.args.cells.now) c.in-Filling.done c.after_filling-self.result c.after_filling-self.ensures.is)
