@@ -16,7 +16,7 @@ use bus_script::push_told;
 use bus_script::pushing::{push_number, push_word};
 use std::alloc::AllocError;
 use text_lines::words::Words;
-use trace_audit::place_of_hash;
+use can_logs::place_of_hash;
 
 /// What the digit of the flags is behind the first `#` of a frame.
 fn flags_behind_hash(rest: &[u8]) -> u8

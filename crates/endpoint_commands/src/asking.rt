@@ -7,7 +7,7 @@ use crate::rules::{FrameRule, place_of_rule};
 use memory_update::Request;
 use secoc_words::{key, two};
 use text_lines::words::Words;
-use trace_audit::{FrameBytes, log_frame};
+use can_logs::{FrameBytes, log_frame};
 
 /// What a line of a log asks for.
 #[derive(Drop)]

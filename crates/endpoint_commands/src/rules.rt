@@ -14,7 +14,7 @@ use std::alloc::Global;
 use text_lines::reader::{LineReader, expect_count, read_lines, value_at};
 use text_lines::words::Words;
 use text_lines::{Cause, LineFault, Memory, ScriptFault, forms};
-use trace_audit::{CanId, PayloadSize, can_id, has_data_can};
+use can_logs::{CanId, PayloadSize, can_id, has_data_can};
 
 /// The most lines that a map has.
 pub const MOST_RULES: usize = 512;

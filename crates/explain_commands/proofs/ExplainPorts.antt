@@ -6,18 +6,17 @@ use Rattle.bus_port.specs.Fault.{Rose}
 use Rattle.basics.proofs.CallerLemmas.{rose_after}
 use Rattle.bus_port.specs.Source.{SourceState, Came, HandsOut, ReadFails}
 use Rattle.bus_port.specs.Sink.{SinkState}
-use Rattle.bus_port.proofs.CallerLemmas.{Came-nothing, Came-more}
-use Rattle.bus_port.proofs.CallerLemmas.{Appended-more, Appended-nothing}
+use Rattle.bus_port.proofs.CallerLemmas.{Came-nothing, Came-more, Appended-more, Appended-nothing}
 use Rattle.bus_port.specs.Whole.{AppendedPart}
 use Rattle.program_edge.specs.Told.{AppendedWell, EndingTold}
 use Rattle.program_edge.proofs.CallerLemmas.{AppendedWell-more}
 use Rattle.program_edge.specs.Rows.{row_of}
 use Rattle.program_edge.specs.Inputs.{Reading}
 use Rattle.explain_commands.specs.declared.answers.LineAnswer.{LineAnswer}
-use Rattle.watch_maps.specs.WatchMaps.{NumberedMap}
+use Rattle.can_logs.specs.WatchMaps.{NumberedMap}
 use Rattle.explain_commands.specs.Explaining.{said_of, explained_lines, ExplainsComplete, ExplainsAll, explain_status}
-use Rattle.watch_maps.specs.LogRuns.{Writing, log_failed_text, log_too_long_text, Ports}
-use Rattle.watch_maps.proofs.CallerLemmas.{told_more}
+use Rattle.can_logs.specs.LogRuns.{Writing, log_failed_text, log_too_long_text, Ports}
+use Rattle.can_logs.proofs.CallerLemmas.{told_more}
 use Rattle.explain_commands.specs.ExplainStates.{ExplainState, Followed}
 use Rattle.explain_commands.specs.ExplainRows.{done, FailsOfExplained, failed, too_long, EndsExplained}
 use Rattle.explain_commands.specs.ExplainSteps.{ExplainSoFar}

@@ -9,26 +9,23 @@ use Rattle.std.proofs.lemmas.List.Elements.{filter_map-append}
 use Rattle.std.proofs.lemmas.List.Folds.{list_any-append}
 use Rattle.std.proofs.lemmas.List.Sums.{fold-append}
 use Rattle.basics.specs.FaultCount.{counted}
-use Rattle.trace_audit.specs.Auditing.{first_counters}
-use Rattle.trace_audit.specs.Pieces.{line_limit, log_lines, in_64_bits}
-use Rattle.trace_audit.proofs.CallerLemmas.{HasNoFeed, one_line, cut_more, take_twice, kept_whole, kept_long, one_more_line}
+use Rattle.can_logs.specs.Findings.{first_counters, channel_of}
+use Rattle.can_logs.specs.Pieces.{line_limit, log_lines, in_64_bits}
+use Rattle.can_logs.proofs.CallerLemmas.{HasNoFeed, one_line, cut_more, take_twice, kept_whole, kept_long, one_more_line}
 use Rattle.text_lines.specs.Lines.{words_of}
-use Rattle.watch_maps.specs.WatchMaps.{NumberedMap}
+use Rattle.can_logs.specs.WatchMaps.{NumberedMap}
 use Rattle.explain_commands.specs.declared.recent.Accepted.{Accepted}
 use Rattle.explain_commands.specs.declared.answers.LineAnswer.{LineAnswer}
 use Rattle.explain_commands.specs.declared.answers.LineAnswer.TheVariants as answer
-use Rattle.explain_commands.specs.Explaining.{Known, answer_line, answer_words, accepted_of, is_failure, accepted_in, recent_of, next_counters, counters_after, known_after, with_answer, answers_to, ExplainsAll, said_of, explained_lines, some_failed, have_risen, status_by, explain_status}
+use Rattle.explain_commands.specs.Explaining.{Known, answer_line, answer_words, accepted_of, is_failure, accepted_in, recent_of, next_counters, counters_after, known_after, with_answer, answers_to, ExplainsAll, said_of, explained_lines, some_failed, have_risen, status_by, explain_status, answer_by, frame_at, answer_line_at, answer_at, answer_frame}
 use Rattle.std.proofs.lemmas.Option.{slice_get_within}
-use Rattle.trace_audit.specs.declared.map_lines.MapLine.{MapLine}
-use Rattle.trace_audit.specs.declared.frames.LogFrame.{LogFrame}
-use Rattle.trace_audit.specs.Frames.{log_frame_of}
-use Rattle.trace_audit.specs.MapLines.{place_of_frame}
-use Rattle.trace_audit.specs.Auditing.{channel_of}
+use Rattle.can_logs.specs.declared.map_lines.MapLine.{MapLine}
+use Rattle.can_logs.specs.declared.frames.LogFrame.{LogFrame}
+use Rattle.can_logs.specs.Frames.{log_frame_of}
+use Rattle.can_logs.specs.MapLines.{place_of_frame}
 use Rattle.explain_commands.specs.Trials.{accepted_freshness}
 use Rattle.explain_commands.specs.Reasons.{Failing}
-use Rattle.explain_commands.specs.Explaining.{answer_by, frame_at, answer_line_at, answer_at, answer_frame}
-use Rattle.explain_commands.specs.ExplainStates.{IsPlacedAnswer}
-use Rattle.explain_commands.specs.ExplainStates.{ExplainState, known_by, answer_kept, after_answer, Followed, FollowsMore, end_explained}
+use Rattle.explain_commands.specs.ExplainStates.{IsPlacedAnswer, ExplainState, known_by, answer_kept, after_answer, Followed, FollowsMore, end_explained}
 
 -- ---- the answers to one more line
 

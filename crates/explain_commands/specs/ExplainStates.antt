@@ -1,13 +1,11 @@
 -- The state between two pieces of a log
 use Rattle.std.specs.Prelude.{◌≡◌, ℕ, ◌+◌, ◌<◌, Bool, true, List, [], ◌∷◌, ◌++◌, length, take}
-use Rattle.trace_audit.specs.Pieces.{line_limit, log_lines, in_64_bits}
-use Rattle.watch_maps.specs.WatchMaps.{NumberedMap}
+use Rattle.can_logs.specs.Pieces.{line_limit, log_lines, in_64_bits}
+use Rattle.can_logs.specs.WatchMaps.{NumberedMap}
 use Rattle.explain_commands.specs.declared.recent.Accepted.{Accepted}
 use Rattle.explain_commands.specs.declared.answers.LineAnswer.{LineAnswer}
 use Rattle.explain_commands.specs.declared.answers.LineAnswer.TheVariants as answer
-use Rattle.explain_commands.specs.Explaining.{Known, answer_line, recent_of, counters_after, answers_to}
-use Rattle.explain_commands.specs.Explaining.{explained_lines}
-use Rattle.explain_commands.specs.Explaining.{said_of, next_counters, some_failed, have_risen, status_by}
+use Rattle.explain_commands.specs.Explaining.{Known, answer_line, recent_of, counters_after, answers_to, explained_lines, said_of, next_counters, some_failed, have_risen, status_by}
 
 -- the map, the counters of its lines, and the frames that were accepted last; whether a frame failed; the line that no
 -- line feed has ended, as far as it is kept, and the number of lines before it; what is said of the last piece

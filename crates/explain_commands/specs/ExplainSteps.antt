@@ -3,8 +3,7 @@ use Rattle.std.specs.Prelude.{◌≡◌, ℕ, ◌<◌, List, [], ◌++◌, lengt
 use Rattle.bus_port.specs.Source.{Came}
 use Rattle.program_edge.specs.Told.{AppendedWell}
 use Rattle.program_edge.specs.Rows.{Row}
-use Rattle.trace_audit.specs.Rows.{AuditInputs}
-use Rattle.watch_maps.specs.LogRuns.{Writing, Ports}
+use Rattle.can_logs.specs.LogRuns.{LogInputs, Writing, Ports}
 use Rattle.explain_commands.specs.declared.answers.LineAnswer.{LineAnswer}
 use Rattle.explain_commands.specs.Explaining.{explained_lines}
 use Rattle.explain_commands.specs.ExplainStates.{ExplainState, Followed}
@@ -12,7 +11,7 @@ use Rattle.explain_commands.specs.ExplainRows.{EndsExplained, OverExplainMap, Ex
 
 -- how the words and the map end: in the state before the log, or in a row that comes on standard error, if nothing was
 -- written to standard output
-abbrev pub PreparesExplain : AuditInputs → Writing → Result ExplainState Row → Type 0
+abbrev pub PreparesExplain : LogInputs → Writing → Result ExplainState Row → Type 0
 PreparesExplain i output (Ok state) = OverExplainMap i (λ mapping. state.mapping ≡ mapping) × Followed state [] []
 PreparesExplain i output (Err row) = ExplainOnErrors i output row
 

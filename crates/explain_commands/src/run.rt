@@ -12,8 +12,8 @@ use crate::state::Explainer;
 use bus_port::{PortFailed, Sink, Source};
 use program_edge::{DONE, Refusal, WRITE_FAULT, tell, tell_refusal};
 use std::alloc::{AllocError, Global};
-use trace_audit::{PIECE, names_inputs};
-use watch_maps::{WatchOptions, is_only, read_watch_map};
+use can_logs::{PIECE, names_inputs};
+use can_logs::{is_only, read_watch_map};
 
 const USAGE: &str = "usage: explain MAP LOG\n";
 
@@ -115,7 +115,7 @@ fn prepare<S: Source>(alloc: Global, words: &[String], map: &mut S) -> Result<Ex
     if !names_inputs(words) {
         return Err(Refusal::fixed(2, USAGE));
     }
-    let map = read_watch_map(alloc, map, WatchOptions::none())?;
+    let map = read_watch_map(alloc, map)?;
     match Explainer::new(alloc, map) {
         Ok(explainer) => Ok(explainer),
         Err(AllocError) => Err(Refusal::no_memory()),

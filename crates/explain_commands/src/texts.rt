@@ -7,7 +7,7 @@ ghost use Rattle.explain_commands.specs.ReasonTexts.{reason_text, hedge, explain
 use crate::kinds::{Explained, Reason};
 use itoa::Buffer;
 use std::alloc::AllocError;
-use trace_audit::push_front;
+use can_logs::push_front;
 
 /// So many authenticators may be computed for a reason that is more than a guess.
 const CERTAIN: usize = 16_777;

@@ -7,7 +7,7 @@ ghost use Rattle.watch_commands.specs.WatchTotals.{line_head, last_text, total_l
 
 use itoa::Buffer;
 use text_lines::pushing::push_digits;
-use trace_audit::{FrameTally, MapLine, OtherLine, add_bytes};
+use can_logs::{FrameTally, MapLine, OtherLine, add_bytes};
 
 /// The numbers of a log, each in 64 bits.
 #[derive(Clone, Copy)]

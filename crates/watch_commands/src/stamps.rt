@@ -7,8 +7,8 @@ ghost use Rattle.watch_commands.specs.Stamps.{stamp_words, stamp_object, lead_te
 use std::marker::Model;
 use text_lines::pushing::push_digits;
 use text_lines::words::Words;
-use trace_audit::add_bytes;
-use watch_maps::WatchOptions;
+use can_logs::add_bytes;
+use crate::options::WatchOptions;
 
 /// The time and the channel of a line of a log: its first word, with its parentheses, and its second. Each is empty if
 /// the line hasn't the word.

@@ -2,7 +2,7 @@ use Rattle.std.proofs.Common.{[], ◌++◌, ◌∙◌, subst, sym, refl, arith}
 use Rattle.std.proofs.lemmas.List.{length-append}
 use Rattle.bus_port.specs.Source.{SourceState}
 use Rattle.bus_port.specs.Sink.{SinkState}
-use Rattle.watch_maps.specs.WatchMaps.{NumberedMap}
+use Rattle.can_logs.specs.WatchMaps.{NumberedMap}
 use Rattle.explain_commands.specs.ExplainRows.{FailsOfExplained, EndsExplained}
 use Rattle.explain_commands.proofs.ExplainPorts.{ExplainSoFar-none, Ends-too_long}
 use Rattle.explain_commands.proofs.run.explain_log.Goals as goal

@@ -3,7 +3,7 @@ use Rattle.std.specs.Prelude.{Ok}
 use Rattle.std.proofs.lemmas.List.{length-take}
 use Rattle.bus_port.specs.Source.{SourceState, HandsOut}
 use Rattle.bus_port.specs.Sink.{SinkState}
-use Rattle.watch_maps.specs.WatchMaps.{NumberedMap}
+use Rattle.can_logs.specs.WatchMaps.{NumberedMap}
 use Rattle.explain_commands.specs.ExplainRows.{FailsOfExplained, EndsExplained}
 use Rattle.explain_commands.proofs.ExplainPorts.{ExplainSoFar-more, ExplainStops-in, Ends-done, Ends-failed}
 use Rattle.explain_commands.proofs.run.next_piece.Goals as goal

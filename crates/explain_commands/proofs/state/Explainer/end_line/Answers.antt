@@ -1,6 +1,6 @@
 use Rattle.std.proofs.Common.{◌≡◌, ℕ, [], ◌∷◌, length, sym, ap, ◌∙◌, subst}
 use Rattle.basics.specs.FaultCount.{counted}
-use Rattle.watch_maps.specs.WatchMaps.{NumberedMap}
+use Rattle.can_logs.specs.WatchMaps.{NumberedMap}
 use Rattle.explain_commands.specs.ExplainStates.{ExplainState, FollowsMore, answer_kept, after_answer, IsPlacedAnswer}
 use Rattle.explain_commands.specs.contracts.state.Explainer.{the_view}
 use Rattle.explain_commands.proofs.Following.{Followed-ends, ended, same_mapping}

@@ -1,5 +1,5 @@
 use Rattle.std.proofs.Common.{refl, ap, ◌∙◌}
-use Rattle.trace_audit.specs.Auditing.{first_counters}
+use Rattle.can_logs.specs.Findings.{first_counters}
 use Rattle.explain_commands.proofs.Following.{Followed-none}
 use Rattle.explain_commands.proofs.state.Explainer.new.Goals as goal
 
