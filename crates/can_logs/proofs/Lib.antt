@@ -1,12 +1,10 @@
 pub mod Digits
-pub mod Cutting
 pub mod LineFindings
 pub mod Rising
 pub mod Windows
 pub mod OneFinding
 pub mod Noting
 pub mod Places
-pub mod Tellings
 pub mod MapPhases
 pub mod MapWindows
 pub mod MapVectors

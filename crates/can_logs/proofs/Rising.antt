@@ -8,7 +8,6 @@ use Rattle.secoc_words.specs.Counting.{KeepsCounters}
 use Rattle.secoc_words.specs.Counting as counting
 use Rattle.can_logs.specs.declared.map_lines.MapLine.{MapLine}
 use Rattle.can_logs.specs.Findings.{Finding, other, too_short, verdict, finding_accepts, first_counters, counter_of_place, AuditsLine}
-use Rattle.trace_audit.specs.Auditing.{more}
 
 -- what is accepted is above the counter of its place
 pub above : (mapping : List MapLine) (c : ℕ → ℕ) (l : TextLine) (f : Finding) → AuditsLine mapping c l f

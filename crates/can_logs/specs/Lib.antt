@@ -1,6 +1,5 @@
 pub mod MapLines
 pub mod Frames
-pub mod Pieces
 pub mod Findings
 pub mod FindingSteps
 pub mod WatchMaps

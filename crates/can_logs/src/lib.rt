@@ -13,7 +13,6 @@ mod frames;
 pub mod laws;
 mod map_lines;
 mod maps;
-mod pieces;
 
 pub use arguments::{is_only, names_inputs};
 pub use faults::map_input_refusal;
@@ -24,4 +23,3 @@ pub use map_lines::{
     place_for, place_of,
 };
 pub use maps::{WatchMap, map_of_text, read_watch_map};
-pub use pieces::{PIECE, add_bytes, until_feed};

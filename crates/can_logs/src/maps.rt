@@ -14,9 +14,7 @@ ghost use Rattle.can_logs.specs.WatchMaps.{reached_can_form, watch_map_of, line_
 
 use crate::faults::{map_input_refusal, map_line_refusal};
 use crate::frames::has_data_can;
-use crate::map_lines::{
-    CanId, LineName, MOST_MAP_LINES, MapLine, Window, can_id, line_of_words,
-};
+use crate::map_lines::{CanId, LineName, MOST_MAP_LINES, MapLine, Window, can_id, line_of_words};
 use basics::Bytes;
 use bus_port::Source;
 use program_edge::{Refusal, read_input};

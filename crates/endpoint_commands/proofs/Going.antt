@@ -15,8 +15,8 @@ use Rattle.machine_runs.proofs.CallerLemmas.{Run-more}
 use Rattle.text_lines.specs.Lines.{is_line_feed, words_of}
 use Rattle.bus_machine.specs.declared.lines.Line.{Line}
 use Rattle.secoc_node.specs.State.{NodeState}
-use Rattle.can_logs.specs.Pieces.{line_limit, log_lines, in_64_bits}
-use Rattle.can_logs.proofs.CallerLemmas.{HasNoFeed, one_line, cut_more, take_twice, one_more_line}
+use Rattle.line_stream.specs.Pieces.{line_limit, log_lines, in_64_bits}
+use Rattle.line_stream.proofs.CallerLemmas.{HasNoFeed, one_line, cut_more, take_twice, one_more_line}
 use Rattle.endpoint_commands.specs.declared.rules.FrameRule.{FrameRule}
 use Rattle.endpoint_commands.specs.declared.asking.Asked.{Asked}
 use Rattle.endpoint_commands.specs.declared.counting.EndpointCounts.{EndpointCounts}

@@ -11,7 +11,7 @@ use Rattle.program_edge.proofs.CallerLemmas.{AppendedWell-more}
 use Rattle.program_edge.specs.Rows.{row_of}
 use Rattle.program_edge.specs.Inputs.{Reading}
 use Rattle.secoc_node.specs.State.{NodeState}
-use Rattle.can_logs.specs.Pieces.{in_64_bits}
+use Rattle.line_stream.specs.Pieces.{in_64_bits}
 use Rattle.can_logs.specs.LogRuns.{Writing, WatchEnding}
 use Rattle.endpoint_commands.specs.declared.rules.FrameRule.{FrameRule}
 use Rattle.endpoint_commands.specs.declared.endpoint.EndpointStop.{EndpointStop}

@@ -11,7 +11,7 @@ use Rattle.bus_machine.specs.declared.events.Event.{Event}
 use Rattle.bus_machine.specs.declared.events.Event.TheVariants as event
 use Rattle.can_logs.specs.declared.frames.LogFrame.{LogFrame}
 use Rattle.can_logs.specs.Frames.{log_frame_of}
-use Rattle.can_logs.specs.Pieces.{line_limit}
+use Rattle.line_stream.specs.Pieces.{line_limit}
 use Rattle.endpoint_commands.specs.declared.rules.FrameRule.{FrameRule}
 use Rattle.endpoint_commands.specs.declared.asking.Asked.{Asked}
 use Rattle.endpoint_commands.specs.declared.asking.Asked.TheVariants.{Nothing, Other, Frame, Load}

@@ -10,7 +10,7 @@ use Rattle.program_edge.specs.Told.{EndingTold}
 use Rattle.program_edge.specs.Endings.{Ending, PrintsWhole, SinkFailed}
 use Rattle.machine_runs.specs.Run.{Run, commands_in}
 use Rattle.secoc_node.specs.State.{NodeState}
-use Rattle.can_logs.specs.Pieces.{log_lines, in_64_bits}
+use Rattle.line_stream.specs.Pieces.{log_lines, in_64_bits}
 use Rattle.can_logs.specs.LogRuns.{IsUnwritten, WritesWhole, WatchEnding, on_output}
 use Rattle.endpoint_commands.specs.declared.rules.FrameRule.{FrameRule}
 use Rattle.endpoint_commands.specs.Running.{LineMoment, TakesLine, LinesDone, line_answer, answers_behind, closing_text, tells_failed_disk}

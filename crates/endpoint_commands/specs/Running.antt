@@ -7,7 +7,7 @@ use Rattle.bus_machine.specs.declared.lines.Line.{Line}
 use Rattle.bus_machine.specs.declared.lines.Line.TheVariants.{Refused}
 use Rattle.bus_machine.specs.declared.lines.Refusal.TheVariants.{MemoryFailure}
 use Rattle.secoc_node.specs.State.{NodeState}
-use Rattle.can_logs.specs.Pieces.{log_lines, in_64_bits}
+use Rattle.line_stream.specs.Pieces.{log_lines, in_64_bits}
 use Rattle.endpoint_commands.specs.declared.rules.FrameRule.{FrameRule}
 use Rattle.endpoint_commands.specs.declared.counting.EndpointCounts.{EndpointCounts}
 use Rattle.endpoint_commands.specs.declared.counting.LineKind.{LineKind}

@@ -11,7 +11,7 @@ use Rattle.bus_machine.specs.declared.lines.Line.TheVariants.{Refused}
 use Rattle.bus_machine.specs.declared.lines.Refusal.TheVariants.{BadLength}
 use Rattle.bus_script.specs.LineTexts.{told_words}
 use Rattle.secoc_node.specs.State.{NodeState}
-use Rattle.can_logs.specs.Pieces.{PutsPiece, line_limit, log_lines, in_64_bits}
+use Rattle.line_stream.specs.Pieces.{PutsPiece, line_limit, log_lines, in_64_bits}
 use Rattle.endpoint_commands.specs.declared.rules.FrameRule.{FrameRule}
 use Rattle.endpoint_commands.specs.declared.asking.Asked.{Asked}
 use Rattle.endpoint_commands.specs.declared.counting.EndpointCounts.{EndpointCounts}

@@ -27,7 +27,7 @@ use cell_store::CutCells;
 use cut_disk::CutDisk;
 use program_edge::{InputFault, Refusal, WRITE_FAULT, tell_refusal};
 use std::alloc::{AllocError, Global};
-use can_logs::PIECE;
+use line_stream::PIECE;
 
 const USAGE: &str = "usage: endpoint B MAP LOG DISK [IMAGE]\n";
 

@@ -16,7 +16,7 @@ use Rattle.explain_commands.specs.declared.answers.LineAnswer.{LineAnswer}
 use Rattle.can_logs.specs.WatchMaps.{NumberedMap}
 use Rattle.explain_commands.specs.Explaining.{said_of, explained_lines, ExplainsComplete, ExplainsAll, explain_status}
 use Rattle.can_logs.specs.LogRuns.{Writing, log_failed_text, log_too_long_text, Ports}
-use Rattle.can_logs.proofs.CallerLemmas.{told_more}
+use Rattle.line_stream.proofs.CallerLemmas.{told_more}
 use Rattle.explain_commands.specs.ExplainStates.{ExplainState, Followed}
 use Rattle.explain_commands.specs.ExplainRows.{done, FailsOfExplained, failed, too_long, EndsExplained}
 use Rattle.explain_commands.specs.ExplainSteps.{ExplainSoFar}

@@ -16,7 +16,7 @@ use Rattle.program_edge.specs.Inputs.{Reading, IsUnread, ReadsWhole, Lacks, Sour
 use Rattle.program_edge.proofs.CallerLemmas.{Lacks-whole, CountsFault-is, CountsTooMuch-is, Offers-is, Offers-whole, EndsInRow-at, EndsInRow-front, EndsInRow-rose, EndsInRow-only, EndsInRow-may, EndsInRow-well}
 use Rattle.program_edge.specs.Endings.{EndsInRow, EndsIn, MayEndIn, PrintsFront, SinkFailed, CountsWriteFault}
 use Rattle.can_logs.specs.declared.map_lines.MapLine.{MapLine}
-use Rattle.can_logs.specs.Pieces.{log_lines}
+use Rattle.line_stream.specs.Pieces.{log_lines}
 use Rattle.can_logs.specs.LogRuns.{LogInputs, NamesInputs, IsWatchMapFault, IsUnwritten, WritesWhole, WatchEnding, on_output, on_errors, log_failed_text, log_too_long_text, IsAnswer}
 use Rattle.can_logs.specs.MapFaults.{map_fault_text, map_input_text}
 use Rattle.can_logs.specs.WatchMaps.{NumberedMap, watch_map_of}

@@ -13,7 +13,7 @@ use Rattle.can_logs.specs.declared.frames.LogFrame.{LogFrame}
 use Rattle.can_logs.specs.Frames.{log_frame_of}
 use Rattle.can_logs.specs.MapLines.{place_of_frame}
 use Rattle.can_logs.specs.Findings.{channel_of, first_counters}
-use Rattle.can_logs.specs.Pieces.{line_limit, in_64_bits}
+use Rattle.line_stream.specs.Pieces.{line_limit, in_64_bits}
 use Rattle.can_logs.specs.WatchMaps.{NumberedMap}
 use Rattle.explain_commands.specs.declared.answers.LineAnswer.{LineAnswer}
 use Rattle.explain_commands.specs.declared.answers.LineAnswer.TheVariants as answer

@@ -10,8 +10,8 @@ use Rattle.std.proofs.lemmas.List.Folds.{list_any-append}
 use Rattle.std.proofs.lemmas.List.Sums.{fold-append}
 use Rattle.basics.specs.FaultCount.{counted}
 use Rattle.can_logs.specs.Findings.{first_counters, channel_of}
-use Rattle.can_logs.specs.Pieces.{line_limit, log_lines, in_64_bits}
-use Rattle.can_logs.proofs.CallerLemmas.{HasNoFeed, one_line, cut_more, take_twice, kept_whole, kept_long, one_more_line}
+use Rattle.line_stream.specs.Pieces.{line_limit, log_lines, in_64_bits}
+use Rattle.line_stream.proofs.CallerLemmas.{HasNoFeed, one_line, cut_more, take_twice, kept_whole, kept_long, one_more_line}
 use Rattle.text_lines.specs.Lines.{words_of}
 use Rattle.can_logs.specs.WatchMaps.{NumberedMap}
 use Rattle.explain_commands.specs.declared.recent.Accepted.{Accepted}

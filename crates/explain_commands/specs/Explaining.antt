@@ -8,7 +8,7 @@ use Rattle.can_logs.specs.declared.frames.LogFrame.{LogFrame}
 use Rattle.can_logs.specs.MapLines.{row_head, place_of_frame}
 use Rattle.can_logs.specs.Frames.{log_frame_of}
 use Rattle.can_logs.specs.Findings.{channel_of, first_counters}
-use Rattle.can_logs.specs.Pieces.{line_limit, log_lines, in_64_bits}
+use Rattle.line_stream.specs.Pieces.{line_limit, log_lines, in_64_bits}
 use Rattle.can_logs.specs.WatchMaps.{NumberedMap}
 use Rattle.explain_commands.specs.declared.recent.Accepted.{Accepted}
 use Rattle.explain_commands.specs.declared.answers.LineAnswer.{LineAnswer}

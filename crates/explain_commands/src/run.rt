@@ -12,7 +12,8 @@ use crate::state::Explainer;
 use bus_port::{PortFailed, Sink, Source};
 use program_edge::{DONE, Refusal, WRITE_FAULT, tell, tell_refusal};
 use std::alloc::{AllocError, Global};
-use can_logs::{PIECE, names_inputs};
+use can_logs::names_inputs;
+use line_stream::PIECE;
 use can_logs::{is_only, read_watch_map};
 
 const USAGE: &str = "usage: explain MAP LOG\n";

@@ -3,7 +3,7 @@ ghost use Rattle.std.specs.Prelude.{◌≡◌, ◌+◌, ◌<◌, ◌≤◌, ◌+
 ghost use Rattle.std.specs.List.{position_or_len};
 ghost use Rattle.program_edge.specs.Told.{EndingTold};
 ghost use Rattle.text_lines.specs.Lines.{is_line_feed};
-ghost use Rattle.can_logs.specs.Pieces.{PutsPiece};
+ghost use Rattle.line_stream.specs.Pieces.{PutsPiece};
 ghost use Rattle.explain_commands.specs.Explaining.{explained_lines, ExplainsAll, explain_status};
 ghost use Rattle.explain_commands.specs.Explaining.{has_risen_at, have_risen};
 ghost use Rattle.explain_commands.specs.ExplainStates.{Followed, FollowsMore, answer_kept, after_answer};
@@ -20,7 +20,8 @@ use std::alloc::{AllocError, Global};
 use std::marker::Model;
 use text_lines::span::Span;
 use text_lines::words::{Words, put_words};
-use can_logs::{PIECE, add_bytes, counters_of, until_feed};
+use can_logs::counters_of;
+use line_stream::{PIECE, add_bytes, until_feed};
 use can_logs::WatchMap;
 
 /// The most bytes of a line that is looked at, its line feed not counted.

@@ -11,7 +11,7 @@ use Rattle.can_logs.specs.declared.frames.LogFrame.{LogFrame}
 use Rattle.can_logs.specs.MapLines.{place_of_frame}
 use Rattle.can_logs.specs.Frames.{log_frame_of}
 use Rattle.can_logs.specs.Findings.{channel_of}
-use Rattle.can_logs.specs.Pieces.{line_limit, log_lines}
+use Rattle.line_stream.specs.Pieces.{line_limit, log_lines}
 use Rattle.can_logs.specs.WatchMaps.{NumberedMap}
 use Rattle.explain_commands.specs.declared.trials.KnownReceiver.{KnownReceiver}
 use Rattle.explain_commands.specs.Trials.{trial_with, agrees, accepted_freshness}

@@ -4,7 +4,7 @@ ghost use Rattle.std.specs.Prelude.{◌==◌, position, slice_get, option_and_th
 ghost use Rattle.std.specs.List.{position_or_len};
 ghost use Rattle.text_lines.specs.Lines.{is_line_feed};
 ghost use Rattle.text_lines.specs.Texts.{line};
-ghost use Rattle.can_logs.specs.Pieces.{log_lines};
+ghost use Rattle.line_stream.specs.Pieces.{log_lines};
 ghost use Rattle.locate_commands.specs.Locating.{asks_fresh, with_fresh, filled, filled_line, are_settled, is_settled};
 ghost use Rattle.locate_commands.specs.Locating.{fresh_by, fresh_of, fresh_at, before_first};
 
@@ -18,7 +18,8 @@ use text_lines::Memory;
 use text_lines::pushing::{push_digits, push_line};
 use text_lines::span::Span;
 use text_lines::words::{Words, put_words};
-use can_logs::{MapLine, until_feed};
+use can_logs::MapLine;
+use line_stream::until_feed;
 use can_logs::WatchMap;
 
 /// By what the FRESH of a line is found: the map with zeros, the log, and the values that are looked at.

@@ -10,7 +10,8 @@ use std::marker::Model;
 use text_lines::Memory;
 use text_lines::span::Span;
 use text_lines::words::{Words, put_words};
-use can_logs::{FrameBytes, MapLine, log_frame, place_for, until_feed};
+use can_logs::{FrameBytes, MapLine, log_frame, place_for};
+use line_stream::until_feed;
 
 /// The most bytes of a line that is looked at, its line feed not counted.
 const LINE_LIMIT: usize = 4096;

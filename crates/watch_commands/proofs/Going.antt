@@ -20,8 +20,9 @@ use Rattle.can_logs.specs.declared.findings.FrameTally.TheVariants as tally
 use Rattle.watch_commands.specs.declared.counts.WatchCounts.{WatchCounts}
 use Rattle.watch_commands.specs.WatchedMaps.{WatchedMap}
 use Rattle.can_logs.specs.Findings.{Finding, other, too_short, verdict, tally_of, finding_accepts, first_counters, counter_of_place, AuditsLine, is_accepted_tally}
-use Rattle.can_logs.proofs.CallerLemmas.{AuditsLine-same, HasNoFeed, one_line, cut_more, take_twice, kept_whole, kept_long, one_more_line}
-use Rattle.can_logs.specs.Pieces.{line_limit, log_lines, in_64_bits}
+use Rattle.can_logs.proofs.CallerLemmas.{AuditsLine-same}
+use Rattle.line_stream.proofs.CallerLemmas.{HasNoFeed, one_line, cut_more, take_twice, kept_whole, kept_long, one_more_line}
+use Rattle.line_stream.specs.Pieces.{line_limit, log_lines, in_64_bits}
 use Rattle.watch_commands.specs.Watching.{Found, stamped, findings_of, WatchesLine, WatchesEach, none, more, FindsAll, told_text, found_text}
 use Rattle.watch_commands.specs.Stamps.{stamp_of}
 use Rattle.watch_commands.proofs.Stamping.{findings_more, stamped_kept}

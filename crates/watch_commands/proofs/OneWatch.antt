@@ -6,7 +6,7 @@ use Rattle.can_logs.specs.declared.map_lines.MapLine.{MapLine}
 use Rattle.can_logs.specs.Findings.{Finding, counter_of_place}
 use Rattle.can_logs.proofs.CallerLemmas.{HaveWindows, same_finding}
 use Rattle.watch_commands.specs.Watching.{Found, stamped, findings_of, WatchesLine, WatchesEach, none, more}
-use Rattle.can_logs.specs.Pieces.{in_64_bits}
+use Rattle.line_stream.specs.Pieces.{in_64_bits}
 
 -- ---- what is found of a line
 

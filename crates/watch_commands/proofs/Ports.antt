@@ -19,7 +19,7 @@ use Rattle.watch_commands.specs.States.{WatchState, Watched}
 use Rattle.can_logs.specs.LogRuns.{Writing, ReadsToEnd, log_failed_text, log_too_long_text, Ports}
 use Rattle.watch_commands.specs.WatchRows.{done, FailsOfLog, failed, too_long, EndsLog}
 use Rattle.watch_commands.specs.WatchSteps.{SoFar}
-use Rattle.can_logs.proofs.CallerLemmas.{told_more}
+use Rattle.line_stream.proofs.CallerLemmas.{told_more}
 
 -- what is found of the complete lines, of a state
 pub complete_of : (watch : WatchState) (bytes : List ℕ) (findings : List Found) → Watched watch bytes findings → FindsComplete watch.mapping.lines bytes findings

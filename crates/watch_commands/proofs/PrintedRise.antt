@@ -9,7 +9,7 @@ use Rattle.program_edge.specs.Rows.{Row}
 use Rattle.program_edge.specs.Inputs.{IsUnread}
 use Rattle.can_logs.specs.LogRuns.{LogInputs, HasCome, Writing, WritesWhole, ending_of, WatchEnding}
 use Rattle.watch_commands.specs.WatchedMaps.{WatchedMap}
-use Rattle.can_logs.specs.Pieces.{log_lines}
+use Rattle.line_stream.specs.Pieces.{log_lines}
 use Rattle.watch_commands.specs.Watching.{Found, findings_of, FindsComplete, told_text, found_text}
 use Rattle.watch_commands.specs.WatchTotals.{totals_text}
 use Rattle.watch_commands.specs.Words.{AsksWatch}

@@ -2,8 +2,8 @@
 use Rattle.std.proofs.Common.{◌≡◌, ℕ, ◌+◌, ◌≤◌, List, [], ◌∷◌, ◌++◌, length, take, refl, sym, ◌∙◌, ap, subst, inl, inr}
 use Rattle.std.proofs.lemmas.List.{map-append}
 use Rattle.can_logs.specs.Findings.{Finding}
-use Rattle.can_logs.specs.Pieces.{line_limit}
-use Rattle.can_logs.proofs.CallerLemmas.{kept_whole}
+use Rattle.line_stream.specs.Pieces.{line_limit}
+use Rattle.line_stream.proofs.CallerLemmas.{kept_whole}
 use Rattle.watch_commands.specs.WatchedMaps.{WatchedMap}
 use Rattle.watch_commands.specs.Watching.{Found, stamped, findings_of, WatchesLine, found_text}
 

@@ -10,7 +10,7 @@ use Rattle.can_logs.specs.Findings.{Finding, other, finding_accepts, first_count
 use Rattle.can_logs.proofs.CallerLemmas.{Keeps, keeps_one, above}
 use Rattle.watch_commands.specs.Watching.{Found, findings_of, WatchesLine, WatchesEach, none, more}
 use Rattle.watch_commands.proofs.Stamping.{findings_more}
-use Rattle.can_logs.specs.Pieces.{in_64_bits}
+use Rattle.line_stream.specs.Pieces.{in_64_bits}
 
 -- what is found of one more line
 keeps_line : (mapping : List MapLine) (findings : List Finding) (number : ℕ) (bytes : List ℕ) (found : List Finding) → Keeps mapping findings

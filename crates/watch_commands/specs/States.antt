@@ -7,7 +7,7 @@ use Rattle.watch_commands.specs.declared.counts.WatchCounts.{WatchCounts}
 use Rattle.secoc_words.specs.Counting.{last_accepted}
 use Rattle.watch_commands.specs.WatchedMaps.{WatchedMap}
 use Rattle.can_logs.specs.Findings.{Finding, tally_of, finding_accepts, counter_of_place, is_accepted_tally}
-use Rattle.can_logs.specs.Pieces.{line_limit, log_lines, in_64_bits}
+use Rattle.line_stream.specs.Pieces.{line_limit, log_lines, in_64_bits}
 use Rattle.watch_commands.specs.Watching.{Found, stamped, findings_of, WatchesLine, WatchesEach, found_text}
 use Rattle.watch_commands.specs.WatchTotals.{counted_of, counts_of, is_failed_tally, is_accepted_at, is_failed_at, is_other_of, is_unmapped_line, is_other_frame, is_malformed_line, LineTotals, totals_text_of, are_heard}
 

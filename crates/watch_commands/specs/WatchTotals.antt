@@ -12,7 +12,7 @@ use Rattle.can_logs.specs.declared.findings.FrameTally.{FrameTally}
 use Rattle.can_logs.specs.declared.findings.FrameTally.TheVariants as tally
 use Rattle.watch_commands.specs.declared.counts.WatchCounts.{WatchCounts}
 use Rattle.can_logs.specs.MapLines.{row_head}
-use Rattle.can_logs.specs.Pieces.{in_64_bits}
+use Rattle.line_stream.specs.Pieces.{in_64_bits}
 use Rattle.watch_commands.specs.WatchedMaps.{WatchedMap}
 use Rattle.can_logs.specs.Findings.{Finding, is_accepted_tally, tally_of, counter_of_place}
 

@@ -9,7 +9,7 @@ use Rattle.watch_commands.specs.Objects.{finding_object}
 use Rattle.watch_commands.specs.WatchedMaps.{WatchedMap}
 use Rattle.watch_commands.specs.Stamps.{LineStamp, stamp_of, lead_text}
 use Rattle.can_logs.specs.Findings.{Finding, other, is_other, finding_text, tally_of, counter_of_place, AuditsLine, is_accepted_tally}
-use Rattle.can_logs.specs.Pieces.{line_limit, log_lines, in_64_bits}
+use Rattle.line_stream.specs.Pieces.{line_limit, log_lines, in_64_bits}
 
 -- what is found of a line: it is malformed if it is too long; nothing if it is skipped; else as for an audit
 abbrev pub WatchesLine : List MapLine → (ℕ → ℕ) → ℕ → List ℕ → List Finding → Type 0

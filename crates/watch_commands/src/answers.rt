@@ -8,7 +8,8 @@ ghost use Rattle.watch_commands.specs.Answers.{front_object, said_object, said_v
 use crate::options::WatchOptions;
 use crate::stamps::{Stamp, add_lead};
 use crate::task::WatchTask;
-use can_logs::{FrameTally, add_bytes};
+use can_logs::FrameTally;
+use line_stream::add_bytes;
 use itoa::Buffer;
 
 /// Adds what is printed of the answer to the line with this number of the log, in room for 320 bytes, and for 6 bytes

@@ -7,7 +7,8 @@ ghost use Rattle.watch_commands.specs.WatchTotals.{line_head, last_text, total_l
 
 use itoa::Buffer;
 use text_lines::pushing::push_digits;
-use can_logs::{FrameTally, MapLine, OtherLine, add_bytes};
+use can_logs::{FrameTally, MapLine, OtherLine};
+use line_stream::add_bytes;
 
 /// The numbers of a log, each in 64 bits.
 #[derive(Clone, Copy)]

@@ -13,7 +13,8 @@ use crate::options::{WatchOptions, inputs_of};
 use crate::state::Watch;
 use crate::task::WatchTask;
 use bus_port::{PortFailed, Sink, Source};
-use can_logs::{PIECE, is_only, names_inputs, read_watch_map};
+use can_logs::{is_only, names_inputs, read_watch_map};
+use line_stream::PIECE;
 use program_edge::{DONE, Refusal, WRITE_FAULT, tell, tell_refusal};
 use std::alloc::{AllocError, Global};
 

@@ -7,7 +7,7 @@ ghost use Rattle.watch_commands.specs.Stamps.{stamp_words, stamp_object, lead_te
 use std::marker::Model;
 use text_lines::pushing::push_digits;
 use text_lines::words::Words;
-use can_logs::add_bytes;
+use line_stream::add_bytes;
 use crate::options::WatchOptions;
 
 /// The time and the channel of a line of a log: its first word, with its parentheses, and its second. Each is empty if

@@ -6,7 +6,7 @@ ghost use Rattle.program_edge.specs.Told.{EndingTold};
 ghost use Rattle.text_lines.specs.Lines.{is_line_feed};
 ghost use Rattle.watch_commands.specs.Watching.{Found, findings_of, found_text, FindsAll};
 ghost use Rattle.watch_commands.specs.WatchTotals.{totals_text, watch_status, total_line_at, is_heard_at, are_heard};
-ghost use Rattle.can_logs.specs.Pieces.{PutsPiece};
+ghost use Rattle.line_stream.specs.Pieces.{PutsPiece};
 ghost use Rattle.watch_commands.specs.States.{Watched, FindsMore, JudgesLine, IsPlaced, counts_after};
 ghost use Rattle.watch_commands.specs.States.{raised_at, accepted_place, failed_place, totals_in, end_text, end_status};
 
@@ -20,7 +20,8 @@ use std::alloc::{AllocError, Global};
 use std::marker::Model;
 use text_lines::span::Span;
 use text_lines::words::{Words, put_words};
-use can_logs::{FrameTally, OtherLine, PIECE, add_bytes, counters_of, push_finding, until_feed};
+use can_logs::{FrameTally, OtherLine, counters_of, push_finding};
+use line_stream::{PIECE, add_bytes, until_feed};
 
 /// The most bytes of a line that is looked at, its line feed not counted.
 const LINE_LIMIT: usize = 4096;

@@ -17,7 +17,7 @@ use bus_port::{PortFailed, Sink, Source};
 use itoa::Buffer;
 use program_edge::{DONE, InputFault, Refusal, read_input, tell, tell_refusal};
 use std::alloc::{AllocError, Global};
-use can_logs::{PIECE, add_bytes};
+use line_stream::{PIECE, add_bytes};
 use watch_commands::{Watch, prepare};
 
 /// The status if the output isn't the kept text.

@@ -1,6 +1,6 @@
 use Rattle.std.proofs.Common.{ℕ, List, [], ◌∷◌, take, sym, ap, subst, arith}
 use Rattle.explain_commands.specs.ExplainStates.{ExplainState, FollowsMore}
-use Rattle.can_logs.proofs.CallerLemmas.{HasNoFeed, no_feed-front, through_feed}
+use Rattle.line_stream.proofs.CallerLemmas.{HasNoFeed, no_feed-front, through_feed}
 use Rattle.explain_commands.proofs.Following.{FollowsMore-keeps, FollowsMore-more}
 use Rattle.explain_commands.proofs.state.Explainer.look_at_front.Goals as goal
 

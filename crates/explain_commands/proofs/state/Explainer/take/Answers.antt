@@ -1,11 +1,11 @@
 use Rattle.std.proofs.Common.{◌≡◌, ◌++◌, sym, ap, ◌∙◌, subst}
 use Rattle.can_logs.specs.WatchMaps.{NumberedMap}
-use Rattle.can_logs.specs.Pieces.{PutsPiece}
+use Rattle.line_stream.specs.Pieces.{PutsPiece}
 use Rattle.explain_commands.specs.ExplainStates.{ExplainState, Followed}
 use Rattle.explain_commands.specs.Explaining.{explained_lines}
 use Rattle.explain_commands.specs.contracts.state.Explainer.{the_view}
 use Rattle.explain_commands.proofs.Following.{Followed-text}
-use Rattle.can_logs.proofs.CallerLemmas.{puts}
+use Rattle.line_stream.proofs.CallerLemmas.{puts}
 use Rattle.explain_commands.proofs.state.Explainer.take.Goals as goal
 
 pub returns-clause-goes_on : goal.returns-clause-goes_on

@@ -10,7 +10,7 @@ use Rattle.bus_port.proofs.CallerLemmas.{Appended-more}
 use Rattle.bus_port.specs.Whole.{AppendedPart}
 use Rattle.program_edge.specs.Told.{AppendedWell, EndingTold}
 use Rattle.program_edge.proofs.CallerLemmas.{AppendedWell-more}
-use Rattle.can_logs.specs.Pieces.{PutsPiece}
+use Rattle.line_stream.specs.Pieces.{PutsPiece}
 
 -- if no fault of the log was counted, its count didn't rise
 pub never_counted : {A : Type 0} (first later : SourceState) → later.faults ≡ first.faults → first.faults < later.faults → A

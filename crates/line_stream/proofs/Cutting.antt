@@ -8,7 +8,7 @@ use Rattle.std.proofs.lemmas.List.Splits.{slice_split_none, length-slice_split}
 use Rattle.std.proofs.lemmas.List.Sums.{position_or_len_is, fails_before_first, passes_at_first}
 use Rattle.std.proofs.Math.Seq.{take-append-add}
 use Rattle.text_lines.specs.Lines.{is_line_feed}
-use Rattle.can_logs.specs.Pieces.{log_lines}
+use Rattle.line_stream.specs.Pieces.{log_lines}
 
 -- the parts of a list and of the list after it: the last part of the one and the first of the other are one
 joined : List (List ℕ) → List (List ℕ) → List (List ℕ)
