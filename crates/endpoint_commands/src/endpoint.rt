@@ -14,13 +14,13 @@ use crate::turns::image_turn;
 use crate::words_answered::answer_words;
 use bus_port::{PortFailed, Sink, write_all};
 use cell_store::Cells;
+use line_stream::{add_bytes, until_feed};
 use program_edge::{DONE, tell};
 use secoc_node::Node;
 use std::alloc::{AllocError, Global};
 use std::marker::Model;
 use text_lines::span::Span;
 use text_lines::words::{Words, put_words};
-use line_stream::{add_bytes, until_feed};
 
 /// The most bytes of a line that is looked at, its line feed not counted.
 const LINE_LIMIT: usize = 4096;

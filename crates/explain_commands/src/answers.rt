@@ -6,9 +6,8 @@ ghost use Rattle.explain_commands.specs.Explaining.{answer_by, answer_words};
 use crate::kinds::{Case, Explained};
 use crate::reasons::explain;
 use crate::recent::{Accepted, Recent};
+use can_logs::{WatchMap, log_frame, place_for};
 use text_lines::words::Words;
-use can_logs::{log_frame, place_for};
-use can_logs::WatchMap;
 
 /// What is said of a line of a log.
 #[derive(Clone, Copy)]

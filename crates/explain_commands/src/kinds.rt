@@ -10,9 +10,8 @@ use crate::recent::{Accepted, Recent};
 use crate::trials::{
     Comparison, KnownReceiver, Making, accepted_freshness, trial_ahead, trial_with, trial_within,
 };
+use can_logs::{MapLine, WatchMap};
 use std::marker::Model;
-use can_logs::MapLine;
-use can_logs::WatchMap;
 
 /// How far beyond the window a freshness is looked for.
 const FAR: usize = 65536;

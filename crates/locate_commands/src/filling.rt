@@ -11,16 +11,15 @@ ghost use Rattle.locate_commands.specs.Locating.{fresh_by, fresh_of, fresh_at, b
 use crate::frames::FirstFrames;
 use crate::options::Candidates;
 use crate::searching::located;
+use can_logs::{MapLine, WatchMap};
 use explain_commands::receiver_of;
+use line_stream::until_feed;
 use std::alloc::Global;
 use std::marker::Model;
 use text_lines::Memory;
 use text_lines::pushing::{push_digits, push_line};
 use text_lines::span::Span;
 use text_lines::words::{Words, put_words};
-use can_logs::MapLine;
-use line_stream::until_feed;
-use can_logs::WatchMap;
 
 /// By what the FRESH of a line is found: the map with zeros, the log, and the values that are looked at.
 #[derive(Drop)]

@@ -10,10 +10,10 @@ ghost use Rattle.locate_commands.specs.LocateSteps.{PreparesLocate, DoesLocate};
 use crate::filling::{Filled, Finder, fill};
 use crate::options::{Candidates, asked};
 use bus_port::{Sink, Source};
+use can_logs::{WatchMap, map_input_refusal, map_of_text};
 use program_edge::{InputFault, Refusal, read_input, tell, tell_refusal};
 use std::alloc::Global;
 use text_lines::Memory;
-use can_logs::{WatchMap, map_input_refusal, map_of_text};
 
 const USAGE: &str = "usage: explain --locate [--from N] [--to N] MAP LOG\n";
 

@@ -86,4 +86,3 @@ pub Audited-same : (mapping : List MapLine) (lines lines' : List TextLine) (coun
 Audited-same mapping lines lines' counters counters' text others lines_are counters_are done =
     subst (λ (ls : List TextLine). Audited mapping ls counters' text others) (sym lines_are)
     (subst (λ (cs : List ℕ). Audited mapping lines cs text others) (sym counters_are) done)
-

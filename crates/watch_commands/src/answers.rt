@@ -9,8 +9,8 @@ use crate::options::WatchOptions;
 use crate::stamps::{Stamp, add_lead};
 use crate::task::WatchTask;
 use can_logs::FrameTally;
-use line_stream::add_bytes;
 use itoa::Buffer;
+use line_stream::add_bytes;
 
 /// Adds what is printed of the answer to the line with this number of the log, in room for 320 bytes, and for 6 bytes
 /// for each byte of the line's stamp. The answer is empty if no line of the map judged it. It takes no memory.

@@ -15,13 +15,13 @@ use crate::counts::{LineCounts, WatchCounts, add_counts, add_line_counts};
 use crate::stamps::Stamp;
 use crate::task::WatchTask;
 use bus_port::{PortFailed, Sink, write_all};
+use can_logs::{FrameTally, OtherLine, counters_of, push_finding};
+use line_stream::{PIECE, add_bytes, until_feed};
 use program_edge::tell;
 use std::alloc::{AllocError, Global};
 use std::marker::Model;
 use text_lines::span::Span;
 use text_lines::words::{Words, put_words};
-use can_logs::{FrameTally, OtherLine, counters_of, push_finding};
-use line_stream::{PIECE, add_bytes, until_feed};
 
 /// The most bytes of a line that is looked at, its line feed not counted.
 const LINE_LIMIT: usize = 4096;

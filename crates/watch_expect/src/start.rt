@@ -10,8 +10,7 @@ use crate::run::run_expected;
 use bus_port::{Sink, Source};
 use program_edge::{MissingSource, Opener, WordSource, open_two, open_word};
 use std::alloc::Global;
-use watch_commands::watch_words;
-use watch_commands::{inputs_of, kept_file};
+use watch_commands::{inputs_of, kept_file, watch_words};
 
 /// Watches what two arguments name, the map first, or compares what is found with the file that `--expect` names. It
 /// gives the status that the program ends with, and the sources of the kept text, the map and the log as the run left
