@@ -1,6 +1,6 @@
 -- What comes of a log, and what is printed of it
-use Rattle.std.proofs.Common.{◌≡◌, ℕ, ◌+◌, ◌<◌, ◌≤◌, List, [], ◌∷◌, ◌++◌, length, take, refl, sym, ◌∙◌, ap, subst, inl, inr, append_assoc}
-use Rattle.std.specs.Prelude.{◌⊎◌, Ok, Err}
+use Rattle.std.proofs.Common.{◌≡◌, ℕ, ◌+◌, ◌<◌, ◌≤◌, List, [], ◌∷◌, ◌++◌, length, take, refl, sym, ◌∙◌, ap, subst, inl, inr}
+use Rattle.std.specs.Prelude.{Ok, Err}
 use Rattle.std.proofs.lemmas.Grind.{flat_map-append}
 use Rattle.basics.proofs.CallerLemmas.{rose_after}
 use Rattle.bus_port.specs.Sink.{SinkState, Appended}
@@ -11,17 +11,16 @@ use Rattle.program_edge.specs.Rows.{row_of}
 use Rattle.program_edge.specs.Inputs.{Reading}
 use Rattle.program_edge.proofs.CallerLemmas.{AppendedWell-more}
 use Rattle.line_stream.specs.Pieces.{log_lines}
-use Rattle.line_stream.specs.Streams.{TakesNext, TakesLines, Paused, EndsStream, StopsStream, TakesAllThatCame, Streamed}
+use Rattle.line_stream.specs.Streams.{TakesLines, Paused, EndsStream, StopsStream, Streamed}
 use Rattle.line_stream.specs.declared.driver.StreamFault.{StreamFault}
 use Rattle.line_stream.specs.declared.driver.StreamFault.TheVariants.{ReadFault, TooLong}
-use Rattle.line_stream.proofs.CallerLemmas.{TakesLines-keeps, Paused-keeps}
+use Rattle.line_stream.proofs.CallerLemmas.{TakesLines-keeps, Paused-keeps, told_more}
 use Rattle.can_logs.specs.WatchMaps.{NumberedMap}
 use Rattle.can_logs.specs.LogRuns.{Writing, log_failed_text, log_too_long_text}
-use Rattle.line_stream.proofs.CallerLemmas.{told_more}
 use Rattle.explain_commands.specs.declared.answers.LineAnswer.{LineAnswer}
 use Rattle.explain_commands.specs.Explaining.{said_of, explained_lines, ExplainsComplete, answers_to, explain_status}
-use Rattle.explain_commands.specs.ExplainStates.{ExplainState, IsFresh, end_explained, ExplainerAtSink, ExplainsLine, PrintsText, TellsText}
-use Rattle.explain_commands.specs.ExplainRows.{done, FailsOfExplained, failed, too_long, ExplainStops, EndsExplained}
+use Rattle.explain_commands.specs.ExplainStates.{ExplainState, IsFresh, ExplainerAtSink, ExplainsLine, PrintsText, TellsText}
+use Rattle.explain_commands.specs.ExplainRows.{done, FailsOfExplained, failed, too_long, EndsExplained}
 use Rattle.explain_commands.proofs.Following.{KnowsAnswers, KnowsAnswers-none, KnowsAnswers-text, end_explained_is, WithinPiece, WithinPiece-none, WithinPiece-more}
 
 -- at a pause what is said of all complete lines is printed

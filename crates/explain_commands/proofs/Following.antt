@@ -23,10 +23,9 @@ use Rattle.can_logs.specs.WatchMaps.{NumberedMap}
 use Rattle.explain_commands.specs.declared.recent.Accepted.{Accepted}
 use Rattle.explain_commands.specs.declared.answers.LineAnswer.{LineAnswer}
 use Rattle.explain_commands.specs.declared.answers.LineAnswer.TheVariants as answer
-use Rattle.explain_commands.specs.Explaining.{Known, answer_line, answer_words, accepted_of, is_failure, accepted_in, recent_of, next_counters, counters_after, known_after, with_answer, answers_to, said_of, explained_lines, some_failed, have_risen, status_by, explain_status}
+use Rattle.explain_commands.specs.Explaining.{Known, answer_line, answer_words, accepted_of, is_failure, accepted_in, recent_of, next_counters, counters_after, known_after, with_answer, answers_to, said_of, explained_lines, some_failed, have_risen, status_by, explain_status, answer_by, frame_at, answer_line_at, answer_at, answer_frame}
 use Rattle.explain_commands.specs.Trials.{accepted_freshness}
 use Rattle.explain_commands.specs.Reasons.{Failing}
-use Rattle.explain_commands.specs.Explaining.{answer_by, frame_at, answer_line_at, answer_at, answer_frame}
 use Rattle.explain_commands.specs.ExplainStates.{ExplainState, known_by, IsPlacedAnswer, after_answer, IsFresh, end_explained, ExplainerAtSink, ExplainsLine}
 
 -- ---- the answers to one more line

@@ -8,8 +8,7 @@ use Rattle.can_logs.specs.WatchMaps.{NumberedMap}
 use Rattle.explain_commands.specs.declared.recent.Accepted.{Accepted}
 use Rattle.explain_commands.specs.declared.answers.LineAnswer.{LineAnswer}
 use Rattle.explain_commands.specs.declared.answers.LineAnswer.TheVariants as answer
-use Rattle.explain_commands.specs.Explaining.{Known, answer_line}
-use Rattle.explain_commands.specs.Explaining.{said_of, next_counters, have_risen, status_by}
+use Rattle.explain_commands.specs.Explaining.{Known, answer_line, said_of, next_counters, have_risen, status_by}
 
 -- the map, the counters of its lines, and the frames that were accepted last; whether a frame failed; what is said of
 -- the last lines

@@ -6,7 +6,7 @@ use Rattle.basics.proofs.CallerLemmas.{rose_after}
 use Rattle.bus_port.specs.Source.{SourceState, Came, HandsOut, ReadFails}
 use Rattle.bus_port.proofs.CallerLemmas.{Came-nothing, Came-more}
 use Rattle.line_stream.specs.Pieces.{in_64_bits}
-use Rattle.line_stream.specs.Streams.{kept_of, TakesNext, Paused, before_log, after_piece, EndsStream, StopsStream, Streamed}
+use Rattle.line_stream.specs.Streams.{TakesNext, before_log, after_piece, Streamed}
 use Rattle.line_stream.specs.declared.driver.StreamFault.TheVariants.{ReadFault, TooLong}
 use Rattle.line_stream.specs.Unended.{UnendedState, TakesComplete, StopsInBytes, EndsAfterLast, StreamSoFar}
 use Rattle.line_stream.proofs.TakingOn.{IsUnendedOf-none, next_number}

@@ -1,8 +1,7 @@
-use Rattle.std.proofs.Common.{◌≡◌, ◌<◌, ◌≤◌, ℕ, List, length, take, sym, subst, arith}
-use Rattle.std.specs.Prelude.{Ok}
+use Rattle.std.proofs.Common.{◌<◌, ℕ, List, length, take, subst, arith}
 use Rattle.std.proofs.lemmas.List.{length-take}
 use Rattle.bus_port.specs.Source.{HandsOut}
-use Rattle.line_stream.proofs.StreamPorts.{StreamSoFar-more, Stops-pause, Stops-line, Ends-log, Fails-log}
+use Rattle.line_stream.proofs.StreamPorts.{StreamSoFar-more, Stops-pause, Stops-line, Ends-log}
 use Rattle.line_stream.proofs.driver.next_piece.Goals as goal
 
 pub returns-then-count-eq0-clause-turns : goal.returns-then-count-eq0-clause-turns

@@ -1,6 +1,5 @@
-use Rattle.std.proofs.Common.{◌≤◌, ℕ, List, [], ◌++◌, length, ◌∙◌, subst, sym, ap, refl, arith}
+use Rattle.std.proofs.Common.{[], ◌++◌, length, ◌∙◌, subst, sym, ap, refl, arith}
 use Rattle.std.proofs.lemmas.List.{length-append, length-take}
-use Rattle.line_stream.specs.Streams.{kept_of}
 use Rattle.line_stream.specs.Unended.{UnendedState, StreamSoFar}
 use Rattle.line_stream.proofs.StreamPorts.{StreamSoFar-none, Too-long}
 use Rattle.line_stream.proofs.driver.stream_lines.Goals as goal

@@ -1,7 +1,5 @@
 use Rattle.std.proofs.Common.{◌≡◌, ℕ, ◌+◌, ◌≤◌, ◌++◌, List, [], ◌∷◌, length, take, drop, sym, ap, ◌∙◌, subst, arith, append_assoc, length-append}
-use Rattle.std.specs.Prelude.{Ok, Err}
 use Rattle.std.proofs.lemmas.List.{length-take, take-append-drop}
-use Rattle.basics.specs.FaultCount.{counted}
 use Rattle.line_stream.proofs.Cutting.{HasNoFeed, no_feed-front, through_feed}
 use Rattle.line_stream.specs.Unended.{UnendedState, TakesComplete, StopsInBytes}
 use Rattle.line_stream.proofs.TakingOn.{TakesComplete-keeps, TakesComplete-ends, TakesComplete-more, StopsInBytes-ends, StopsInBytes-more}
