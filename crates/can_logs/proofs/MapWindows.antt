@@ -4,6 +4,7 @@ use Rattle.std.specs.Prelude.{nat_le, nat_lt, if◌then◌else◌, None, Err, op
 use Rattle.std.proofs.lemmas.Option.{same_Some}
 use Rattle.std.proofs.lemmas.List.Elements.{All-nil}
 use Rattle.secured_pdu.specs.Frame.{IsWindow}
+use Rattle.secured_pdu.specs.declared.frame.TheConstants.{WIDEST_WINDOW}
 use Rattle.text_lines.specs.Forms.{number_form}
 use Rattle.text_lines.specs.Lines.{lines_of}
 use Rattle.text_lines.specs.Readings.{◌>>=◌, field, nth_word}
@@ -20,9 +21,9 @@ abbrev window_in : MapLine → Result MapLine Cause → ℕ
 window_in other (Ok l) = l.window
 window_in other (Err fault) = other.window
 
-chosen_window : (left_out : Bool) (word : List ℕ) (window : ℕ) → (if left_out then Some 256 else number_form 1 256 word) ≡ Some window → IsWindow window
-chosen_window true word window h = subst IsWindow (same_Some 256 window h) (omega arith, omega arith)
-chosen_window false word window h = number_in_range 1 256 word window h
+chosen_window : (left_out : Bool) (word : List ℕ) (window : ℕ) → (if left_out then Some WIDEST_WINDOW else number_form 1 WIDEST_WINDOW word) ≡ Some window → IsWindow window
+chosen_window true word window h = subst IsWindow (same_Some WIDEST_WINDOW window h) (omega arith, omega arith)
+chosen_window false word window h = number_in_range 1 WIDEST_WINDOW word window h
 
 -- a mark leaves the window as it is
 optional_mark-window : (is_there : Bool) (number : ℕ) (l m : MapLine)

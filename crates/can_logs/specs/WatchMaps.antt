@@ -3,6 +3,7 @@
 use Rattle.std.specs.Prelude.{◌≡◌, ℕ, ◌+◌, ◌==◌, ◌&&◌, ◌||◌, not, nat_le, nat_lt, Bool, true, false, if◌then◌else◌, List, length, take, drop, map, slice_index, codes, bytes_eq, is_none, Option, None, Some, option_map, option_and_then, Result, Ok, Err}
 use Rattle.std.specs.List.{list_all, list_any, position_or_len}
 use Rattle.std.specs.Char.{is_ascii_alphanumeric}
+use Rattle.secured_pdu.specs.declared.frame.TheConstants.{WIDEST_WINDOW}
 use Rattle.text_lines.specs.declared.fault.Cause.{Cause}
 use Rattle.text_lines.specs.declared.fault.Cause.TheVariants as cause
 use Rattle.text_lines.specs.Forms.{number_form}
@@ -32,9 +33,9 @@ abbrev pub own_channel : ℕ → List (List ℕ) → Option (List ℕ)
 own_channel count words =
     if nat_lt count 7 || bytes_eq (nth_word words 7) (codes "-") then None else Some (nth_word words 7)
 
--- WINDOW: 1 to 256, and 256 if the word is left out
+-- WINDOW: 1 to the widest, which it is if the word is left out
 abbrev pub own_window : ℕ → List (List ℕ) → Option ℕ
-own_window count words = if nat_lt count 6 then Some 256 else number_form 1 256 (nth_word words 6)
+own_window count words = if nat_lt count 6 then Some WIDEST_WINDOW else number_form 1 WIDEST_WINDOW (nth_word words 6)
 
 -- what the first hears the second can't miss: a line that hears every channel, or the same one
 abbrev pub hears_all_of : Option (List ℕ) → Option (List ℕ) → Bool

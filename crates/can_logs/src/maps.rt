@@ -125,7 +125,7 @@ fn channel_of(alloc: Global, words: &Words<'_>, count: usize) -> Result<Option<B
     Ok(Some(Bytes::of(Vec::from_slice(alloc, words.word(7))?)))
 }
 
-/// The window of a line of so many words: 256 if the word is left out.
+/// The window of a line of so many words: the widest if the word is left out.
 fn window_of(words: &Words<'_>, count: usize) -> Option<Window>
     requires { count ≤ length words.now }
     ensures { result ≡ own_window count words.now }
@@ -133,7 +133,7 @@ fn window_of(words: &Words<'_>, count: usize) -> Option<Window>
     if count < 6 {
         return Some(Window::of(WIDEST_WINDOW));
     }
-    let size = forms::number(words.word(6), 1, 256)?;
+    let size = forms::number(words.word(6), 1, u64::from(WIDEST_WINDOW))?;
     Some(Window::of(size as u16))
 }
 

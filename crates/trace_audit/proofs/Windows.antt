@@ -4,6 +4,7 @@ use Rattle.std.specs.Prelude.{◌==◌}
 use Rattle.std.proofs.lemmas.Option.{same_Some}
 use Rattle.std.proofs.lemmas.List.Elements.{All-nil}
 use Rattle.secured_pdu.specs.Frame.{IsWindow}
+use Rattle.secured_pdu.specs.declared.frame.TheConstants.{WIDEST_WINDOW}
 use Rattle.text_lines.specs.Lines.{lines_of}
 use Rattle.text_lines.specs.Readings.{nth_word}
 use Rattle.text_lines.proofs.CallerLemmas.{counted_ok, All-read_from}
@@ -17,9 +18,9 @@ map_line_of-window : (before : List MapLine) (words : List (List ℕ)) (l : MapL
 unfolding map_line_of
 map_line_of-window before words l h =
     let can : Option (List ℕ) = new_can_form before (nth_word words 1) in
-    let is : Some 256 ≡ Some l.window =
-    line_with-window can (Some 256) None words l (counted_ok (length words == 5) (line_with can (Some 256) None words) l h) in
-    subst IsWindow (same_Some 256 l.window is) (omega arith, omega arith)
+    let is : Some WIDEST_WINDOW ≡ Some l.window =
+    line_with-window can (Some WIDEST_WINDOW) None words l (counted_ok (length words == 5) (line_with can (Some WIDEST_WINDOW) None words) l h) in
+    subst IsWindow (same_Some WIDEST_WINDOW l.window is) (omega arith, omega arith)
 
 pub map_of-windows : (text : List ℕ) (mapping : List MapLine) → map_of text ≡ Ok mapping → HaveWindows mapping
 unfolding map_of

@@ -1,5 +1,6 @@
 -- The map of an audit: its lines, each with a CAN identifier of its own
 use Rattle.std.specs.Prelude.{ℕ, if◌then◌else◌, List, Option, None, Some, option_and_then, is_some, Result}
+use Rattle.secured_pdu.specs.declared.frame.TheConstants.{WIDEST_WINDOW}
 use Rattle.text_lines.specs.declared.fault.Cause.{Cause}
 use Rattle.text_lines.specs.Readings.{Fault, nth_word, with_count, read_all}
 use Rattle.can_logs.specs.declared.map_lines.MapLine.{MapLine}
@@ -13,7 +14,7 @@ new_can_form before word =
 -- a line of the map of an audit: it has the widest window, and hears every channel
 unfoldable pub map_line_of : List MapLine → List (List ℕ) → Result MapLine Cause
 map_line_of before words =
-    with_count 5 words (line_with (new_can_form before (nth_word words 1)) (Some 256) None words)
+    with_count 5 words (line_with (new_can_form before (nth_word words 1)) (Some WIDEST_WINDOW) None words)
 
 -- the lines of a map, or its first fault
 unfoldable pub map_of : List ℕ → Result (List MapLine) Fault
