@@ -6,7 +6,7 @@ use Rattle.std.specs.Str.{bytes_eq}
 use Rattle.text_lines.specs.declared.fault.Cause.{Cause}
 use Rattle.secoc_words.specs.Forms.{key_form, data_id_form, fresh_form}
 use Rattle.text_lines.specs.Forms.{number_form}
-use Rattle.text_lines.specs.Readings.{nth_word, field}
+use Rattle.text_lines.specs.Readings.{◌>>=◌, nth_word, field}
 use Rattle.can_logs.specs.declared.map_lines.MapLine.{MapLine}
 
 -- three or eight hexadecimal digits of either case
