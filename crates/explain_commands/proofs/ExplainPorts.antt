@@ -19,7 +19,7 @@ use Rattle.can_logs.specs.WatchMaps.{NumberedMap}
 use Rattle.can_logs.specs.LogRuns.{Writing, log_failed_text, log_too_long_text}
 use Rattle.explain_commands.specs.declared.answers.LineAnswer.{LineAnswer}
 use Rattle.explain_commands.specs.Explaining.{said_of, explained_lines, ExplainsComplete, answers_to, explain_status}
-use Rattle.explain_commands.specs.ExplainStates.{ExplainState, IsFresh, ExplainerAtSink, ExplainsLine, PrintsText, TellsText}
+use Rattle.explain_commands.specs.ExplainStates.{ExplainState, IsFreshExplainer, ExplainerAtSink, ExplainsLine, PrintsText, TellsExplained}
 use Rattle.explain_commands.specs.ExplainRows.{done, FailsOfExplained, failed, too_long, EndsExplained}
 use Rattle.explain_commands.proofs.Following.{KnowsAnswers, KnowsAnswers-none, KnowsAnswers-text, end_explained_is, WithinPiece, WithinPiece-none, WithinPiece-more}
 
@@ -30,7 +30,7 @@ record AtPause (mapping : NumberedMap) (start : SinkState) (bytes : List ℕ) (l
   pub prints : AppendedWell start p.sink (explained_lines mapping (answers_to mapping lines))
   pub finds : ExplainsComplete mapping bytes (answers_to mapping lines)
 
-module _ (fresh : ExplainState) (start : SinkState) (is_fresh : IsFresh fresh) where
+module _ (fresh : ExplainState) (start : SinkState) (is_fresh : IsFreshExplainer fresh) where
   abbrev mapping : NumberedMap
   mapping = fresh.mapping
 
@@ -78,7 +78,7 @@ module _ (fresh : ExplainState) (start : SinkState) (is_fresh : IsFresh fresh) w
     abbrev written : Writing
     written = record { before = start; after = now.sink }
 
-    ends_log : (status : ℕ) → EndsStream ExplainsLine PrintsText TellsText log begun now status → EndsExplained mapping log written (Ok status)
+    ends_log : (status : ℕ) → EndsStream ExplainsLine PrintsText TellsExplained log begun now status → EndsExplained mapping log written (Ok status)
     ends_log status d = elim d.ended [
       | inr stopped ↦ absurd stopped
       | inl (taken, takes_last, told) ↦
@@ -126,16 +126,16 @@ module _ (fresh : ExplainState) (start : SinkState) (is_fresh : IsFresh fresh) w
     ]
 
     -- a log that was taken to its end, or until the sink failed
-    pub Ends-taken : (status : ℕ) → Streamed ExplainsLine PrintsText TellsText log begun now (Ok status) → EndsExplained mapping log written (Ok status)
+    pub Ends-taken : (status : ℕ) → Streamed ExplainsLine PrintsText TellsExplained log begun now (Ok status) → EndsExplained mapping log written (Ok status)
     Ends-taken status (inl ends) = ends_log status ends
     Ends-taken status (inr stops) = stops_log status stops
 
-    pub Ends-failed : (fault : StreamFault) → fault ≡ ReadFault → Streamed ExplainsLine PrintsText TellsText log begun now (Err fault) → FailsOfExplained mapping log written (row_of 5 log_failed_text)
+    pub Ends-failed : (fault : StreamFault) → fault ≡ ReadFault → Streamed ExplainsLine PrintsText TellsExplained log begun now (Err fault) → FailsOfExplained mapping log written (row_of 5 log_failed_text)
     Ends-failed fault is streamed =
-        let d = subst (λ (f : StreamFault). Streamed ExplainsLine PrintsText TellsText log begun now (Err f)) is streamed in
+        let d = subst (λ (f : StreamFault). Streamed ExplainsLine PrintsText TellsExplained log begun now (Err f)) is streamed in
         let at = at_pause d.bytes d.lines now d.paused in failed d.bytes (answers_to mapping d.lines) d.came at.finds d.holds at.prints
 
-    pub Ends-too_long : (fault : StreamFault) → fault ≡ TooLong → Streamed ExplainsLine PrintsText TellsText log begun now (Err fault) → FailsOfExplained mapping log written (row_of 8 log_too_long_text)
+    pub Ends-too_long : (fault : StreamFault) → fault ≡ TooLong → Streamed ExplainsLine PrintsText TellsExplained log begun now (Err fault) → FailsOfExplained mapping log written (row_of 8 log_too_long_text)
     Ends-too_long fault is streamed =
-        let d = subst (λ (f : StreamFault). Streamed ExplainsLine PrintsText TellsText log begun now (Err f)) is streamed in
+        let d = subst (λ (f : StreamFault). Streamed ExplainsLine PrintsText TellsExplained log begun now (Err f)) is streamed in
         let at = at_pause d.bytes d.lines now d.paused in too_long d.bytes (answers_to mapping d.lines) d.came at.finds d.holds.0 d.holds.1 at.prints

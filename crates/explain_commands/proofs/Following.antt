@@ -26,7 +26,7 @@ use Rattle.explain_commands.specs.declared.answers.LineAnswer.TheVariants as ans
 use Rattle.explain_commands.specs.Explaining.{Known, answer_line, answer_words, accepted_of, is_failure, accepted_in, recent_of, next_counters, counters_after, known_after, with_answer, answers_to, said_of, explained_lines, some_failed, have_risen, status_by, explain_status, answer_by, frame_at, answer_line_at, answer_at, answer_frame}
 use Rattle.explain_commands.specs.Trials.{accepted_freshness}
 use Rattle.explain_commands.specs.Reasons.{Failing}
-use Rattle.explain_commands.specs.ExplainStates.{ExplainState, known_by, IsPlacedAnswer, after_answer, IsFresh, end_explained, ExplainerAtSink, ExplainsLine}
+use Rattle.explain_commands.specs.ExplainStates.{ExplainState, known_by, IsPlacedAnswer, after_answer, IsFreshExplainer, end_explained, ExplainerAtSink, ExplainsLine}
 
 -- ---- the answers to one more line
 
@@ -167,7 +167,7 @@ pub record KnowsAnswers (mapping : NumberedMap) (lines : List (List ℕ)) (s : E
   pub failed_is : s.failed ≡ some_failed (answers_to mapping lines)
 
 -- before the log
-pub KnowsAnswers-none : (s : ExplainState) → IsFresh s → KnowsAnswers s.mapping [] s
+pub KnowsAnswers-none : (s : ExplainState) → IsFreshExplainer s → KnowsAnswers s.mapping [] s
 unfolding answers_to
 KnowsAnswers-none s fresh = record { same = refl; counters_are = fresh.0; recent_are = fresh.1; failed_is = fresh.2 }
 

@@ -38,8 +38,8 @@ after_answer s (answer.Failed number place e) =
     record s { failed = true; text = s.text ++ said_of s.mapping (answer.Failed number place e) }
 
 -- nothing was answered yet
-abbrev pub IsFresh : ExplainState → Type 0
-IsFresh s = (s.counters ≡ first_counters s.mapping.lines) × (s.recent ≡ []) × (s.failed ≡ false) × (s.text ≡ [])
+abbrev pub IsFreshExplainer : ExplainState → Type 0
+IsFreshExplainer s = (s.counters ≡ first_counters s.mapping.lines) × (s.recent ≡ []) × (s.failed ≡ false) × (s.text ≡ [])
 
 -- the status at the end of a log, of a state
 abbrev pub end_explained : ExplainState → ℕ
@@ -65,6 +65,6 @@ PrintsText before after result = PutsPiece before.sink after.sink before.explain
     × (after.explainer ≡ record before.explainer { text = [] }) × IfErr result (λ status. status ≡ 6)
 
 -- the end of the log: the text is printed, and the status is that of all answers
-abbrev pub TellsText : ExplainerAtSink → ExplainerAtSink → ℕ → Type 0
-TellsText before after status =
+abbrev pub TellsExplained : ExplainerAtSink → ExplainerAtSink → ℕ → Type 0
+TellsExplained before after status =
     EndingTold before.sink after.sink before.explainer.text (end_explained before.explainer) status

@@ -1,6 +1,6 @@
 //! Lines of a log that are explained on a sink.
 ghost use Rattle.std.specs.Prelude.{◌≡◌, ◌+◌, ◌*◌, ◌≤◌, [], ◌∷◌, length};
-ghost use Rattle.explain_commands.specs.ExplainStates.{ExplainerAtSink, ExplainsLine, PrintsText, TellsText};
+ghost use Rattle.explain_commands.specs.ExplainStates.{ExplainerAtSink, ExplainsLine, PrintsText, TellsExplained};
 
 use crate::state::Explainer;
 use bus_port::{PortFailed, Sink, write_all};
@@ -29,7 +29,7 @@ impl<'a, K: Sink> LineTaker for ExplainPort<'a, K> {
 
     ghost pauses = { PrintsText };
 
-    ghost ends = { TellsText };
+    ghost ends = { TellsExplained };
 
     fn take(&mut self, number: u64, line: &[u8]) -> Result<(), u8> {
         self.explainer.take(number, line);

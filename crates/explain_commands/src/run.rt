@@ -2,7 +2,7 @@
 ghost use Rattle.std.specs.Prelude.{◌≡◌, map as each, None, string_bytes};
 ghost use Rattle.bus_port.specs.Source.{SourceState};
 ghost use Rattle.bus_port.specs.Sink.{SinkState};
-ghost use Rattle.explain_commands.specs.ExplainStates.{IsFresh};
+ghost use Rattle.explain_commands.specs.ExplainStates.{IsFreshExplainer};
 ghost use Rattle.explain_commands.specs.ExplainRows.{EndsExplained, EndsExplainUntold, explain_text_asked};
 ghost use Rattle.explain_commands.specs.Explains.{Explains};
 ghost use Rattle.explain_commands.specs.ExplainSteps.{PreparesExplain};
@@ -128,7 +128,7 @@ fn explain_log<T: Source, K: Sink>(
     log: &mut T,
     sink: &mut K,
 ) -> Result<u8, Refusal>
-    requires { IsFresh explainer.old }
+    requires { IsFreshExplainer explainer.old }
     ensures { EndsExplained explainer.old.mapping (record { before = T.state log.old; after = T.state log.new })
         (record { before = K.state sink.old; after = K.state sink.new }) result }
 {

@@ -3,7 +3,7 @@ ghost use Rattle.std.specs.Prelude.{◌≡◌, ◌+◌, ◌<◌, ◌≤◌, [], 
 ghost use Rattle.std.specs.List.{position_or_len};
 ghost use Rattle.text_lines.specs.Lines.{is_line_feed};
 ghost use Rattle.explain_commands.specs.Explaining.{answer_line, has_risen_at, have_risen};
-ghost use Rattle.explain_commands.specs.ExplainStates.{IsFresh, known_by, after_answer};
+ghost use Rattle.explain_commands.specs.ExplainStates.{IsFreshExplainer, known_by, after_answer};
 ghost use Rattle.explain_commands.specs.ExplainStates.{IsPlacedAnswer, end_explained};
 ghost use Rattle.explain_commands.specs.declared.answers.LineAnswer.TheVariants as answer;
 
@@ -61,7 +61,7 @@ impl Explainer {
     /// Before the log, by the lines of a map.
     pub(crate) fn new(alloc: Global, map: WatchMap) -> Result<Explainer, AllocError>
         ensures mapping { IfOk result (λ explainer. explainer.mapping ≡ map) }
-        ensures before { IfOk result IsFresh }
+        ensures before { IfOk result IsFreshExplainer }
     {
         let counters = counters_of(alloc, map.lines())?;
         let recent = Recent::new(alloc)?;
