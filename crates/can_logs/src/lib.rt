@@ -1,8 +1,8 @@
 //! Logs of a CAN bus, and maps that say which frames of a bus are Secured I-PDUs, under which key and from which
 //! freshness on (AUTOSAR SecOC, profile 1).
 //!
-//! [`log_frame`] gives the data frame of a line of a log, as `candump` of can-utils writes it. [`read_watch_map`] reads a
-//! map with the numbers of its lines; a map that isn't taken has the row of its first fault. Each map has the windows
+//! [`log_frame`] gives the data frame of a line of a log, as `candump` of can-utils writes it. [`read_watch_map`] reads
+//! a map with the numbers of its lines; a map that isn't taken has the row of its first fault. Each map has the windows
 //! that it asks for ([`laws`]). [`push_finding`] adds what is found of one line of a log by the lines of a map.
 #![tactic(auto)]
 

@@ -39,7 +39,8 @@ after_answer s (answer.Failed number place e) =
 
 -- nothing was answered yet
 abbrev pub IsFreshExplainer : ExplainState → Type 0
-IsFreshExplainer s = (s.counters ≡ first_counters s.mapping.lines) × (s.recent ≡ []) × (s.failed ≡ false) × (s.text ≡ [])
+IsFreshExplainer s =
+    (s.counters ≡ first_counters s.mapping.lines) × (s.recent ≡ []) × (s.failed ≡ false) × (s.text ≡ [])
 
 -- the status at the end of a log, of a state
 abbrev pub end_explained : ExplainState → ℕ

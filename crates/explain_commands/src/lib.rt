@@ -2,8 +2,8 @@
 //!
 //! [`run_explain`] prints, for each frame of a log that fails, the first reason that holds and how many authenticators
 //! were computed to find it, with the record `Explains`; [`explain_words`] does so over the sources that the arguments
-//! name. [`explain`] gives the reason for one frame. [`Recent`] keeps the frames that were accepted last, 65,536 at most.
-//! The lines of the log come from the driver of `line_stream`: all memory is taken before the log.
+//! name. [`explain`] gives the reason for one frame. [`Recent`] keeps the frames that were accepted last, 65,536 at
+//! most. The driver of `line_stream` hands over the lines of the log. All memory is taken before the log.
 #![tactic(auto)]
 
 mod answers;

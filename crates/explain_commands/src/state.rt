@@ -91,7 +91,7 @@ impl Explainer {
         self.text.clear();
     }
 
-    /// Takes a line, of which 4,097 bytes at most are kept, and adds why its frame fails, if it does. It takes no memory.
+    /// Takes a line, and adds why its frame fails, if it does. It takes no memory.
     pub(crate) fn take(&mut self, number: u64, line: &[u8])
         requires one { position_or_len is_line_feed line.now ≡ length line.now }
         requires room { length self.old.text + 320 ≤ 1311040 }

@@ -26,10 +26,10 @@ TakesLines takes count before [] after = after ≡ before
 TakesLines {S} takes count before (line ∷ lines) after =
     (mid : S) × TakesNext takes count before line mid (Ok tt) × TakesLines takes (count + 1) mid lines after
 
--- ANSWERS BEFORE THE NEXT READ. `Paused .. start bytes lines now`: these bytes came, these are their complete lines, and
--- the taker is about to see the log read on. Before the log nothing came. Then piece by piece, each of 4,096 bytes at
--- most: the lines that the piece completed were taken, one after another, and the taker paused. Only then the next
--- piece was asked for. `rest` is what no line feed has ended yet.
+-- Answers before the next read. `Paused takes pauses start bytes lines now`: these bytes came, all their complete lines
+-- were taken, and the log is read next. Before the log nothing came. Then came piece after piece, each of 4,096 bytes
+-- at most: the taker took the lines that the piece completed, one after another, and then it paused. Only after that
+-- the next piece was asked for. `rest` is what no line feed has ended yet.
 pub data Paused {S E : Type 0} (takes : S → ℕ → List ℕ → S → Result (Unit {0}) E → Type 0)
     (pauses : S → S → Result (Unit {0}) E → Type 0) (start : S) : List ℕ → List (List ℕ) → S → Type 0 where
   before_log : Paused takes pauses start [] [] start
@@ -85,7 +85,7 @@ pub record TakesAllThatCame {S E : Type 0} (takes : S → ℕ → List ℕ → S
   pub lines : List (List ℕ)
   pub paused : Paused takes pauses start bytes lines now
 
--- how a log was taken: to its end, or up to where the taker ended it; or the log failed, or 2^64 - 1 bytes and more came
+-- how a log was taken: to its end, or to where the taker ended it; or the log failed, or 2^64 - 1 bytes and more came
 abbrev pub Streamed : {S E : Type 0} → (S → ℕ → List ℕ → S → Result (Unit {0}) E → Type 0)
     → (S → S → Result (Unit {0}) E → Type 0) → (S → S → E → Type 0) → Reading → S → S → Result E StreamFault → Type 0
 Streamed takes pauses ends log start now (Ok end) =

@@ -1,5 +1,6 @@
 -- The line that no line feed has ended yet, and what the steps of the driver say to one another
-use Rattle.std.specs.Prelude.{◌≡◌, ◌⊎◌, ℕ, ◌+◌, ◌<◌, ◌≤◌, List, [], ◌∷◌, ◌++◌, length, take, Result, Ok, Err, Option, None, Some}
+use Rattle.std.specs.Prelude.{◌≡◌, ◌⊎◌, ℕ, ◌+◌, ◌<◌, ◌≤◌, List, [], ◌∷◌, ◌++◌, length, take}
+use Rattle.std.specs.Prelude.{Result, Ok, Err, Option, None, Some}
 use Rattle.basics.specs.FaultCount.{counted}
 use Rattle.bus_port.specs.Source.{Came}
 use Rattle.program_edge.specs.Inputs.{Reading}
@@ -20,8 +21,8 @@ pub record IsUnendedOf (u : UnendedState) (bytes : List ℕ) (lines : List (List
   pub lines_are : u.lines ≡ in_64_bits (length lines)
 
 -- each line was taken that is complete with these bytes more
-abbrev pub TakesComplete : {S E : Type 0} → (S → ℕ → List ℕ → S → Result (Unit {0}) E → Type 0) → UnendedState → S → List ℕ
-    → UnendedState → S → Type 0
+abbrev pub TakesComplete : {S E : Type 0} → (S → ℕ → List ℕ → S → Result (Unit {0}) E → Type 0) → UnendedState → S
+    → List ℕ → UnendedState → S → Type 0
 TakesComplete takes old before piece new after =
     (bytes : List ℕ) (lines : List (List ℕ)) → IsUnendedOf old bytes lines → (more : List (List ℕ))
     × IsUnendedOf new (bytes ++ piece) (lines ++ more) × TakesLines takes (length lines) before more after
@@ -39,8 +40,8 @@ pub record StopsWithin {S E : Type 0} (takes : S → ℕ → List ℕ → S → 
   pub stops : TakesNext takes (length lines + length more) taken line after (Err end)
 
 -- the same of the lines that are complete with these bytes more
-abbrev pub StopsInBytes : {S E : Type 0} → (S → ℕ → List ℕ → S → Result (Unit {0}) E → Type 0) → UnendedState → S → List ℕ
-    → S → E → Type 0
+abbrev pub StopsInBytes : {S E : Type 0} → (S → ℕ → List ℕ → S → Result (Unit {0}) E → Type 0) → UnendedState → S
+    → List ℕ → S → E → Type 0
 StopsInBytes takes old before piece after end =
     (bytes : List ℕ) (lines : List (List ℕ)) → IsUnendedOf old bytes lines
     → StopsWithin takes before (bytes ++ piece) lines after end

@@ -35,8 +35,8 @@ pub trait LineTaker {
     fn take(&mut self, number: u64, line: &[u8]) -> Result<(), Self::End>
         requires one { position_or_len is_line_feed line.now ≡ length line.now }
         requires room { HasLineRoom ready self.old (length line.now) 1 }
-        ensures ready { OnOk result ((bytes feeds : ℕ) → ready self.old bytes feeds → length line.now ≤ bytes → 0 < feeds
-            → ready self.new (bytes - length line.now) (feeds - 1)) }
+        ensures ready { OnOk result ((bytes feeds : ℕ) → ready self.old bytes feeds → length line.now ≤ bytes
+            → 0 < feeds → ready self.new (bytes - length line.now) (feeds - 1)) }
         ensures borrows { borrows self.new ≡ borrows self.old }
         ensures takes { takes (state self.old) number line.now (state self.new) result };
 
