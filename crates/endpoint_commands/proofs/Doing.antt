@@ -5,7 +5,7 @@ use Rattle.bus_port.specs.Sink.{SinkState}
 use Rattle.bus_port.proofs.CallerLemmas.{Appended-nothing}
 use Rattle.program_edge.specs.Told.{AppendedWell}
 use Rattle.program_edge.specs.Inputs.{Reading}
-use Rattle.watch_maps.specs.LogRuns.{WatchEnding}
+use Rattle.can_logs.specs.LogRuns.{WatchEnding}
 use Rattle.machine_runs.specs.Run.{Run}
 use Rattle.cut_disk.specs.State.{DiskState}
 use Rattle.bus_machine.specs.declared.events.Event.TheVariants as event

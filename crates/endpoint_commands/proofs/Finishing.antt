@@ -10,7 +10,7 @@ use Rattle.program_edge.specs.Told.{AppendedWell, EndingTold}
 use Rattle.program_edge.proofs.CallerLemmas.{AppendedWell-more}
 use Rattle.machine_runs.specs.Run.{Run}
 use Rattle.secoc_node.specs.State.{NodeState}
-use Rattle.trace_audit.specs.Pieces.{in_64_bits}
+use Rattle.line_stream.specs.Pieces.{in_64_bits}
 use Rattle.endpoint_commands.specs.declared.rules.FrameRule.{FrameRule}
 use Rattle.endpoint_commands.specs.Counting.{counts_line}
 use Rattle.endpoint_commands.specs.Running.{LineMoment, TakesLine, line_answer, closing_text, counts_of_lines}

@@ -15,8 +15,8 @@ use Rattle.machine_runs.proofs.CallerLemmas.{Run-more}
 use Rattle.text_lines.specs.Lines.{is_line_feed, words_of}
 use Rattle.bus_machine.specs.declared.lines.Line.{Line}
 use Rattle.secoc_node.specs.State.{NodeState}
-use Rattle.trace_audit.specs.Pieces.{line_limit, log_lines, in_64_bits}
-use Rattle.trace_audit.proofs.CallerLemmas.{HasNoFeed, one_line, cut_more, take_twice, one_more_line}
+use Rattle.line_stream.specs.Pieces.{line_limit, log_lines, in_64_bits}
+use Rattle.line_stream.proofs.CallerLemmas.{HasNoFeed, one_line, cut_more, take_twice, one_more_line}
 use Rattle.endpoint_commands.specs.declared.rules.FrameRule.{FrameRule}
 use Rattle.endpoint_commands.specs.declared.asking.Asked.{Asked}
 use Rattle.endpoint_commands.specs.declared.counting.EndpointCounts.{EndpointCounts}
@@ -25,8 +25,7 @@ use Rattle.endpoint_commands.specs.declared.endpoint.EndpointStop.{EndpointStop}
 use Rattle.endpoint_commands.specs.declared.endpoint.EndpointStop.TheVariants.{SinkFailed, DiskFailed}
 use Rattle.endpoint_commands.specs.Asking.{asked_of, event_asked}
 use Rattle.endpoint_commands.specs.Lines.{answer_text}
-use Rattle.endpoint_commands.specs.Running.{LineMoment, DoesEvent, TakesLine, LinesDone, line_answer, answers_behind}
-use Rattle.endpoint_commands.specs.Running.{tells_failed_disk, kind_of_line, count_of_kind, counts_of_lines}
+use Rattle.endpoint_commands.specs.Running.{LineMoment, DoesEvent, TakesLine, LinesDone, line_answer, answers_behind, tells_failed_disk, kind_of_line, count_of_kind, counts_of_lines}
 use Rattle.endpoint_commands.specs.Counting.{kind_asked, counts_sent, counts_accepted, counts_refused, counts_other, counts_with, count_up}
 use Rattle.endpoint_commands.specs.States.{EndpointState, LogBehind, LogGoesOn, TakesPiece, StopsBehind, StopsWith, AnswersKept, LineEnded, EndsLine}
 use Rattle.endpoint_commands.proofs.KeptLine.{asked_long}

@@ -7,7 +7,7 @@ use Rattle.bus_port.specs.Whole.{AppendedPart}
 use Rattle.program_edge.specs.Inputs.{Reading, SourceFailed}
 use Rattle.program_edge.specs.Endings.{SinkFailed}
 use Rattle.secoc_node.specs.State.{NodeState}
-use Rattle.watch_maps.specs.LogRuns.{IsUnwritten, WritesWhole, WatchEnding, on_output, on_errors}
+use Rattle.can_logs.specs.LogRuns.{IsUnwritten, WritesWhole, WatchEnding, on_output, on_errors}
 use Rattle.endpoint_commands.specs.declared.rules.FrameRule.{FrameRule}
 use Rattle.endpoint_commands.specs.Running.{LineMoment, answers_behind, closing_text, tells_failed_disk}
 use Rattle.endpoint_commands.specs.Logs.{EndsBehind, TellsBehind, Unfailed, answer_behind, LogRead, LinesRead, StopsAt, by_sink, by_disk, EndsLines, done, failed, too_long, stopped, stopped_last}

@@ -8,7 +8,7 @@ use Rattle.cut_disk.specs.State.{DiskState}
 use Rattle.file_disk.specs.NamedDisks.{TellsFirmBytes, IsOpenedBy, DisksAreNamed, OpenedByWords}
 use Rattle.program_edge.specs.Inputs.{Reading}
 use Rattle.program_edge.specs.Endings.{EndsIn, EndsInRow}
-use Rattle.watch_maps.specs.LogRuns.{IsUnwritten, WatchEnding, on_errors}
+use Rattle.can_logs.specs.LogRuns.{IsUnwritten, WatchEnding, on_errors}
 use Rattle.bus_config.specs.Buses.{NamedBus}
 use Rattle.bus_world.specs.declared.start.Start.TheVariants.{Attach}
 use Rattle.bus_world.specs.StartAnswers.{DiskStates, ComesUnstarted}

@@ -11,8 +11,8 @@ use Rattle.program_edge.proofs.CallerLemmas.{AppendedWell-more}
 use Rattle.program_edge.specs.Rows.{row_of}
 use Rattle.program_edge.specs.Inputs.{Reading}
 use Rattle.secoc_node.specs.State.{NodeState}
-use Rattle.trace_audit.specs.Pieces.{in_64_bits}
-use Rattle.watch_maps.specs.LogRuns.{Writing, WatchEnding}
+use Rattle.line_stream.specs.Pieces.{in_64_bits}
+use Rattle.can_logs.specs.LogRuns.{Writing, WatchEnding}
 use Rattle.endpoint_commands.specs.declared.rules.FrameRule.{FrameRule}
 use Rattle.endpoint_commands.specs.declared.endpoint.EndpointStop.{EndpointStop}
 use Rattle.endpoint_commands.specs.declared.endpoint.EndpointStop.TheVariants.{SinkFailed, DiskFailed}

@@ -9,7 +9,7 @@ use Rattle.program_edge.specs.Rows.{Row}
 use Rattle.program_edge.specs.Inputs.{IsUnread, SourceFailed, CountsFault, CountsTooMuch}
 use Rattle.program_edge.specs.Endings.{EndsIn, EndsInRow, SinkFailed, CountsWriteFault}
 use Rattle.program_edge.proofs.CallerLemmas.{EndsInRow-more, EndsInRow-at, EndsInRow-front, EndsInRow-rose, EndsInRow-well, EndsInRow-only, EndsInRow-may}
-use Rattle.watch_maps.specs.LogRuns.{IsUnwritten, WatchEnding, on_output, on_errors}
+use Rattle.can_logs.specs.LogRuns.{IsUnwritten, WatchEnding, on_output, on_errors}
 use Rattle.bus_config.specs.Buses.{NamedBus}
 use Rattle.bus_world.specs.declared.start.Start.TheVariants.{Attach}
 use Rattle.bus_world.specs.Starts.{HasRoom, FindsRoom}
@@ -21,8 +21,7 @@ use Rattle.endpoint_commands.specs.declared.rules.FrameRule.{FrameRule}
 use Rattle.endpoint_commands.specs.Rows.{EndpointInputs, OverEndpoint, SetsEndpoint, HasMapFault, ComesBeforeLog, OffersEndpoint}
 use Rattle.endpoint_commands.specs.Logs.{Unfailed}
 use Rattle.endpoint_commands.specs.Promises.{opening_of, DidEndpoint, DoesEndpoint, not_started, did, ComesUnlogged, of_inputs, unstarted, EndsEndpoint}
-use Rattle.endpoint_commands.specs.Table.{AnswersWholeLog, AnswersComplete, LogFailsFirst, StopsAtDisk, FirstDiskFailed, HoldsNoStore, TellsText, TellsEndpointUsage, TellsRefused, by_fault, by_nodes, by_image}
-use Rattle.endpoint_commands.specs.Table.{RefusesEndpoint, TellsEndpointPorts, TellsEndpointDisk, RunsEndpoint}
+use Rattle.endpoint_commands.specs.Table.{AnswersWholeLog, AnswersComplete, LogFailsFirst, StopsAtDisk, FirstDiskFailed, HoldsNoStore, TellsText, TellsEndpointUsage, TellsRefused, by_fault, by_nodes, by_image, RefusesEndpoint, TellsEndpointPorts, TellsEndpointDisk, RunsEndpoint}
 use Rattle.endpoint_commands.proofs.RowTells.{pick, Tells3, Tells4, Tells9, Tells10, unlogged, tells_at, row_range, row_failure}
 use Rattle.endpoint_commands.proofs.LogTells.{TellsFirst, LogTells, booted_tells}
 use Rattle.endpoint_commands.proofs.FaultCounts.{ran_calm, ran_rose, ran_quiet}

@@ -10,11 +10,10 @@ use Rattle.program_edge.specs.Told.{EndingTold}
 use Rattle.program_edge.specs.Endings.{Ending, PrintsWhole, SinkFailed}
 use Rattle.machine_runs.specs.Run.{Run, commands_in}
 use Rattle.secoc_node.specs.State.{NodeState}
-use Rattle.trace_audit.specs.Pieces.{log_lines, in_64_bits}
-use Rattle.watch_maps.specs.LogRuns.{IsUnwritten, WritesWhole, WatchEnding, on_output}
+use Rattle.line_stream.specs.Pieces.{log_lines, in_64_bits}
+use Rattle.can_logs.specs.LogRuns.{IsUnwritten, WritesWhole, WatchEnding, on_output}
 use Rattle.endpoint_commands.specs.declared.rules.FrameRule.{FrameRule}
-use Rattle.endpoint_commands.specs.Running.{LineMoment, TakesLine, LinesDone, line_answer, answers_behind, closing_text}
-use Rattle.endpoint_commands.specs.Running.{tells_failed_disk}
+use Rattle.endpoint_commands.specs.Running.{LineMoment, TakesLine, LinesDone, line_answer, answers_behind, closing_text, tells_failed_disk}
 
 -- the text of a row was printed behind these answers, and the run ends with its status; or its sink failed within it
 abbrev pub EndsBehind : Ending → List ℕ → Row → Type 0

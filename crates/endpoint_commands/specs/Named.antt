@@ -1,13 +1,12 @@
 -- What the words of an `endpoint` name
-use Rattle.std.specs.Prelude.{◌≡◌, ◌⊎◌, ℕ, ◌==◌, ◌||◌, if◌then◌else◌, Option, None, List, [], length, map}
-use Rattle.std.specs.Prelude.{slice_get, Vec}
+use Rattle.std.specs.Prelude.{◌≡◌, ◌⊎◌, ℕ, ◌==◌, ◌||◌, if◌then◌else◌, Option, None, List, [], length, map, slice_get, Vec}
 use Rattle.std.specs.declared.alloc.Global.{Global}
 use Rattle.bus_port.specs.Source.{SourceState}
 use Rattle.cut_disk.specs.State.{DiskState}
 use Rattle.file_disk.specs.NamedDisks.{DisksAreNamed, OpenedByWords}
 use Rattle.program_edge.specs.Endings.{EndsInRow}
 use Rattle.program_edge.specs.NamedSources.{Openings, IsNamed, behind}
-use Rattle.watch_maps.specs.LogRuns.{IsUnwritten, WatchEnding, on_errors}
+use Rattle.can_logs.specs.LogRuns.{IsUnwritten, WatchEnding, on_errors}
 use Rattle.endpoint_commands.specs.Rows.{EndpointInputs, OverEndpoint, ComesBeforeLog}
 use Rattle.endpoint_commands.specs.Promises.{DidLines, IsOneRun}
 use Rattle.endpoint_commands.specs.Table.{RunsEndpoint}

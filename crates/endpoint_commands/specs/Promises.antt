@@ -9,7 +9,7 @@ use Rattle.bus_machine.specs.declared.lines.Line.{Line}
 use Rattle.bus_config.specs.Buses.{NamedBus}
 use Rattle.bus_script.specs.LineTexts.{told_words}
 use Rattle.secoc_node.specs.State.{NodeState}
-use Rattle.watch_maps.specs.LogRuns.{IsUnwritten, WatchEnding, on_output, on_errors}
+use Rattle.can_logs.specs.LogRuns.{IsUnwritten, WatchEnding, on_output, on_errors}
 use Rattle.bus_world.specs.declared.start.Start.TheVariants.{Attach}
 use Rattle.bus_world.specs.StartAnswers.{DiskStates, ComesUnstarted}
 use Rattle.bus_world.specs.WorldTurns.{TellFirm}

@@ -1,20 +1,19 @@
 -- The lines of a map of `endpoint`: which frames a node takes, and where its answers go
-use Rattle.std.specs.Prelude.{ℕ, ◌+◌, ◌&&◌, not, nat_lt, Bool, true, if◌then◌else◌, List, length, codes}
-use Rattle.std.specs.Prelude.{Option, None, Some, option_and_then, Result, Ok}
+use Rattle.std.specs.Prelude.{ℕ, ◌+◌, ◌&&◌, not, nat_lt, Bool, true, if◌then◌else◌, List, length, codes, Option, None, Some, option_and_then, Result, Ok}
 use Rattle.std.specs.List.{list_any, position}
 use Rattle.std.specs.Option.{ok_or}
 use Rattle.std.specs.Str.{bytes_eq}
 use Rattle.text_lines.specs.declared.fault.Cause.{Cause}
 use Rattle.text_lines.specs.declared.fault.Cause.TheVariants as cause
 use Rattle.text_lines.specs.Forms.{number_form}
-use Rattle.text_lines.specs.Readings.{Fault, ◌>>=◌, nth_word, field, with_count, read_all}
+use Rattle.text_lines.specs.Readings.{Fault, nth_word, field, with_count, read_all}
 use Rattle.secoc_words.specs.Forms.{data_id_form}
 use Rattle.freshness_routes.specs.declared.routes.Direction.{Direction}
 use Rattle.freshness_routes.specs.declared.routes.Direction.TheVariants.{Sends, Receives}
 use Rattle.freshness_routes.specs.declared.routes.Route.{Route}
 use Rattle.bus_machine.specs.Node.{place_in}
-use Rattle.trace_audit.specs.MapLines.{can_form, hears}
-use Rattle.trace_audit.specs.Frames.{is_data_can}
+use Rattle.can_logs.specs.MapLines.{can_form, hears}
+use Rattle.can_logs.specs.Frames.{is_data_can}
 use Rattle.endpoint_commands.specs.declared.rules.FrameRule.{FrameRule}
 
 -- ---- a line: `send CANID ID LEN FROM TO` or `receive CANID ID LEN FROM TO`

@@ -1,6 +1,5 @@
 -- What an endpoint does with the lines of a log, and what it prints and counts of them
-use Rattle.std.specs.Prelude.{◌≡◌, ℕ, ◌+◌, Bool, true, false, List, [], ◌∷◌, ◌++◌, length, filter}
-use Rattle.std.specs.Prelude.{Option, None, Some}
+use Rattle.std.specs.Prelude.{◌≡◌, ℕ, ◌+◌, Bool, true, false, List, [], ◌∷◌, ◌++◌, length, filter, Option, None, Some}
 use Rattle.machine_runs.specs.Run.{Moment, Run, commands_in}
 use Rattle.text_lines.specs.Lines.{words_of}
 use Rattle.bus_machine.specs.declared.events.Event.{Event}
@@ -8,14 +7,13 @@ use Rattle.bus_machine.specs.declared.lines.Line.{Line}
 use Rattle.bus_machine.specs.declared.lines.Line.TheVariants.{Refused}
 use Rattle.bus_machine.specs.declared.lines.Refusal.TheVariants.{MemoryFailure}
 use Rattle.secoc_node.specs.State.{NodeState}
-use Rattle.trace_audit.specs.Pieces.{log_lines, in_64_bits}
+use Rattle.line_stream.specs.Pieces.{log_lines, in_64_bits}
 use Rattle.endpoint_commands.specs.declared.rules.FrameRule.{FrameRule}
 use Rattle.endpoint_commands.specs.declared.counting.EndpointCounts.{EndpointCounts}
 use Rattle.endpoint_commands.specs.declared.counting.LineKind.{LineKind}
 use Rattle.endpoint_commands.specs.Alone.{TurnsAlone}
 use Rattle.endpoint_commands.specs.Asking.{asked_of, event_asked}
-use Rattle.endpoint_commands.specs.Counting.{kind_asked, counts_sent, counts_accepted, counts_refused, counts_other}
-use Rattle.endpoint_commands.specs.Counting.{counts_line}
+use Rattle.endpoint_commands.specs.Counting.{kind_asked, counts_sent, counts_accepted, counts_refused, counts_other, counts_line}
 use Rattle.endpoint_commands.specs.Lines.{answer_text}
 
 -- ---- the machine: its commands are the lines of a log, and it tells what the node told of the event of a line, if any

@@ -1,7 +1,5 @@
 -- The state of an endpoint between two pieces of a log, and what its steps say to one another
-use Rattle.std.specs.Prelude.{◌≡◌, ◌⊎◌, ℕ, ◌+◌, ◌<◌, ◌≤◌, Bool, true, false}
-use Rattle.std.specs.Prelude.{List, [], ◌∷◌, ◌++◌, length, take, All, vec_capacity}
-use Rattle.std.specs.Prelude.{Option, Result, Ok, Err, MatchResult}
+use Rattle.std.specs.Prelude.{◌≡◌, ◌⊎◌, ℕ, ◌+◌, ◌<◌, ◌≤◌, Bool, true, false, List, [], ◌∷◌, ◌++◌, length, take, All, vec_capacity, Option, Result, Ok, Err, MatchResult}
 use Rattle.bus_port.specs.declared.port.PortFailed.{PortFailed}
 use Rattle.bus_port.specs.Fault.{Rose}
 use Rattle.bus_port.specs.Sink.{SinkState, Appended}
@@ -13,7 +11,7 @@ use Rattle.bus_machine.specs.declared.lines.Line.TheVariants.{Refused}
 use Rattle.bus_machine.specs.declared.lines.Refusal.TheVariants.{BadLength}
 use Rattle.bus_script.specs.LineTexts.{told_words}
 use Rattle.secoc_node.specs.State.{NodeState}
-use Rattle.trace_audit.specs.Pieces.{PutsPiece, line_limit, log_lines, in_64_bits}
+use Rattle.line_stream.specs.Pieces.{PutsPiece, line_limit, log_lines, in_64_bits}
 use Rattle.endpoint_commands.specs.declared.rules.FrameRule.{FrameRule}
 use Rattle.endpoint_commands.specs.declared.asking.Asked.{Asked}
 use Rattle.endpoint_commands.specs.declared.counting.EndpointCounts.{EndpointCounts}
@@ -24,8 +22,7 @@ use Rattle.endpoint_commands.specs.Alone.{TurnsAlone}
 use Rattle.endpoint_commands.specs.Rules.{taken_size}
 use Rattle.endpoint_commands.specs.Asking.{asked_of, event_asked, frame_event}
 use Rattle.endpoint_commands.specs.Lines.{answer_text, comment_text}
-use Rattle.endpoint_commands.specs.Running.{LineMoment, DoesEvent, TakesLine, LinesDone, line_answer, answers_behind}
-use Rattle.endpoint_commands.specs.Running.{closing_text, tells_failed_disk, counts_of_lines}
+use Rattle.endpoint_commands.specs.Running.{LineMoment, DoesEvent, TakesLine, LinesDone, line_answer, answers_behind, closing_text, tells_failed_disk, counts_of_lines}
 use Rattle.endpoint_commands.specs.Counting.{kind_asked, counts_with}
 
 -- the rules and the node; the line that no line feed has ended, as far as it is kept, and the number of lines before

@@ -1,6 +1,5 @@
 -- What the steps of a run of `endpoint` say to one another
-use Rattle.std.specs.Prelude.{◌≡◌, ℕ, ◌<◌, Bool, true, false, Option, None, Some, Result, Ok, Err}
-use Rattle.std.specs.Prelude.{List, ◌++◌, length, codes, Vec}
+use Rattle.std.specs.Prelude.{◌≡◌, ℕ, ◌<◌, Bool, true, false, Option, None, Some, Result, Ok, Err, List, ◌++◌, length, codes, Vec}
 use Rattle.std.specs.declared.alloc.Global.{Global}
 use Rattle.bus_port.specs.Source.{Came}
 use Rattle.text_lines.specs.LineRows.{NoLines}
@@ -14,7 +13,7 @@ use Rattle.secoc_node.specs.Words.{IsImage}
 use Rattle.bus_config.specs.Buses.{IsNamedBus}
 use Rattle.secoc_node.specs.State.{NodeState}
 use Rattle.bus_programs.specs.Scripts.{LacksLines, ReadsLinesAs}
-use Rattle.watch_maps.specs.LogRuns.{Writing, IsUnwritten}
+use Rattle.can_logs.specs.LogRuns.{Writing, IsUnwritten}
 use Rattle.endpoint_commands.specs.declared.rules.FrameRule.{FrameRule}
 use Rattle.endpoint_commands.specs.declared.endpoint.EndpointStop.{EndpointStop}
 use Rattle.endpoint_commands.specs.declared.endpoint.EndpointStop.TheVariants as stop

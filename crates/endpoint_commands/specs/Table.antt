@@ -1,7 +1,6 @@
 -- The table of answers of `endpoint`: what a run promises, by status. Answers are printed on standard output, and
 -- nothing else is. The usage line, refusals and faults are printed on standard error
-use Rattle.std.specs.Prelude.{◌≡◌, ◌≢◌, ◌⊎◌, ℕ, ◌<◌, ◌≤◌, true, Option, Some, Err, List, [], ◌∷◌, ◌++◌, length, get_or}
-use Rattle.std.specs.Prelude.{codes}
+use Rattle.std.specs.Prelude.{◌≡◌, ◌≢◌, ◌⊎◌, ℕ, ◌<◌, ◌≤◌, true, Option, Some, Err, List, [], ◌∷◌, ◌++◌, length, get_or, codes}
 use Rattle.basics.specs.FaultCount.{last_count, Rose}
 use Rattle.bus_port.specs.Whole.{AppendedPart}
 use Rattle.text_lines.specs.Readings.{Fault}
@@ -24,15 +23,12 @@ use Rattle.bus_world.specs.Starts.{HasRoom, FindsRoom}
 use Rattle.bus_world.specs.StartRows.{start_row, CanStart, StoreCause, LeavesEach}
 use Rattle.bus_world.specs.StartAnswers.{DiskStates, CountsDiskFault, failed_row, BusHasDisks}
 use Rattle.bus_programs.specs.BusRoutes.{routes_of}
-use Rattle.watch_maps.specs.LogRuns.{IsUnwritten, WritesWhole, WatchEnding, on_output, on_errors}
+use Rattle.can_logs.specs.LogRuns.{IsUnwritten, WritesWhole, WatchEnding, on_output, on_errors}
 use Rattle.endpoint_commands.specs.declared.rules.FrameRule.{FrameRule}
 use Rattle.endpoint_commands.specs.Rules.{rules_of}
 use Rattle.endpoint_commands.specs.Running.{LineMoment, answers_behind, closing_text, tells_failed_disk}
 use Rattle.endpoint_commands.specs.Logs.{Unfailed, LogRead, LinesRead}
-use Rattle.endpoint_commands.specs.Rows.{EndpointInputs, AsksEndpoint, AsksBoot, endpoint_usage}
-use Rattle.endpoint_commands.specs.Rows.{OverEndpoint}
-use Rattle.endpoint_commands.specs.Rows.{LacksEndpointInput, HasConfigFault, HasOtherNodes, HasMapFault, HasOtherImage}
-use Rattle.endpoint_commands.specs.Rows.{OffersNode, OffersRules, OffersEndpoint}
+use Rattle.endpoint_commands.specs.Rows.{EndpointInputs, AsksEndpoint, AsksBoot, endpoint_usage, OverEndpoint, LacksEndpointInput, HasConfigFault, HasOtherNodes, HasMapFault, HasOtherImage, OffersNode, OffersRules, OffersEndpoint}
 use Rattle.endpoint_commands.specs.Promises.{opening_of, DidEndpoint, ComesUnlogged, DidLines, EndsEndpoint}
 
 -- ---- how a log was answered

@@ -14,9 +14,9 @@ use crate::rules::FrameRule;
 use bus_machine::Line;
 use bus_script::push_told;
 use bus_script::pushing::{push_number, push_word};
+use can_logs::place_of_hash;
 use std::alloc::AllocError;
 use text_lines::words::Words;
-use trace_audit::place_of_hash;
 
 /// What the digit of the flags is behind the first `#` of a frame.
 fn flags_behind_hash(rest: &[u8]) -> u8

@@ -4,10 +4,10 @@ ghost use Rattle.endpoint_commands.specs.Asking.{request_form, asked_of_words as
 ghost use Rattle.endpoint_commands.specs.Asking.{IsWithin};
 
 use crate::rules::{FrameRule, place_of_rule};
+use can_logs::{FrameBytes, log_frame};
 use memory_update::Request;
 use secoc_words::{key, two};
 use text_lines::words::Words;
-use trace_audit::{FrameBytes, log_frame};
 
 /// What a line of a log asks for.
 #[derive(Drop)]

@@ -1,5 +1,5 @@
 //! A node between the channels of a bus, and the state between two pieces of a log.
-ghost use Rattle.std.specs.Prelude.{◌≡◌, ◌+◌, ◌<◌, ◌≤◌, ◌++◌, [], ◌∷◌, length, take, IfOk, All};
+ghost use Rattle.std.specs.Prelude.{◌≡◌, ◌+◌, ◌<◌, ◌≤◌, ◌++◌, [], length, take, IfOk, All};
 ghost use Rattle.std.specs.Prelude.{vec_len, vec_capacity};
 ghost use Rattle.std.specs.List.{position_or_len};
 ghost use Rattle.text_lines.specs.Lines.{is_line_feed};
@@ -14,13 +14,13 @@ use crate::turns::image_turn;
 use crate::words_answered::answer_words;
 use bus_port::{PortFailed, Sink, write_all};
 use cell_store::Cells;
+use line_stream::{add_bytes, until_feed};
 use program_edge::{DONE, tell};
 use secoc_node::Node;
 use std::alloc::{AllocError, Global};
 use std::marker::Model;
 use text_lines::span::Span;
 use text_lines::words::{Words, put_words};
-use trace_audit::{add_bytes, until_feed};
 
 /// The most bytes of a line that is looked at, its line feed not counted.
 const LINE_LIMIT: usize = 4096;

@@ -8,13 +8,13 @@ ghost use Rattle.endpoint_commands.specs.Rules.{takes_frame};
 ghost use Rattle.endpoint_commands.specs.Rules.{place_of_rule as rule_place, taken_size as size_taken};
 
 use basics::Bytes;
+use can_logs::{CanId, PayloadSize, can_id, has_data_can};
 use freshness_routes::{Direction, Route};
 use secoc_node::place_of;
 use std::alloc::Global;
 use text_lines::reader::{LineReader, expect_count, read_lines, value_at};
 use text_lines::words::Words;
 use text_lines::{Cause, LineFault, Memory, ScriptFault, forms};
-use trace_audit::{CanId, PayloadSize, can_id, has_data_can};
 
 /// The most lines that a map has.
 pub const MOST_RULES: usize = 512;

@@ -25,9 +25,9 @@ use bus_programs::{bus_from, check_bus, node_routes};
 use bus_world::{Start, close_nodes, open_nodes, start_refusal};
 use cell_store::CutCells;
 use cut_disk::CutDisk;
+use line_stream::PIECE;
 use program_edge::{InputFault, Refusal, WRITE_FAULT, tell_refusal};
 use std::alloc::{AllocError, Global};
-use trace_audit::PIECE;
 
 const USAGE: &str = "usage: endpoint B MAP LOG DISK [IMAGE]\n";
 

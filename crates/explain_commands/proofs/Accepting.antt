@@ -8,9 +8,8 @@ use Rattle.std.proofs.lemmas.List.{length-take, length-drop, append_cancel_left,
 use Rattle.std.proofs.Math.Seq.{take-add, drop-cons}
 use Rattle.she_cmac.specs.Cmac.{cmac}
 use Rattle.secured_pdu.specs.Frame.{authenticated_input, assembled, secured_frame, IsWindow, Secured, Ahead}
-use Rattle.secured_pdu.proofs.CallerLemmas.{same_from_Ahead}
+use Rattle.secured_pdu.proofs.CallerLemmas.{same_from_Ahead, accepted_parts}
 use Rattle.secured_pdu.specs.Verdict.{Accepted, Verdict, payload_of}
-use Rattle.secured_pdu.proofs.CallerLemmas.{accepted_parts}
 use Rattle.explain_commands.specs.declared.trials.Making.TheVariants as making
 use Rattle.explain_commands.specs.declared.trials.KnownReceiver.{KnownReceiver}
 use Rattle.explain_commands.specs.Trials.{tag_by, has_room, has_low, low_carried, tag_trial, candidate, agrees, accepted_candidate, accepted_freshness}

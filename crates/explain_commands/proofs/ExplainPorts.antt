@@ -1,120 +1,141 @@
--- What comes of a log, and what is printed of it, from turn to turn
-use Rattle.std.proofs.Common.{◌≡◌, ℕ, ◌<◌, ◌≤◌, List, [], ◌++◌, length, refl, sym, ◌∙◌, ap, subst, inl, inr, arith, append-nil}
-use Rattle.std.specs.Prelude.{Some, Ok}
+-- What comes of a log, and what is printed of it
+use Rattle.std.proofs.Common.{◌≡◌, ℕ, ◌+◌, ◌<◌, ◌≤◌, List, [], ◌∷◌, ◌++◌, length, take, refl, sym, ◌∙◌, ap, subst, inl, inr}
+use Rattle.std.specs.Prelude.{Ok, Err}
 use Rattle.std.proofs.lemmas.Grind.{flat_map-append}
-use Rattle.bus_port.specs.Fault.{Rose}
 use Rattle.basics.proofs.CallerLemmas.{rose_after}
-use Rattle.bus_port.specs.Source.{SourceState, Came, HandsOut, ReadFails}
-use Rattle.bus_port.specs.Sink.{SinkState}
-use Rattle.bus_port.proofs.CallerLemmas.{Came-nothing, Came-more}
+use Rattle.bus_port.specs.Sink.{SinkState, Appended}
+use Rattle.bus_port.specs.Fault.{Rose}
 use Rattle.bus_port.proofs.CallerLemmas.{Appended-more, Appended-nothing}
-use Rattle.bus_port.specs.Whole.{AppendedPart}
 use Rattle.program_edge.specs.Told.{AppendedWell, EndingTold}
-use Rattle.program_edge.proofs.CallerLemmas.{AppendedWell-more}
 use Rattle.program_edge.specs.Rows.{row_of}
 use Rattle.program_edge.specs.Inputs.{Reading}
+use Rattle.program_edge.proofs.CallerLemmas.{AppendedWell-more}
+use Rattle.line_stream.specs.Pieces.{log_lines}
+use Rattle.line_stream.specs.Streams.{TakesLines, Paused, EndsStream, StopsStream, Streamed}
+use Rattle.line_stream.specs.declared.driver.StreamFault.{StreamFault}
+use Rattle.line_stream.specs.declared.driver.StreamFault.TheVariants.{ReadFault, TooLong}
+use Rattle.line_stream.proofs.CallerLemmas.{TakesLines-keeps, Paused-keeps, told_more}
+use Rattle.can_logs.specs.WatchMaps.{NumberedMap}
+use Rattle.can_logs.specs.LogRuns.{Writing, log_failed_text, log_too_long_text}
 use Rattle.explain_commands.specs.declared.answers.LineAnswer.{LineAnswer}
-use Rattle.watch_maps.specs.WatchMaps.{NumberedMap}
-use Rattle.explain_commands.specs.Explaining.{said_of, explained_lines, ExplainsComplete, ExplainsAll, explain_status}
-use Rattle.watch_maps.specs.LogRuns.{Writing, log_failed_text, log_too_long_text, Ports}
-use Rattle.watch_maps.proofs.CallerLemmas.{told_more}
-use Rattle.explain_commands.specs.ExplainStates.{ExplainState, Followed}
+use Rattle.explain_commands.specs.Explaining.{said_of, explained_lines, ExplainsComplete, answers_to, explain_status}
+use Rattle.explain_commands.specs.ExplainStates.{ExplainState, IsFreshExplainer, ExplainerAtSink, ExplainsLine, PrintsText, TellsExplained}
 use Rattle.explain_commands.specs.ExplainRows.{done, FailsOfExplained, failed, too_long, EndsExplained}
-use Rattle.explain_commands.specs.ExplainSteps.{ExplainSoFar}
+use Rattle.explain_commands.proofs.Following.{KnowsAnswers, KnowsAnswers-none, KnowsAnswers-text, end_explained_is, WithinPiece, WithinPiece-none, WithinPiece-more}
 
--- what is found of the complete lines, of a state
-pub complete_of : (explainer : ExplainState) (bytes : List ℕ) (answers : List LineAnswer) → Followed explainer bytes answers → ExplainsComplete explainer.mapping bytes answers
-complete_of explainer bytes answers w = record { lines = w.lines; rest = w.rest; cut = w.cut; finds = w.finds }
+-- at a pause what is said of all complete lines is printed
+record AtPause (mapping : NumberedMap) (start : SinkState) (bytes : List ℕ) (lines : List (List ℕ)) (p : ExplainerAtSink) : Type 0 where
+  pub explained : KnowsAnswers mapping lines p.explainer
+  pub no_text : p.explainer.text ≡ []
+  pub prints : AppendedWell start p.sink (explained_lines mapping (answers_to mapping lines))
+  pub finds : ExplainsComplete mapping bytes (answers_to mapping lines)
 
--- ---- a turn
+module _ (fresh : ExplainState) (start : SinkState) (is_fresh : IsFreshExplainer fresh) where
+  abbrev mapping : NumberedMap
+  mapping = fresh.mapping
 
--- before the log
-pub ExplainSoFar-none : (log : SourceState) (sink : SinkState) (explainer : ExplainState) → Followed explainer [] []
-    → ExplainSoFar (record { log = record { before = log; after = log }; before = sink; after = sink }) explainer [] []
-ExplainSoFar-none log sink explainer w = record { came = Came-nothing log; calm = refl; followed = w; prints = (refl, Appended-nothing sink) }
+  abbrev begun : ExplainerAtSink
+  begun = record { explainer = fresh; sink = start }
 
-module _ (first log later : SourceState) (start sink next : SinkState) (old new : ExplainState) (bytes : List ℕ) (answers : List LineAnswer) where
-  abbrev before : Ports
-  before = record { log = record { before = first; after = log }; before = start; after = sink }
+  complete : (bytes : List ℕ) (lines : List (List ℕ)) (rest : List ℕ) → log_lines bytes ≡ lines ++ rest ∷ [] → ExplainsComplete mapping bytes (answers_to mapping lines)
+  complete bytes lines rest cut = record { lines = lines; rest = rest; cut = cut; finds = refl }
 
-  abbrev reading : Reading
-  reading = record { before = first; after = later }
+  before_log : AtPause mapping start [] [] begun
+  unfolding answers_to
+  before_log = record { explained = KnowsAnswers-none fresh is_fresh; no_text = is_fresh.3; prints = (refl, Appended-nothing start); finds = complete [] [] [] refl }
 
-  abbrev written : Writing
-  written = record { before = start; after = next }
+  -- the lines behind a pause
+  lines_within : (lines more : List (List ℕ)) (bytes : List ℕ) (p q : ExplainerAtSink) → AtPause mapping start bytes lines p → TakesLines ExplainsLine (length lines) p more q
+      → WithinPiece mapping lines p.sink (lines ++ more) q
+  lines_within lines more bytes p q at taken =
+      TakesLines-keeps ExplainsLine (WithinPiece mapping lines p.sink) (WithinPiece-more mapping lines p.sink) lines more p q
+      (WithinPiece-none mapping lines p.sink p at.explained at.no_text refl) taken
 
-  -- a piece came and was taken
-  pub ExplainSoFar-more : (piece : List ℕ) (more : List LineAnswer) → new.mapping ≡ old.mapping → ExplainSoFar before old bytes answers → Came log later piece → later.faults ≡ log.faults
-      → Followed new (bytes ++ piece) (answers ++ more) → AppendedWell sink next (explained_lines old.mapping more)
-      → ExplainSoFar (record { log = reading; before = start; after = next }) new (bytes ++ piece) (answers ++ more)
-  ExplainSoFar-more piece more same so_far came calm followed prints = record {
-    came = Came-more so_far.came came;
-    calm = calm ∙ so_far.calm;
-    followed = followed;
-    prints = subst (λ (m : NumberedMap). AppendedWell start next (explained_lines m (answers ++ more))) (sym same)
-        (subst (AppendedWell start next) (sym (flat_map-append (said_of old.mapping) answers more))
-        (AppendedWell-more start sink next (explained_lines old.mapping answers) (explained_lines old.mapping more) so_far.prints prints));
-  }
+  -- what was printed before, and what the lines behind it add
+  all_text : (lines all : List (List ℕ)) (sink : SinkState) (q : ExplainerAtSink) (w : WithinPiece mapping lines sink all q)
+      → explained_lines mapping (answers_to mapping lines) ++ explained_lines mapping w.more ≡ explained_lines mapping (answers_to mapping all)
+  all_text lines all sink q w = sym (flat_map-append (said_of mapping) (answers_to mapping lines) w.more) ∙ ap (explained_lines mapping) (sym w.answers_are)
 
-  -- a piece came, and the sink failed
-  pub ExplainStops-in : (piece : List ℕ) (more : List LineAnswer) → new.mapping ≡ old.mapping → ExplainSoFar before old bytes answers → Came log later piece → later.faults ≡ log.faults
-      → length piece ≤ 4096 → Followed new (bytes ++ piece) (answers ++ more) → Rose sink.faults next.faults → AppendedPart sink next (explained_lines old.mapping more)
-      → EndsExplained old.mapping reading written (Ok 6)
-  ExplainStops-in piece more same so_far came calm short followed rose (size, proper, part) = inr (record {
-    status_is = refl;
-    fails = rose_after start.faults sink.faults next.faults so_far.prints.1.later rose;
-    bytes = bytes;
-    answers = answers;
-    piece = piece;
-    more = more;
-    came = Came-more so_far.came came;
-    calm = calm ∙ so_far.calm;
-    short = short;
-    finds = complete_of old bytes answers so_far.followed;
-    finds_more = subst (λ (m : NumberedMap). ExplainsComplete m (bytes ++ piece) (answers ++ more)) same (complete_of new (bytes ++ piece) (answers ++ more) followed);
-    size = size;
-    proper = proper;
-    prints = Appended-more so_far.prints.1 part;
-  })
+  at_each : (bytes piece : List ℕ) (lines more : List (List ℕ)) (rest : List ℕ) (p q v : ExplainerAtSink) → AtPause mapping start bytes lines p → length piece ≤ 4096
+      → log_lines (bytes ++ piece) ≡ (lines ++ more) ++ rest ∷ [] → TakesLines ExplainsLine (length lines) p more q → PrintsText q v (Ok tt)
+      → AtPause mapping start (bytes ++ piece) (lines ++ more) v
+  at_each bytes piece lines more rest p q v at short cut taken (puts, begins, no_status) =
+      let w = lines_within lines more bytes p q at taken in
+      let well : AppendedWell p.sink v.sink (explained_lines mapping w.more) =
+      subst (λ k. AppendedWell k v.sink (explained_lines mapping w.more)) w.still (subst (AppendedWell q.sink v.sink) w.text_is puts) in
+      record {
+        explained = subst (KnowsAnswers mapping (lines ++ more)) (sym begins) (KnowsAnswers-text mapping (lines ++ more) q.explainer w.explained);
+        no_text = ap (λ (s : ExplainState). s.text) begins;
+        prints = subst (AppendedWell start v.sink) (all_text lines (lines ++ more) p.sink q w)
+            (AppendedWell-more start p.sink v.sink (explained_lines mapping (answers_to mapping lines)) (explained_lines mapping w.more) at.prints well);
+        finds = complete (bytes ++ piece) (lines ++ more) rest cut;
+      }
 
-  came_no_more : ExplainSoFar before old bytes answers → Came log later [] → Came first later bytes
-  came_no_more so_far nothing = subst (Came first later) (append-nil bytes) (Came-more so_far.came nothing)
+  at_pause : (bytes : List ℕ) (lines : List (List ℕ)) (p : ExplainerAtSink) → Paused ExplainsLine PrintsText begun bytes lines p → AtPause mapping start bytes lines p
+  at_pause = Paused-keeps ExplainsLine PrintsText begun (AtPause mapping start) before_log at_each
 
-  -- nothing came: this was the end of the log
-  pub Ends-done : (room left : List ℕ) (more : List LineAnswer) (status : ℕ) → ExplainSoFar before old bytes answers → HandsOut log later room left 0 → 0 < length room
-      → ExplainsAll old.mapping bytes (answers ++ more)
-      → EndingTold sink next (explained_lines old.mapping more) (explain_status old.mapping (answers ++ more)) status
-      → EndsExplained old.mapping reading written (Ok status)
-  Ends-done room left more status so_far hands some finds told =
-      let all : List LineAnswer = answers ++ more in
-      let whole : (text : List ℕ) → first.told ≡ Some text → (bytes ≡ text) × (later.told ≡ Some []) =
-      λ text is_told.
-      let here = so_far.came.next text is_told in
-      let gone : here.0 ≡ [] = (hands.ended some here.0 here.1).0 refl in
-      let behind = hands.came.next here.0 here.1 in
-      let last : behind.0 ≡ [] = sym behind.2 ∙ gone in
-      (sym (here.2 ∙ ap (λ r. bytes ++ r) gone ∙ append-nil bytes), behind.1 ∙ ap Some last) in
-      let text_is : explained_lines old.mapping answers ++ explained_lines old.mapping more ≡ explained_lines old.mapping all =
-      sym (flat_map-append (said_of old.mapping) answers more) in
-      inl (record {
-        row = row_of (explain_status old.mapping all) (explained_lines old.mapping all);
-        comes = done bytes all
-            (record { came = came_no_more so_far hands.came; within = omega arith; no_fault = hands.no_fault ∙ so_far.calm; whole = whole }) finds;
-        told = subst (λ t. EndingTold start next t (explain_status old.mapping all) status) text_is
-            (told_more start sink next (explained_lines old.mapping answers) (explained_lines old.mapping more) (explain_status old.mapping all) status so_far.prints told);
-      })
+  module _ (log : Reading) (now : ExplainerAtSink) where
+    abbrev written : Writing
+    written = record { before = start; after = now.sink }
 
--- the log failed
-pub Ends-failed : (first log later : SourceState) (start sink : SinkState) (explainer : ExplainState) (bytes : List ℕ) (answers : List LineAnswer) (room left : List ℕ)
-    → ExplainSoFar (record { log = record { before = first; after = log }; before = start; after = sink }) explainer bytes answers → ReadFails log later room left
-    → FailsOfExplained explainer.mapping (record { before = first; after = later }) (record { before = start; after = sink }) (row_of 5 log_failed_text)
-Ends-failed first log later start sink explainer bytes answers room left so_far fails =
-    failed bytes answers (subst (Came first later) (append-nil bytes) (Came-more so_far.came fails.nothing)) (complete_of explainer bytes answers so_far.followed)
-    (rose_after first.faults log.faults later.faults so_far.came.later fails.rose) so_far.prints
+    ends_log : (status : ℕ) → EndsStream ExplainsLine PrintsText TellsExplained log begun now status → EndsExplained mapping log written (Ok status)
+    ends_log status d = elim d.ended [
+      | inr stopped ↦ absurd stopped
+      | inl (taken, takes_last, told) ↦
+          let at = at_pause d.bytes d.lines d.before d.paused in
+          let w = lines_within d.lines (d.last ∷ []) d.bytes d.before taken at (taken, takes_last, refl) in
+          let all : List (List ℕ) = d.lines ++ d.last ∷ [] in
+          let answers : List LineAnswer = answers_to mapping all in
+          let last_told : EndingTold d.before.sink now.sink (explained_lines mapping w.more) (explain_status mapping answers) status =
+          subst (λ k. EndingTold k now.sink (explained_lines mapping w.more) (explain_status mapping answers) status) w.still
+          (subst (λ t. EndingTold taken.sink now.sink t (explain_status mapping answers) status) w.text_is
+          (subst (λ n. EndingTold taken.sink now.sink taken.explainer.text n status) (end_explained_is mapping all taken.explainer w.explained) told)) in
+          inl (record {
+            row = row_of (explain_status mapping answers) (explained_lines mapping answers);
+            comes = done d.bytes answers d.read (ap (answers_to mapping) (sym d.cut));
+            told = subst (λ t. EndingTold start now.sink t (explain_status mapping answers) status) (all_text d.lines all d.before.sink taken w)
+                (told_more start d.before.sink now.sink (explained_lines mapping (answers_to mapping d.lines)) (explained_lines mapping w.more) (explain_status mapping answers) status at.prints last_told);
+          })
+    ]
 
--- 2^64 - 1 bytes came
-pub Ends-too_long : (first log : SourceState) (start sink : SinkState) (explainer : ExplainState) (bytes : List ℕ) (answers : List LineAnswer)
-    → ExplainSoFar (record { log = record { before = first; after = log }; before = start; after = sink }) explainer bytes answers → 18446744073709551615 ≤ length bytes
-    → FailsOfExplained explainer.mapping (record { before = first; after = log }) (record { before = start; after = sink }) (row_of 8 log_too_long_text)
-Ends-too_long first log start sink explainer bytes answers so_far long =
-    too_long bytes answers so_far.came (complete_of explainer bytes answers so_far.followed) so_far.calm (omega (arith, long)) so_far.prints
+    stops_log : (status : ℕ) → StopsStream ExplainsLine PrintsText log begun now status → EndsExplained mapping log written (Ok status)
+    stops_log status d = elim d.stops [
+      | inr (some, stopped) ↦ absurd stopped
+      | inl (none, ((rose, (size, proper, part)), begins, six)) ↦
+          let at = at_pause d.bytes d.lines d.before d.paused in
+          let w = lines_within d.lines d.more d.bytes d.before d.taken at d.takes_more in
+          let all : List (List ℕ) = d.lines ++ d.more in
+          let said : List ℕ = explained_lines mapping w.more in
+          inr (record {
+            status_is = six;
+            fails = rose_after start.faults d.before.sink.faults now.sink.faults at.prints.1.later (subst (λ (k : SinkState). Rose k.faults now.sink.faults) w.still rose);
+            bytes = d.bytes;
+            answers = answers_to mapping d.lines;
+            piece = d.piece;
+            more = w.more;
+            came = d.came;
+            calm = d.calm;
+            short = d.short;
+            finds = at.finds;
+            finds_more = subst (ExplainsComplete mapping (d.bytes ++ d.piece)) w.answers_are
+                (complete (d.bytes ++ d.piece) all d.rest (subst (λ (b : List (List ℕ)). log_lines (d.bytes ++ d.piece) ≡ all ++ d.rest ∷ b) none d.cut));
+            size = size;
+            proper = subst (λ t. size < length t) w.text_is proper;
+            prints = Appended-more at.prints.1 (subst (λ k. Appended k now.sink (take size said)) w.still (subst (λ t. Appended d.taken.sink now.sink (take size t)) w.text_is part));
+          })
+    ]
+
+    -- a log that was taken to its end, or until the sink failed
+    pub Ends-taken : (status : ℕ) → Streamed ExplainsLine PrintsText TellsExplained log begun now (Ok status) → EndsExplained mapping log written (Ok status)
+    Ends-taken status (inl ends) = ends_log status ends
+    Ends-taken status (inr stops) = stops_log status stops
+
+    pub Ends-failed : (fault : StreamFault) → fault ≡ ReadFault → Streamed ExplainsLine PrintsText TellsExplained log begun now (Err fault) → FailsOfExplained mapping log written (row_of 5 log_failed_text)
+    Ends-failed fault is streamed =
+        let d = subst (λ (f : StreamFault). Streamed ExplainsLine PrintsText TellsExplained log begun now (Err f)) is streamed in
+        let at = at_pause d.bytes d.lines now d.paused in failed d.bytes (answers_to mapping d.lines) d.came at.finds d.holds at.prints
+
+    pub Ends-too_long : (fault : StreamFault) → fault ≡ TooLong → Streamed ExplainsLine PrintsText TellsExplained log begun now (Err fault) → FailsOfExplained mapping log written (row_of 8 log_too_long_text)
+    Ends-too_long fault is streamed =
+        let d = subst (λ (f : StreamFault). Streamed ExplainsLine PrintsText TellsExplained log begun now (Err f)) is streamed in
+        let at = at_pause d.bytes d.lines now d.paused in too_long d.bytes (answers_to mapping d.lines) d.came at.finds d.holds.0 d.holds.1 at.prints

@@ -13,19 +13,16 @@ use Rattle.program_edge.specs.declared.input.InputFault.TheVariants as input
 use Rattle.program_edge.specs.Told.{EndingTold}
 use Rattle.program_edge.specs.Rows.{Row}
 use Rattle.program_edge.specs.Inputs.{Reading, IsUnread, ReadsWhole, Lacks, SourceFailed, CountsFault, GivesTooMuch, CountsTooMuch, Offers}
-use Rattle.program_edge.proofs.CallerLemmas.{Lacks-whole, CountsFault-is, CountsTooMuch-is, Offers-is, Offers-whole}
+use Rattle.program_edge.proofs.CallerLemmas.{Lacks-whole, CountsFault-is, CountsTooMuch-is, Offers-is, Offers-whole, EndsInRow-at, EndsInRow-front, EndsInRow-rose, EndsInRow-only, EndsInRow-may, EndsInRow-well}
 use Rattle.program_edge.specs.Endings.{EndsInRow, EndsIn, MayEndIn, PrintsFront, SinkFailed, CountsWriteFault}
-use Rattle.program_edge.proofs.CallerLemmas.{EndsInRow-at, EndsInRow-front, EndsInRow-rose, EndsInRow-only, EndsInRow-may, EndsInRow-well}
-use Rattle.trace_audit.specs.declared.map_lines.MapLine.{MapLine}
-use Rattle.trace_audit.specs.Pieces.{log_lines}
-use Rattle.trace_audit.specs.Rows.{AuditInputs, NamesInputs}
-use Rattle.watch_maps.specs.MapFaults.{map_fault_text, map_input_text}
-use Rattle.watch_maps.specs.WatchMaps.{NumberedMap, watch_map_of}
-use Rattle.watch_maps.specs.LogRuns.{IsWatchMapFault, IsUnwritten, WritesWhole, WatchEnding, on_output, on_errors, log_failed_text, log_too_long_text, IsAnswer}
+use Rattle.can_logs.specs.declared.map_lines.MapLine.{MapLine}
+use Rattle.line_stream.specs.Pieces.{log_lines}
+use Rattle.can_logs.specs.LogRuns.{LogInputs, NamesInputs, IsWatchMapFault, IsUnwritten, WritesWhole, WatchEnding, on_output, on_errors, log_failed_text, log_too_long_text, IsAnswer}
+use Rattle.can_logs.specs.MapFaults.{map_fault_text, map_input_text}
+use Rattle.can_logs.specs.WatchMaps.{NumberedMap, watch_map_of}
 use Rattle.explain_commands.specs.declared.answers.LineAnswer.{LineAnswer}
 use Rattle.explain_commands.specs.Explaining.{answer_accepts, some_failed, counters_after, have_risen, explain_status}
-use Rattle.explain_commands.specs.ExplainRows.{explain_usage, explain_text_asked, ReadsExplainMap, ComesOfExplained, done, FailsOfExplained, failed, too_long, ExplainStops, ExplainFailsBoth, OverExplainMap}
-use Rattle.explain_commands.specs.ExplainRows.{ExplainOnOutput, asked, of_log, ExplainOnErrors, no_form, no_map, map_fault, no_log, EndsExplain}
+use Rattle.explain_commands.specs.ExplainRows.{explain_usage, explain_text_asked, ReadsExplainMap, ComesOfExplained, done, FailsOfExplained, failed, too_long, ExplainStops, ExplainFailsBoth, OverExplainMap, ExplainOnOutput, asked, of_log, ExplainOnErrors, no_form, no_map, map_fault, no_log, EndsExplain}
 use Rattle.explain_commands.specs.Explains.{ExplainsLog, ExplainsAtOnce, Explains}
 use Rattle.explain_commands.proofs.ExplainRising.{answers_rise}
 
@@ -57,7 +54,7 @@ asks_no_text [] text asks is = omega (arith, asks)
 asks_no_text (word ∷ []) text asks is = omega (arith, asks)
 asks_no_text (word ∷ next ∷ rest) text asks is = let clash : None ≡ Some text = is in cc
 
-module _ (i : AuditInputs) (e : WatchEnding) where
+module _ (i : LogInputs) (e : WatchEnding) where
   -- ---- rows by their status
 
   of_log_status : (mapping : NumberedMap) (row : Row) → ComesOfExplained mapping i.log row → IsAnswer row.status

@@ -8,19 +8,18 @@ use Rattle.secoc_words.specs.Counting.{Acceptance, KeepsCounters, AcceptedRise, 
 use Rattle.secoc_words.specs.Counting as counting
 use Rattle.secoc_words.proofs.CallerLemmas.{KeepsCounters-rise}
 use Rattle.text_lines.specs.Lines.{words_of}
-use Rattle.trace_audit.specs.declared.map_lines.MapLine.{MapLine}
-use Rattle.trace_audit.specs.declared.frames.LogFrame.{LogFrame}
-use Rattle.trace_audit.specs.Frames.{log_frame_of}
-use Rattle.trace_audit.specs.MapLines.{place_of_frame}
-use Rattle.trace_audit.specs.Auditing.{channel_of, first_counters}
-use Rattle.trace_audit.specs.Pieces.{line_limit, in_64_bits}
-use Rattle.watch_maps.specs.WatchMaps.{NumberedMap}
+use Rattle.can_logs.specs.declared.map_lines.MapLine.{MapLine}
+use Rattle.can_logs.specs.declared.frames.LogFrame.{LogFrame}
+use Rattle.can_logs.specs.Frames.{log_frame_of}
+use Rattle.can_logs.specs.MapLines.{place_of_frame}
+use Rattle.can_logs.specs.Findings.{channel_of, first_counters}
+use Rattle.line_stream.specs.Pieces.{line_limit, in_64_bits}
+use Rattle.can_logs.specs.WatchMaps.{NumberedMap}
 use Rattle.explain_commands.specs.declared.answers.LineAnswer.{LineAnswer}
 use Rattle.explain_commands.specs.declared.answers.LineAnswer.TheVariants as answer
 use Rattle.explain_commands.specs.Trials.{accepted_freshness}
 use Rattle.explain_commands.specs.Reasons.{Failing}
-use Rattle.explain_commands.specs.Explaining.{Known, answer_by, frame_at, answer_line_at, answer_at, answer_frame, answer_words, answer_line, answer_accepts}
-use Rattle.explain_commands.specs.Explaining.{accepted_in, next_counters, counters_after, known_after, with_answer, answers_to}
+use Rattle.explain_commands.specs.Explaining.{Known, answer_by, frame_at, answer_line_at, answer_at, answer_frame, answer_words, answer_line, answer_accepts, accepted_in, next_counters, counters_after, known_after, with_answer, answers_to}
 use Rattle.explain_commands.proofs.Accepting.{accepted_above}
 
 -- ---- the counters

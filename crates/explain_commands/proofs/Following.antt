@@ -1,34 +1,32 @@
--- The state goes on by more bytes, and by the end of a line.
+-- The state goes on by a line.
 use Rattle.std.proofs.Common.{◌≡◌, ℕ, zero, suc, ◌+◌, ◌<◌, ◌≤◌, Bool, true, false, List, [], ◌∷◌, ◌++◌, length, take, refl, sym, ◌∙◌, ap, subst, arith, append-nil, append_assoc, inl, inr, length-append}
-use Rattle.std.specs.Prelude.{if◌then◌else◌, nat_lt, ◌||◌, fold, filter_map, reverse, Option, None, Some, slice_get, option_map, unwrap_or}
+use Rattle.std.specs.Prelude.{if◌then◌else◌, nat_lt, ◌||◌, fold, filter_map, reverse, Option, None, Some, slice_get, option_map, unwrap_or, Ok}
 use Rattle.std.proofs.lemmas.Bool.{cases_lt}
 use Rattle.std.proofs.lemmas.Bool.Decides.{nat_tests}
 use Rattle.std.proofs.lemmas.Grind.{flat_map-append}
-use Rattle.std.proofs.lemmas.List.{reverse-append, take_at}
+use Rattle.std.proofs.lemmas.List.{reverse-append}
 use Rattle.std.proofs.lemmas.List.Elements.{filter_map-append}
 use Rattle.std.proofs.lemmas.List.Folds.{list_any-append}
 use Rattle.std.proofs.lemmas.List.Sums.{fold-append}
-use Rattle.basics.specs.FaultCount.{counted}
-use Rattle.trace_audit.specs.Auditing.{first_counters}
-use Rattle.trace_audit.specs.Pieces.{line_limit, log_lines, in_64_bits}
-use Rattle.trace_audit.proofs.CallerLemmas.{HasNoFeed, one_line, cut_more, take_twice, kept_whole, kept_long, one_more_line}
+use Rattle.std.proofs.lemmas.Option.{slice_get_within}
+use Rattle.bus_port.specs.Sink.{SinkState}
+use Rattle.can_logs.specs.declared.map_lines.MapLine.{MapLine}
+use Rattle.can_logs.specs.declared.frames.LogFrame.{LogFrame}
+use Rattle.can_logs.specs.Findings.{first_counters, channel_of}
+use Rattle.can_logs.specs.Frames.{log_frame_of}
+use Rattle.can_logs.specs.MapLines.{place_of_frame}
+use Rattle.line_stream.specs.Pieces.{line_limit, in_64_bits}
+use Rattle.line_stream.proofs.CallerLemmas.{kept_whole, kept_long}
 use Rattle.text_lines.specs.Lines.{words_of}
-use Rattle.watch_maps.specs.WatchMaps.{NumberedMap}
+use Rattle.line_stream.specs.Streams.{kept_of, TakesNext}
+use Rattle.can_logs.specs.WatchMaps.{NumberedMap}
 use Rattle.explain_commands.specs.declared.recent.Accepted.{Accepted}
 use Rattle.explain_commands.specs.declared.answers.LineAnswer.{LineAnswer}
 use Rattle.explain_commands.specs.declared.answers.LineAnswer.TheVariants as answer
-use Rattle.explain_commands.specs.Explaining.{Known, answer_line, answer_words, accepted_of, is_failure, accepted_in, recent_of, next_counters, counters_after, known_after, with_answer, answers_to, ExplainsAll, said_of, explained_lines, some_failed, have_risen, status_by, explain_status}
-use Rattle.std.proofs.lemmas.Option.{slice_get_within}
-use Rattle.trace_audit.specs.declared.map_lines.MapLine.{MapLine}
-use Rattle.trace_audit.specs.declared.frames.LogFrame.{LogFrame}
-use Rattle.trace_audit.specs.Frames.{log_frame_of}
-use Rattle.trace_audit.specs.MapLines.{place_of_frame}
-use Rattle.trace_audit.specs.Auditing.{channel_of}
+use Rattle.explain_commands.specs.Explaining.{Known, answer_line, answer_words, accepted_of, is_failure, accepted_in, recent_of, next_counters, counters_after, known_after, with_answer, answers_to, said_of, explained_lines, some_failed, have_risen, status_by, explain_status, answer_by, frame_at, answer_line_at, answer_at, answer_frame}
 use Rattle.explain_commands.specs.Trials.{accepted_freshness}
 use Rattle.explain_commands.specs.Reasons.{Failing}
-use Rattle.explain_commands.specs.Explaining.{answer_by, frame_at, answer_line_at, answer_at, answer_frame}
-use Rattle.explain_commands.specs.ExplainStates.{IsPlacedAnswer}
-use Rattle.explain_commands.specs.ExplainStates.{ExplainState, known_by, answer_kept, after_answer, Followed, FollowsMore, end_explained}
+use Rattle.explain_commands.specs.ExplainStates.{ExplainState, known_by, IsPlacedAnswer, after_answer, IsFreshExplainer, end_explained, ExplainerAtSink, ExplainsLine}
 
 -- ---- the answers to one more line
 
@@ -67,16 +65,16 @@ one_taken : {A : Type 0} (n : ℕ) (x : A) (xs : List A) → take n (x ∷ take 
 one_taken zero x xs = refl
 one_taken {A} (suc n) x xs = ap (λ (l : List A). x ∷ l) (take_less n xs)
 
-module _ (s : ExplainState) (answers : List LineAnswer) where
-  counters_step : (a : LineAnswer) → s.counters ≡ counters_after s.mapping answers → (after_answer s a).counters ≡ counters_after s.mapping (answers ++ a ∷ [])
+module _ (mapping : NumberedMap) (s : ExplainState) (answers : List LineAnswer) where
+  counters_step : (a : LineAnswer) → s.counters ≡ counters_after mapping answers → (after_answer s a).counters ≡ counters_after mapping (answers ++ a ∷ [])
   counters_step answer.Silent is =
-      is ∙ ap (fold next_counters (first_counters s.mapping.lines)) (sym (accepted_more answers answer.Silent ∙ append-nil (accepted_in answers)))
+      is ∙ ap (fold next_counters (first_counters mapping.lines)) (sym (accepted_more answers answer.Silent ∙ append-nil (accepted_in answers)))
   counters_step (answer.Accepted a) is =
       ap (λ cs. next_counters cs a) is
-      ∙ sym (ap (fold next_counters (first_counters s.mapping.lines)) (accepted_more answers (answer.Accepted a))
-      ∙ fold-append next_counters (first_counters s.mapping.lines) (accepted_in answers) (a ∷ []))
+      ∙ sym (ap (fold next_counters (first_counters mapping.lines)) (accepted_more answers (answer.Accepted a))
+      ∙ fold-append next_counters (first_counters mapping.lines) (accepted_in answers) (a ∷ []))
   counters_step (answer.Failed number place e) is =
-      is ∙ ap (fold next_counters (first_counters s.mapping.lines)) (sym (accepted_more answers (answer.Failed number place e) ∙ append-nil (accepted_in answers)))
+      is ∙ ap (fold next_counters (first_counters mapping.lines)) (sym (accepted_more answers (answer.Failed number place e) ∙ append-nil (accepted_in answers)))
 
   recent_step : (a : LineAnswer) → s.recent ≡ recent_of answers → (after_answer s a).recent ≡ recent_of (answers ++ a ∷ [])
   recent_step answer.Silent is =
@@ -115,11 +113,6 @@ same_mapping s answer.Silent = refl
 same_mapping s (answer.Accepted a) = refl
 same_mapping s (answer.Failed number place e) = refl
 
-same_lines : (s : ExplainState) (a : LineAnswer) → (after_answer s a).lines ≡ s.lines
-same_lines s answer.Silent = refl
-same_lines s (answer.Accepted a) = refl
-same_lines s (answer.Failed number place e) = refl
-
 -- ---- places
 
 placed_by : (f : Failing) (number n : ℕ) → f.place < n → (o : Option ℕ) → IsPlacedAnswer n (answer_by f number o)
@@ -147,54 +140,7 @@ pub placed_words : (known : Known) (number : ℕ) (words : List (List ℕ)) → 
 unfolding answer_words
 placed_words known number words = placed_frame known number words (log_frame_of words)
 
--- ---- the state
-
--- before the log
-pub Followed-none : (state : ExplainState) → state.line ≡ [] → state.lines ≡ 0 → state.counters ≡ first_counters state.mapping.lines
-    → state.recent ≡ [] → state.failed ≡ false → Followed state [] []
-unfolding answers_to
-Followed-none state line lines counters recent failed = record {
-  lines = [];
-  rest = [];
-  cut = refl;
-  finds = refl;
-  line_is = line;
-  lines_are = lines;
-  counters_are = counters;
-  recent_are = recent;
-  failed_is = failed;
-}
-
--- bytes without a line feed are added to the line, as far as it is kept
-pub Followed-keeps : (old : ExplainState) (bytes piece : List ℕ) (answers : List LineAnswer) → HasNoFeed piece → Followed old bytes answers
-    → Followed (record old { line = take (line_limit + 1) (old.line ++ piece) }) (bytes ++ piece) answers
-Followed-keeps old bytes piece answers free w = record {
-  lines = w.lines;
-  rest = w.rest ++ piece;
-  cut = cut_more bytes piece w.lines w.rest piece [] w.cut (one_line piece free);
-  finds = w.finds;
-  line_is = ap (λ l. take (line_limit + 1) (l ++ piece)) w.line_is ∙ take_twice (line_limit + 1) w.rest piece;
-  lines_are = w.lines_are;
-  counters_are = w.counters_are;
-  recent_are = w.recent_are;
-  failed_is = w.failed_is;
-}
-
--- the text of a state is apart from what was said before
-pub Followed-text : (state : ExplainState) (text bytes : List ℕ) (answers : List LineAnswer) → Followed state bytes answers → Followed (record state { text = text }) bytes answers
-Followed-text state text bytes answers w = record {
-  lines = w.lines;
-  rest = w.rest;
-  cut = w.cut;
-  finds = w.finds;
-  line_is = w.line_is;
-  lines_are = w.lines_are;
-  counters_are = w.counters_are;
-  recent_are = w.recent_are;
-  failed_is = w.failed_is;
-}
-
--- ---- the end of a line
+-- ---- a line
 
 long_test : (n m : ℕ) → n < m → nat_lt n m ≡ true
 long_test n m less = grind (arith, nat_tests)
@@ -211,96 +157,83 @@ answer_kept-whole known number line rest is = elim (cases_lt line_limit (length 
       ap (answer_line known number) whole
 ]
 
-next_number : (lines n : ℕ) → lines ≡ in_64_bits n → counted lines ≡ in_64_bits (n + 1)
-next_number lines n is = omega (arith, is)
+-- ---- the state
 
--- the state after the end of a line
-abbrev pub ended : ExplainState → ExplainState
-ended old =
-    let here : ExplainState = record old { lines = counted old.lines } in record (after_answer here (answer_kept here)) { line = [] }
+-- what an explainer knows after these lines, apart from its text
+pub record KnowsAnswers (mapping : NumberedMap) (lines : List (List ℕ)) (s : ExplainState) : Type 0 where
+  pub same : s.mapping ≡ mapping
+  pub counters_are : s.counters ≡ counters_after mapping (answers_to mapping lines)
+  pub recent_are : s.recent ≡ recent_of (answers_to mapping lines)
+  pub failed_is : s.failed ≡ some_failed (answers_to mapping lines)
 
-pub Followed-ends : (old : ExplainState) → FollowsMore old (ended old) (10 ∷ [])
-Followed-ends old = λ bytes answers w.
-    let here : ExplainState = record old { lines = counted old.lines } in
-    let a : LineAnswer = answer_kept here in
-    let next : ExplainState = after_answer here a in
-    let mapping : NumberedMap = old.mapping in
-    let numbered : counted old.lines ≡ in_64_bits (length w.lines + 1) = next_number old.lines (length w.lines) w.lines_are in
-    let as_many : length answers ≡ length w.lines = ap length w.finds ∙ length-answers_to mapping w.lines in
-    let known_is : known_by here ≡ known_after mapping answers =
-    ap (λ cs. record { mapping = mapping; counters = cs; recent = old.recent }) w.counters_are
-    ∙ ap (λ (kept : List Accepted). record { mapping = mapping; counters = counters_after mapping answers; recent = kept }) w.recent_are in
-    let a_is : a ≡ answer_line (known_after mapping answers) (in_64_bits (length answers + 1)) w.rest =
-    answer_kept-whole (known_by here) (counted old.lines) old.line w.rest w.line_is
-    ∙ ap (λ (k : Known). answer_line k (counted old.lines) w.rest) known_is
-    ∙ ap (λ n. answer_line (known_after mapping answers) n w.rest) (numbered ∙ ap (λ n. in_64_bits (n + 1)) (sym as_many)) in
-    let finds : answers ++ a ∷ [] ≡ answers_to mapping (w.lines ++ w.rest ∷ []) =
-    ap (λ (x : LineAnswer). answers ++ x ∷ []) a_is ∙ ap (λ (kept : List LineAnswer). with_answer mapping kept w.rest) w.finds
-    ∙ sym (answered_more mapping w.lines w.rest) in
-    let same : next.mapping ≡ mapping = same_mapping here a in (
-      a ∷ [],
-      record {
-        lines = w.lines ++ w.rest ∷ [];
-        rest = [];
-        cut = cut_more bytes (10 ∷ []) w.lines w.rest [] ([] ∷ []) w.cut refl ∙ ap (λ r. w.lines ++ r ∷ [] ∷ []) (append-nil w.rest)
-            ∙ sym (append_assoc w.lines (w.rest ∷ []) ([] ∷ []));
-        finds = finds ∙ ap (λ (m : NumberedMap). answers_to m (w.lines ++ w.rest ∷ [])) (sym same);
-        line_is = refl;
-        lines_are = same_lines here a ∙ numbered ∙ ap in_64_bits (sym (length-append w.lines (w.rest ∷ [])));
-        counters_are = counters_step here answers a w.counters_are ∙ ap (λ (m : NumberedMap). counters_after m (answers ++ a ∷ [])) (sym same);
-        recent_are = recent_step here answers a w.recent_are;
-        failed_is = failed_step here answers a w.failed_is;
-      },
-      text_step here a,
-    )
+-- before the log
+pub KnowsAnswers-none : (s : ExplainState) → IsFreshExplainer s → KnowsAnswers s.mapping [] s
+unfolding answers_to
+KnowsAnswers-none s fresh = record { same = refl; counters_are = fresh.0; recent_are = fresh.1; failed_is = fresh.2 }
 
--- ---- one step after the other
-
-pub FollowsMore-nothing : (state : ExplainState) → FollowsMore state state []
-FollowsMore-nothing state = λ bytes answers w. (
-  [],
-  subst (λ bs. Followed state bs (answers ++ [])) (sym (append-nil bytes)) (subst (Followed state bytes) (sym (append-nil answers)) w),
-  sym (append-nil state.text),
-)
-
-pub FollowsMore-more : (old mid new : ExplainState) (piece next : List ℕ) → mid.mapping ≡ old.mapping → FollowsMore old mid piece → FollowsMore mid new next
-    → FollowsMore old new (piece ++ next)
-FollowsMore-more old mid new piece next same first second = λ bytes answers w.
-    let (some, followed, text) = first bytes answers w in
-    let (rest, followed_all, text_all) = second (bytes ++ piece) (answers ++ some) followed in (
-      some ++ rest,
-      subst (λ bs. Followed new bs (answers ++ (some ++ rest))) (append_assoc bytes piece next)
-          (subst (Followed new ((bytes ++ piece) ++ next)) (append_assoc answers some rest) followed_all),
-      text_all ∙ ap (λ t. t ++ explained_lines mid.mapping rest) text ∙ ap (λ (m : NumberedMap). (old.text ++ explained_lines old.mapping some) ++ explained_lines m rest) same
-          ∙ append_assoc old.text (explained_lines old.mapping some) (explained_lines old.mapping rest)
-          ∙ ap (λ t. old.text ++ t) (sym (flat_map-append (said_of old.mapping) some rest)),
-    )
-
--- bytes without a line feed
-pub FollowsMore-keeps : (old : ExplainState) (piece : List ℕ) → HasNoFeed piece → FollowsMore old (record old { line = take (line_limit + 1) (old.line ++ piece) }) piece
-FollowsMore-keeps old piece free = λ bytes answers w. (
-  [],
-  subst (Followed (record old { line = take (line_limit + 1) (old.line ++ piece) }) (bytes ++ piece)) (sym (append-nil answers)) (Followed-keeps old bytes piece answers free w),
-  sym (append-nil old.text),
-)
-
--- ---- the end of a log
-
-last_gone : {A : Type 0} (xs ys : List A) (x y : A) → xs ++ x ∷ [] ≡ ys ++ y ∷ [] → xs ≡ ys
-last_gone xs ys x y h =
-    sym (take_at xs (x ∷ []) (length xs) refl)
-    ∙ ap (take (length xs)) h
-    ∙ take_at ys (y ∷ []) (length xs) (omega (arith, ap length h, length-append xs (x ∷ []), length-append ys (y ∷ [])))
-
--- after the last line feed stands a line, too
-pub ExplainsAll-ended : (state : ExplainState) (mapping : NumberedMap) (bytes : List ℕ) (answers : List LineAnswer) → state.mapping ≡ mapping
-    → Followed state (bytes ++ 10 ∷ []) answers → ExplainsAll mapping bytes answers
-ExplainsAll-ended state mapping bytes answers same w =
-    let lines_are : w.lines ≡ log_lines bytes = last_gone w.lines (log_lines bytes) w.rest [] (sym w.cut ∙ one_more_line bytes) in
-    w.finds ∙ ap (λ (m : NumberedMap). answers_to m w.lines) same ∙ ap (answers_to mapping) lines_are
+-- a new text is begun
+pub KnowsAnswers-text : (mapping : NumberedMap) (lines : List (List ℕ)) (s : ExplainState) → KnowsAnswers mapping lines s → KnowsAnswers mapping lines (record s { text = [] })
+KnowsAnswers-text mapping lines s e = record { same = e.same; counters_are = e.counters_are; recent_are = e.recent_are; failed_is = e.failed_is }
 
 -- the status is that of the answers
-pub end_explained_is : (state : ExplainState) (bytes : List ℕ) (answers : List LineAnswer) → Followed state bytes answers → end_explained state ≡ explain_status state.mapping answers
-end_explained_is state bytes answers w =
-    ap (λ b. status_by b (have_risen state.mapping state.counters)) w.failed_is
-    ∙ ap (λ cs. status_by (some_failed answers) (have_risen state.mapping cs)) w.counters_are
+pub end_explained_is : (mapping : NumberedMap) (lines : List (List ℕ)) (s : ExplainState) → KnowsAnswers mapping lines s → end_explained s ≡ explain_status mapping (answers_to mapping lines)
+end_explained_is mapping lines s e =
+    ap (λ b. status_by b (have_risen s.mapping s.counters)) e.failed_is
+    ∙ ap (λ cs. status_by (some_failed (answers_to mapping lines)) (have_risen s.mapping cs)) e.counters_are
+    ∙ ap (λ (m : NumberedMap). status_by (some_failed (answers_to mapping lines)) (have_risen m (counters_after mapping (answers_to mapping lines)))) e.same
+
+module _ (mapping : NumberedMap) (lines : List (List ℕ)) (s : ExplainState) (line : List ℕ) (e : KnowsAnswers mapping lines s) where
+  abbrev answer_next : LineAnswer
+  answer_next = answer_line (known_by s) (in_64_bits (length lines + 1)) (kept_of line)
+
+  -- one more line has one more answer
+  pub answers_next : answers_to mapping (lines ++ line ∷ []) ≡ answers_to mapping lines ++ answer_next ∷ []
+  answers_next =
+      let answers : List LineAnswer = answers_to mapping lines in
+      let known_is : known_by s ≡ known_after mapping answers =
+      ap (λ (m : NumberedMap). record { mapping = m; counters = s.counters; recent = s.recent }) e.same
+      ∙ ap (λ cs. record { mapping = mapping; counters = cs; recent = s.recent }) e.counters_are
+      ∙ ap (λ (kept : List Accepted). record { mapping = mapping; counters = counters_after mapping answers; recent = kept }) e.recent_are in
+      let a_is : answer_next ≡ answer_line (known_after mapping answers) (in_64_bits (length answers + 1)) line =
+      answer_kept-whole (known_by s) (in_64_bits (length lines + 1)) (kept_of line) line refl
+      ∙ ap (λ (k : Known). answer_line k (in_64_bits (length lines + 1)) line) known_is
+      ∙ ap (λ n. answer_line (known_after mapping answers) (in_64_bits (n + 1)) line) (sym (length-answers_to mapping lines)) in
+      answered_more mapping lines line ∙ ap (λ (x : LineAnswer). answers ++ x ∷ []) (sym a_is)
+
+  pub KnowsAnswers-more : KnowsAnswers mapping (lines ++ line ∷ []) (after_answer s answer_next)
+  KnowsAnswers-more =
+      let answers : List LineAnswer = answers_to mapping lines in
+      let a : LineAnswer = answer_next in
+      record {
+        same = same_mapping s a ∙ e.same;
+        counters_are = counters_step mapping s answers a e.counters_are ∙ ap (counters_after mapping) (sym answers_next);
+        recent_are = recent_step mapping s answers a e.recent_are ∙ ap recent_of (sym answers_next);
+        failed_is = failed_step mapping s answers a e.failed_is ∙ ap some_failed (sym answers_next);
+      }
+
+-- the lines of a piece: what they add to the answers is the text, and nothing is printed
+pub record WithinPiece (mapping : NumberedMap) (first : List (List ℕ)) (sink : SinkState) (lines : List (List ℕ)) (p : ExplainerAtSink) : Type 0 where
+  pub explained : KnowsAnswers mapping lines p.explainer
+  pub still : p.sink ≡ sink
+  pub more : List LineAnswer
+  pub answers_are : answers_to mapping lines ≡ answers_to mapping first ++ more
+  pub text_is : p.explainer.text ≡ explained_lines mapping more
+
+module _ (mapping : NumberedMap) (first : List (List ℕ)) (sink : SinkState) where
+  pub WithinPiece-none : (p : ExplainerAtSink) → KnowsAnswers mapping first p.explainer → p.explainer.text ≡ [] → p.sink ≡ sink → WithinPiece mapping first sink first p
+  WithinPiece-none p e none still = record { explained = e; still = still; more = []; answers_are = sym (append-nil (answers_to mapping first)); text_is = none }
+
+  pub WithinPiece-more : (lines : List (List ℕ)) (p : ExplainerAtSink) (line : List ℕ) (q : ExplainerAtSink) → WithinPiece mapping first sink lines p → TakesNext ExplainsLine (length lines) p line q (Ok tt)
+      → WithinPiece mapping first sink (lines ++ line ∷ []) q
+  WithinPiece-more lines p line q w taken =
+      let a : LineAnswer = answer_line (known_by p.explainer) (in_64_bits (length lines + 1)) (kept_of line) in
+      subst (WithinPiece mapping first sink (lines ++ line ∷ [])) (sym taken)
+      (record {
+        explained = KnowsAnswers-more mapping lines p.explainer line w.explained;
+        still = w.still;
+        more = w.more ++ a ∷ [];
+        answers_are = answers_next mapping lines p.explainer line w.explained ∙ ap (λ (before : List LineAnswer). before ++ a ∷ []) w.answers_are
+            ∙ append_assoc (answers_to mapping first) w.more (a ∷ []);
+        text_is = text_step p.explainer a ∙ ap (λ (m : NumberedMap). p.explainer.text ++ explained_lines m (a ∷ [])) w.explained.same
+            ∙ ap (λ t. t ++ explained_lines mapping (a ∷ [])) w.text_is ∙ sym (flat_map-append (said_of mapping) w.more (a ∷ []));
+      })

@@ -10,8 +10,7 @@ use Rattle.std.proofs.lemmas.List.Elements.{filter-append}
 use Rattle.explain_commands.specs.declared.trials.Comparison.TheVariants as compared
 use Rattle.explain_commands.specs.declared.kinds.ReasonKind.{ReasonKind}
 use Rattle.explain_commands.specs.Trials.{agrees, is_computed}
-use Rattle.explain_commands.specs.Reasons.{Failing, trial_of, number_of_tries, first_agreeing, computed_in, looked_at, tries_for}
-use Rattle.explain_commands.specs.Reasons.{reason_at, reason_or, last_reason, first_reason, tries_behind, all_tries}
+use Rattle.explain_commands.specs.Reasons.{Failing, trial_of, number_of_tries, first_agreeing, computed_in, looked_at, tries_for, reason_at, reason_or, last_reason, first_reason, tries_behind, all_tries}
 
 -- one more number
 pub range_more : (a n j : ℕ) → a + n ≡ j → range_with_len a (n + 1) ≡ range_with_len a n ++ j ∷ []

@@ -1,6 +1,5 @@
 -- The table of answers of `explain`: its rows, and when each comes
-use Rattle.std.specs.Prelude.{◌≡◌, ◌⊎◌, ℕ, ◌<◌, ◌≤◌, if◌then◌else◌, Option, None, Some, Result, Ok, Err}
-use Rattle.std.specs.Prelude.{List, ◌++◌, length, take, codes}
+use Rattle.std.specs.Prelude.{◌≡◌, ◌⊎◌, ℕ, ◌<◌, ◌≤◌, if◌then◌else◌, Option, None, Some, Result, Ok, Err, List, ◌++◌, length, take, codes}
 use Rattle.bus_port.specs.Fault.{last_count}
 use Rattle.bus_port.specs.Sink.{Appended}
 use Rattle.bus_port.specs.Whole.{AppendedPart}
@@ -10,13 +9,9 @@ use Rattle.program_edge.specs.declared.input.InputFault.{InputFault}
 use Rattle.program_edge.specs.Rows.{Row, row_of}
 use Rattle.program_edge.specs.Inputs.{Reading, IsUnread, ReadsWhole, Lacks, SourceFailed}
 use Rattle.program_edge.specs.Endings.{Ending, EndsInRow, SinkFailed}
-use Rattle.trace_audit.specs.Rows.{AuditInputs, NamesInputs}
-use Rattle.watch_maps.specs.MapFaults.{map_input_row, map_line_row}
-use Rattle.watch_maps.specs.WatchMaps.{NumberedMap, IsMapOf}
-use Rattle.watch_maps.specs.OptionWords.{is_only_word, no_options}
-use Rattle.watch_maps.specs.LogRuns.{IsWatchMapFault, ReadsToEnd, HasCome}
-use Rattle.watch_maps.specs.LogRuns.{Writing, IsUnwritten, WritesWhole, ending_of}
-use Rattle.watch_maps.specs.LogRuns.{WatchEnding, on_output, on_errors, log_failed_text, log_too_long_text}
+use Rattle.can_logs.specs.LogRuns.{LogInputs, NamesInputs, is_only_word, IsWatchMapFault, ReadsToEnd, HasCome, Writing, IsUnwritten, WritesWhole, ending_of, WatchEnding, on_output, on_errors, log_failed_text, log_too_long_text}
+use Rattle.can_logs.specs.MapFaults.{map_input_row, map_line_row}
+use Rattle.can_logs.specs.WatchMaps.{NumberedMap, IsMapOf}
 use Rattle.explain_commands.specs.declared.run.TheConstants.{HELP, VERSION}
 use Rattle.explain_commands.specs.declared.answers.LineAnswer.{LineAnswer}
 use Rattle.explain_commands.specs.Explaining.{explained_lines, ExplainsComplete, ExplainsAll, explain_status}
@@ -33,8 +28,8 @@ explain_text_asked words =
     else None
 
 -- the map was read whole, and has these lines with these numbers, as `watch` reads it
-abbrev pub ReadsExplainMap : AuditInputs → NumberedMap → Type 0
-ReadsExplainMap i mapping = (text : List ℕ) × ReadsWhole i.map text × IsMapOf no_options text mapping
+abbrev pub ReadsExplainMap : LogInputs → NumberedMap → Type 0
+ReadsExplainMap i mapping = (text : List ℕ) × ReadsWhole i.map text × IsMapOf text mapping
 
 -- ---- the log
 
@@ -82,17 +77,17 @@ EndsExplained mapping log output (Err row) = FailsOfExplained mapping log output
 -- ---- the whole run
 
 -- the words are of the form, and the map has lines; this holds of them
-abbrev pub OverExplainMap : AuditInputs → (NumberedMap → Type 0) → Type 0
+abbrev pub OverExplainMap : LogInputs → (NumberedMap → Type 0) → Type 0
 OverExplainMap i P = NamesInputs i.words × ((mapping : NumberedMap) × ReadsExplainMap i mapping × P mapping)
 
 -- the rows on standard output, with nothing on standard error
-pub data ExplainOnOutput (i : AuditInputs) : Row → Type 0 where
+pub data ExplainOnOutput (i : LogInputs) : Row → Type 0 where
   asked : (text : List ℕ) → explain_text_asked i.words ≡ Some text → IsUnread i.map → IsUnread i.log
       → ExplainOnOutput i (row_of 0 text)
   of_log : (row : Row) → OverExplainMap i (λ mapping. ComesOfExplained mapping i.log row) → ExplainOnOutput i row
 
 -- the rows on standard error, by what was written to standard output
-pub data ExplainOnErrors (i : AuditInputs) (output : Writing) : Row → Type 0 where
+pub data ExplainOnErrors (i : LogInputs) (output : Writing) : Row → Type 0 where
   no_form : ¬ NamesInputs i.words → explain_text_asked i.words ≡ None → IsUnread i.map → IsUnread i.log
       → IsUnwritten output → ExplainOnErrors i output (row_of 2 explain_usage)
   no_map : (fault : InputFault) → NamesInputs i.words → Lacks i.map fault → IsUnread i.log → IsUnwritten output
@@ -103,14 +98,14 @@ pub data ExplainOnErrors (i : AuditInputs) (output : Writing) : Row → Type 0 w
       → ExplainOnErrors i output row
 
 -- how a run ends: in a row on standard output, or before, as that failed; or in a row on standard error
-abbrev pub EndsExplain : AuditInputs → WatchEnding → Type 0
+abbrev pub EndsExplain : LogInputs → WatchEnding → Type 0
 EndsExplain i e =
     (EndsInRow (ExplainOnOutput i) (on_output e) × IsUnwritten e.errors)
     ⊎ (OverExplainMap i (λ mapping. ExplainStops mapping i.log (on_output e)) × IsUnwritten e.errors)
     ⊎ EndsInRow (ExplainOnErrors i e.output) (on_errors e)
 
 -- the same before a fault is told: a status, or the row that is to be told on standard error
-abbrev pub EndsExplainUntold : AuditInputs → Writing → Result ℕ Row → Type 0
+abbrev pub EndsExplainUntold : LogInputs → Writing → Result ℕ Row → Type 0
 EndsExplainUntold i output (Ok status) =
     EndsInRow (ExplainOnOutput i) (ending_of output status)
     ⊎ OverExplainMap i (λ mapping. ExplainStops mapping i.log (ending_of output status))

@@ -1,32 +1,27 @@
--- The state between two pieces of a log
-use Rattle.std.specs.Prelude.{◌≡◌, ℕ, ◌+◌, ◌<◌, Bool, true, List, [], ◌∷◌, ◌++◌, length, take}
-use Rattle.trace_audit.specs.Pieces.{line_limit, log_lines, in_64_bits}
-use Rattle.watch_maps.specs.WatchMaps.{NumberedMap}
+-- What is known of a log between two of its lines, and what the driver of a log is told
+use Rattle.std.specs.Prelude.{◌≡◌, ℕ, ◌<◌, Bool, true, false, List, [], ◌∷◌, ◌++◌, take, Result, Ok, Err, IfErr}
+use Rattle.bus_port.specs.Sink.{SinkState}
+use Rattle.program_edge.specs.Told.{EndingTold}
+use Rattle.can_logs.specs.Findings.{first_counters}
+use Rattle.line_stream.specs.Pieces.{PutsPiece}
+use Rattle.can_logs.specs.WatchMaps.{NumberedMap}
 use Rattle.explain_commands.specs.declared.recent.Accepted.{Accepted}
 use Rattle.explain_commands.specs.declared.answers.LineAnswer.{LineAnswer}
 use Rattle.explain_commands.specs.declared.answers.LineAnswer.TheVariants as answer
-use Rattle.explain_commands.specs.Explaining.{Known, answer_line, recent_of, counters_after, answers_to}
-use Rattle.explain_commands.specs.Explaining.{explained_lines}
-use Rattle.explain_commands.specs.Explaining.{said_of, next_counters, some_failed, have_risen, status_by}
+use Rattle.explain_commands.specs.Explaining.{Known, answer_line, said_of, next_counters, have_risen, status_by}
 
--- the map, the counters of its lines, and the frames that were accepted last; whether a frame failed; the line that no
--- line feed has ended, as far as it is kept, and the number of lines before it; what is said of the last piece
+-- the map, the counters of its lines, and the frames that were accepted last; whether a frame failed; what is said of
+-- the last lines
 pub record ExplainState : Type 0 where
   pub mapping : NumberedMap
   pub counters : List ℕ
   pub recent : List Accepted
   pub failed : Bool
-  pub line : List ℕ
-  pub lines : ℕ
   pub text : List ℕ
 
 -- what a state knows of the lines before
 abbrev pub known_by : ExplainState → Known
 known_by s = record { mapping = s.mapping; counters = s.counters; recent = s.recent }
-
--- the answer to the line that is kept
-abbrev pub answer_kept : ExplainState → LineAnswer
-answer_kept s = answer_line (known_by s) s.lines s.line
 
 -- a place is one of so many
 abbrev pub IsPlacedAnswer : ℕ → LineAnswer → Type 0
@@ -42,24 +37,35 @@ after_answer s (answer.Accepted a) =
 after_answer s (answer.Failed number place e) =
     record s { failed = true; text = s.text ++ said_of s.mapping (answer.Failed number place e) }
 
--- the state after these bytes of a log, to whose complete lines these are the answers
-pub record Followed (state : ExplainState) (bytes : List ℕ) (answers : List LineAnswer) : Type 0 where
-  pub lines : List (List ℕ)
-  pub rest : List ℕ
-  pub cut : log_lines bytes ≡ lines ++ rest ∷ []
-  pub finds : answers ≡ answers_to state.mapping lines
-  pub line_is : state.line ≡ take (line_limit + 1) rest
-  pub lines_are : state.lines ≡ in_64_bits (length lines)
-  pub counters_are : state.counters ≡ counters_after state.mapping answers
-  pub recent_are : state.recent ≡ recent_of answers
-  pub failed_is : state.failed ≡ some_failed answers
-
--- more was answered: of these bytes more, and the text was added
-abbrev pub FollowsMore : ExplainState → ExplainState → List ℕ → Type 0
-FollowsMore old new piece =
-    (bytes : List ℕ) (answers : List LineAnswer) → Followed old bytes answers → (more : List LineAnswer)
-    × Followed new (bytes ++ piece) (answers ++ more) × (new.text ≡ old.text ++ explained_lines old.mapping more)
+-- nothing was answered yet
+abbrev pub IsFreshExplainer : ExplainState → Type 0
+IsFreshExplainer s =
+    (s.counters ≡ first_counters s.mapping.lines) × (s.recent ≡ []) × (s.failed ≡ false) × (s.text ≡ [])
 
 -- the status at the end of a log, of a state
 abbrev pub end_explained : ExplainState → ℕ
 end_explained s = status_by s.failed (have_risen s.mapping s.counters)
+
+-- ---- over a sink
+
+-- an explainer, and the sink that it prints to
+pub record ExplainerAtSink : Type 0 where
+  pub explainer : ExplainState
+  pub sink : SinkState
+
+-- a line: its answer is kept, and its text is added
+abbrev pub ExplainsLine : ExplainerAtSink → ℕ → List ℕ → ExplainerAtSink → Result (Unit {0}) ℕ → Type 0
+ExplainsLine before number line after (Ok _) = after ≡ record before {
+  explainer = after_answer before.explainer (answer_line (known_by before.explainer) number line);
+}
+ExplainsLine before number line after (Err _) = ⊥
+
+-- a pause: the text is printed, and a new one begins; or the sink failed, and that ends the log with 6
+abbrev pub PrintsText : ExplainerAtSink → ExplainerAtSink → Result (Unit {0}) ℕ → Type 0
+PrintsText before after result = PutsPiece before.sink after.sink before.explainer.text result
+    × (after.explainer ≡ record before.explainer { text = [] }) × IfErr result (λ status. status ≡ 6)
+
+-- the end of the log: the text is printed, and the status is that of all answers
+abbrev pub TellsExplained : ExplainerAtSink → ExplainerAtSink → ℕ → Type 0
+TellsExplained before after status =
+    EndingTold before.sink after.sink before.explainer.text (end_explained before.explainer) status

@@ -1,17 +1,15 @@
 -- What is said of each line of a log
-use Rattle.std.specs.Prelude.{◌≡◌, ℕ, ◌+◌, nat_lt, ◌||◌, ◌&&◌, Bool, true, false, if◌then◌else◌}
-use Rattle.std.specs.Prelude.{List, [], ◌∷◌, ◌++◌, length, take, reverse, fold, flat_map, filter_map}
-use Rattle.std.specs.Prelude.{slice_get, slice_index, slice_set, Option, None, Some, option_map, unwrap_or}
+use Rattle.std.specs.Prelude.{◌≡◌, ℕ, ◌+◌, nat_lt, ◌||◌, ◌&&◌, Bool, true, false, if◌then◌else◌, List, [], ◌∷◌, ◌++◌, length, take, reverse, fold, flat_map, filter_map, slice_get, slice_index, slice_set, Option, None, Some, option_map, unwrap_or}
 use Rattle.std.specs.List.{list_any, list_all, range_with_len}
 use Rattle.secoc_words.specs.Counting.{Acceptance}
 use Rattle.text_lines.specs.Lines.{words_of}
-use Rattle.trace_audit.specs.declared.map_lines.MapLine.{MapLine}
-use Rattle.trace_audit.specs.declared.frames.LogFrame.{LogFrame}
-use Rattle.trace_audit.specs.MapLines.{row_head, place_of_frame}
-use Rattle.trace_audit.specs.Frames.{log_frame_of}
-use Rattle.trace_audit.specs.Auditing.{channel_of, first_counters}
-use Rattle.trace_audit.specs.Pieces.{line_limit, log_lines, in_64_bits}
-use Rattle.watch_maps.specs.WatchMaps.{NumberedMap}
+use Rattle.can_logs.specs.declared.map_lines.MapLine.{MapLine}
+use Rattle.can_logs.specs.declared.frames.LogFrame.{LogFrame}
+use Rattle.can_logs.specs.MapLines.{row_head, place_of_frame}
+use Rattle.can_logs.specs.Frames.{log_frame_of}
+use Rattle.can_logs.specs.Findings.{channel_of, first_counters}
+use Rattle.line_stream.specs.Pieces.{line_limit, log_lines, in_64_bits}
+use Rattle.can_logs.specs.WatchMaps.{NumberedMap}
 use Rattle.explain_commands.specs.declared.recent.Accepted.{Accepted}
 use Rattle.explain_commands.specs.declared.answers.LineAnswer.{LineAnswer}
 use Rattle.explain_commands.specs.declared.answers.LineAnswer.TheVariants as answer

@@ -5,37 +5,32 @@ use Rattle.secoc_words.specs.Counting.{AcceptedRise}
 use Rattle.text_lines.specs.Readings.{Fault}
 use Rattle.program_edge.specs.declared.input.InputFault.TheVariants as input
 use Rattle.program_edge.specs.Told.{EndingTold}
-use Rattle.program_edge.specs.Inputs.{IsUnread, Lacks, SourceFailed, CountsFault}
-use Rattle.program_edge.specs.Inputs.{GivesTooMuch, CountsTooMuch, Offers}
+use Rattle.program_edge.specs.Inputs.{IsUnread, Lacks, SourceFailed, CountsFault, GivesTooMuch, CountsTooMuch, Offers}
 use Rattle.program_edge.specs.Endings.{EndsIn, MayEndIn, PrintsFront, SinkFailed, CountsWriteFault}
-use Rattle.trace_audit.specs.declared.map_lines.MapLine.{MapLine}
-use Rattle.trace_audit.specs.Rows.{AuditInputs, NamesInputs}
-use Rattle.watch_maps.specs.MapFaults.{map_fault_text, map_input_text}
-use Rattle.watch_maps.specs.WatchMaps.{watch_map_of}
-use Rattle.watch_maps.specs.LogRuns.{IsWatchMapFault, ReadsToEnd, HasCome, IsUnwritten, WritesWhole, IsAnswer}
-use Rattle.watch_maps.specs.LogRuns.{WatchEnding, on_output, on_errors, log_failed_text, log_too_long_text}
+use Rattle.can_logs.specs.declared.map_lines.MapLine.{MapLine}
+use Rattle.can_logs.specs.LogRuns.{LogInputs, NamesInputs, IsWatchMapFault, ReadsToEnd, HasCome, IsUnwritten, WritesWhole, IsAnswer, WatchEnding, on_output, on_errors, log_failed_text, log_too_long_text}
+use Rattle.can_logs.specs.MapFaults.{map_fault_text, map_input_text}
+use Rattle.can_logs.specs.WatchMaps.{watch_map_of}
 use Rattle.explain_commands.specs.declared.answers.LineAnswer.{LineAnswer}
-use Rattle.explain_commands.specs.Explaining.{ExplainsComplete, ExplainsAll, answer_accepts}
-use Rattle.explain_commands.specs.Explaining.{explained_lines, explain_status}
-use Rattle.explain_commands.specs.ExplainRows.{explain_usage, explain_text_asked, ExplainStops, ExplainFailsBoth}
-use Rattle.explain_commands.specs.ExplainRows.{OverExplainMap, ExplainOnOutput, ExplainOnErrors, EndsExplain}
+use Rattle.explain_commands.specs.Explaining.{ExplainsComplete, ExplainsAll, answer_accepts, explained_lines, explain_status}
+use Rattle.explain_commands.specs.ExplainRows.{explain_usage, explain_text_asked, ExplainStops, ExplainFailsBoth, OverExplainMap, ExplainOnOutput, ExplainOnErrors, EndsExplain}
 
 -- the whole log was read, exactly what is said of its lines was printed, and these answers give the status. Of two
 -- frames that the same line of the map accepted, the later has the greater freshness
-abbrev pub ExplainsLog : AuditInputs → WatchEnding → Type 0
+abbrev pub ExplainsLog : LogInputs → WatchEnding → Type 0
 ExplainsLog i e = OverExplainMap i (λ mapping. (log : List ℕ) × (answers : List LineAnswer) × ReadsToEnd i.log log
     × ExplainsAll mapping log answers × (e.status ≡ explain_status mapping answers)
     × AcceptedRise (map answer_accepts answers)
     × WritesWhole e.output (explained_lines mapping answers) × IsUnwritten e.errors)
 
 -- exactly what is said of every complete line of the bytes that came was printed
-abbrev pub ExplainsAtOnce : AuditInputs → WatchEnding → (List ℕ → Type 0) → Type 0
+abbrev pub ExplainsAtOnce : LogInputs → WatchEnding → (List ℕ → Type 0) → Type 0
 ExplainsAtOnce i e P = OverExplainMap i (λ mapping. (bytes : List ℕ) × (answers : List LineAnswer)
     × HasCome i.log bytes × P bytes × ExplainsComplete mapping bytes answers
     × WritesWhole e.output (explained_lines mapping answers))
 
 -- what a run promises that has these inputs and ends so, in the order of the table of answers
-pub record Explains (i : AuditInputs) (e : WatchEnding) : Type 0 where
+pub record Explains (i : LogInputs) (e : WatchEnding) : Type 0 where
   -- The program prints a row of the table, on standard output or on standard error, and ends with its status, or at 6 a
   -- prefix of one. Or standard output failed at what was said of a log that hadn't ended.
   pub ends : EndsExplain i e

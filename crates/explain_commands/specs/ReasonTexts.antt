@@ -1,7 +1,7 @@
 -- The printed text of a reason
 use Rattle.std.specs.Prelude.{ℕ, ◌-◌, ◌*◌, ◌^◌, nat_le, if◌then◌else◌, List, [], ◌++◌, codes, decimal}
 use Rattle.text_lines.specs.Texts.{line}
-use Rattle.trace_audit.specs.Auditing.{front_text}
+use Rattle.can_logs.specs.Findings.{front_text}
 use Rattle.explain_commands.specs.declared.kinds.Reason.{Reason}
 use Rattle.explain_commands.specs.declared.kinds.Reason.TheVariants as reason
 use Rattle.explain_commands.specs.declared.kinds.Explained.{Explained}

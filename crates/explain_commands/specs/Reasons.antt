@@ -1,9 +1,7 @@
 -- Why a frame fails: the reasons in the order in which they are looked for, and the first that holds
-use Rattle.std.specs.Prelude.{ℕ, ◌+◌, ◌*◌, ◌/◌, ◌%◌, ◌^◌, ◌==◌, nat_lt, if◌then◌else◌, List, [], ◌∷◌, length}
-use Rattle.std.specs.Prelude.{filter, find}
-use Rattle.std.specs.Prelude.{slice_get, slice_index, slice_set, bit_xor, Option, None, Some, option_map, unwrap_or}
+use Rattle.std.specs.Prelude.{ℕ, ◌+◌, ◌*◌, ◌/◌, ◌%◌, ◌^◌, ◌==◌, nat_lt, if◌then◌else◌, List, [], ◌∷◌, length, filter, find, slice_get, slice_index, slice_set, bit_xor, Option, None, Some, option_map, unwrap_or}
 use Rattle.std.specs.List.{range_with_len}
-use Rattle.trace_audit.specs.declared.map_lines.MapLine.{MapLine}
+use Rattle.can_logs.specs.declared.map_lines.MapLine.{MapLine}
 use Rattle.explain_commands.specs.declared.trials.Making.TheVariants as making
 use Rattle.explain_commands.specs.declared.trials.Comparison.{Comparison}
 use Rattle.explain_commands.specs.declared.trials.Comparison.TheVariants as compared

@@ -1,6 +1,5 @@
 -- A frame that is tried as a Secured I-PDU of a receiver
-use Rattle.std.specs.Prelude.{ℕ, ◌+◌, ◌%◌, ◌^◌, ◌==◌, ◌&&◌, nat_le, nat_lt, Bool, true, false, if◌then◌else◌}
-use Rattle.std.specs.Prelude.{List, length, take, drop, slice_index, slice_range, find, bytes_eq, Option, None, Some}
+use Rattle.std.specs.Prelude.{ℕ, ◌+◌, ◌%◌, ◌^◌, ◌==◌, ◌&&◌, nat_le, nat_lt, Bool, true, false, if◌then◌else◌, List, length, take, drop, slice_index, slice_range, find, bytes_eq, Option, None, Some}
 use Rattle.std.specs.List.{range_with_len}
 use Rattle.std.specs.Int.{w16, w64, swap_bytes}
 use Rattle.she_cmac.specs.Cmac.{cmac}

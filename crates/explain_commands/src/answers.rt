@@ -1,14 +1,13 @@
 //! What is said of a line of a log.
-ghost use Rattle.std.specs.Prelude.{◌≡◌, ◌≤◌, ◌<◌, length, slice_get, Some};
+ghost use Rattle.std.specs.Prelude.{◌≡◌, ◌<◌, length, Some};
 ghost use Rattle.explain_commands.specs.Trials.{accepted_freshness};
 ghost use Rattle.explain_commands.specs.Explaining.{answer_by, answer_words};
 
 use crate::kinds::{Case, Explained};
 use crate::reasons::explain;
 use crate::recent::{Accepted, Recent};
+use can_logs::{WatchMap, log_frame, place_for};
 use text_lines::words::Words;
-use trace_audit::{log_frame, place_for};
-use watch_maps::WatchMap;
 
 /// What is said of a line of a log.
 #[derive(Clone, Copy)]

@@ -10,9 +10,8 @@ use crate::recent::{Accepted, Recent};
 use crate::trials::{
     Comparison, KnownReceiver, Making, accepted_freshness, trial_ahead, trial_with, trial_within,
 };
+use can_logs::{MapLine, WatchMap};
 use std::marker::Model;
-use trace_audit::MapLine;
-use watch_maps::WatchMap;
 
 /// How far beyond the window a freshness is looked for.
 const FAR: usize = 65536;
@@ -97,7 +96,6 @@ pub struct Case<'a> {
 
 impl<'a> Model for Case<'a> {
     ghost use Rattle.std.specs.Prelude.{◌≡◌, ◌≤◌, length};
-    ghost use Rattle.secured_pdu.specs.Frame.{IsWindow};
     ghost use Rattle.explain_commands.specs.Reasons.{Failing};
 
     ghost Value = { Failing };

@@ -4,7 +4,7 @@ ghost use Rattle.secoc_words.specs.Counting.{AcceptedRise};
 ghost use Rattle.secured_pdu.specs.Frame.{IsWindow};
 ghost use Rattle.secured_pdu.specs.Verdict.{Accepted, Verdict};
 ghost use Rattle.explain_commands.specs.declared.trials.KnownReceiver.{KnownReceiver};
-ghost use Rattle.watch_maps.specs.WatchMaps.{NumberedMap};
+ghost use Rattle.can_logs.specs.WatchMaps.{NumberedMap};
 ghost use Rattle.explain_commands.specs.Trials.{accepted_freshness};
 ghost use Rattle.explain_commands.specs.Explaining.{answer_accepts, answers_to};
 

@@ -2,14 +2,14 @@
 //!
 //! [`run_explain`] prints, for each frame of a log that fails, the first reason that holds and how many authenticators
 //! were computed to find it, with the record `Explains`; [`explain_words`] does so over the sources that the arguments
-//! name. [`explain`] gives the reason for one frame. [`Explainer`] is the state between two pieces of a log. It speaks
-//! of the bytes that came and not of the pieces. Its `take` is never out of memory, and `finish` takes the last line
-//! and gives the status. [`Recent`] keeps the frames that were accepted last, 65,536 at most.
+//! name. [`explain`] gives the reason for one frame. [`Recent`] keeps the frames that were accepted last, 65,536 at
+//! most. The driver of `line_stream` hands over the lines of the log. All memory is taken before the log.
 #![tactic(auto)]
 
 mod answers;
 mod kinds;
 pub mod laws;
+mod port;
 mod reasons;
 mod recent;
 mod run;
@@ -24,6 +24,5 @@ pub use reasons::explain;
 pub use recent::{Accepted, KEPT, Recent};
 pub use run::run_explain;
 pub use start::explain_words;
-pub use state::Explainer;
 pub use texts::push_explained;
 pub use trials::{Comparison, KnownReceiver, Making, accepted_freshness, tag_trial_by};

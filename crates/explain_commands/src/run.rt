@@ -1,19 +1,19 @@
 //! The program's one command.
-ghost use Rattle.std.specs.Prelude.{◌≡◌, [], map as each, List, ℕ, None, string_bytes};
+ghost use Rattle.std.specs.Prelude.{◌≡◌, map as each, None, string_bytes};
 ghost use Rattle.bus_port.specs.Source.{SourceState};
 ghost use Rattle.bus_port.specs.Sink.{SinkState};
-ghost use Rattle.explain_commands.specs.declared.answers.LineAnswer.{LineAnswer};
-ghost use Rattle.explain_commands.specs.ExplainStates.{Followed};
+ghost use Rattle.explain_commands.specs.ExplainStates.{IsFreshExplainer};
 ghost use Rattle.explain_commands.specs.ExplainRows.{EndsExplained, EndsExplainUntold, explain_text_asked};
 ghost use Rattle.explain_commands.specs.Explains.{Explains};
-ghost use Rattle.explain_commands.specs.ExplainSteps.{PreparesExplain, ExplainSoFar, ExplainTurns};
+ghost use Rattle.explain_commands.specs.ExplainSteps.{PreparesExplain};
 
+use crate::port::ExplainPort;
 use crate::state::Explainer;
-use bus_port::{PortFailed, Sink, Source};
-use program_edge::{DONE, Refusal, WRITE_FAULT, tell, tell_refusal};
+use bus_port::{Sink, Source};
+use can_logs::{is_only, names_inputs, read_watch_map};
+use line_stream::{StreamFault, stream_lines};
+use program_edge::{DONE, Refusal, tell, tell_refusal};
 use std::alloc::{AllocError, Global};
-use trace_audit::{PIECE, names_inputs};
-use watch_maps::{WatchOptions, is_only, read_watch_map};
 
 const USAGE: &str = "usage: explain MAP LOG\n";
 
@@ -115,7 +115,7 @@ fn prepare<S: Source>(alloc: Global, words: &[String], map: &mut S) -> Result<Ex
     if !names_inputs(words) {
         return Err(Refusal::fixed(2, USAGE));
     }
-    let map = read_watch_map(alloc, map, WatchOptions::none())?;
+    let map = read_watch_map(alloc, map)?;
     match Explainer::new(alloc, map) {
         Ok(explainer) => Ok(explainer),
         Err(AllocError) => Err(Refusal::no_memory()),
@@ -128,49 +128,14 @@ fn explain_log<T: Source, K: Sink>(
     log: &mut T,
     sink: &mut K,
 ) -> Result<u8, Refusal>
-    requires { Followed explainer.old [] [] }
+    requires { IsFreshExplainer explainer.old }
     ensures { EndsExplained explainer.old.mapping (record { before = T.state log.old; after = T.state log.new })
         (record { before = K.state sink.old; after = K.state sink.new }) result }
 {
-    let mut piece = [0u8; PIECE];
-    for _ in 0..u64::MAX {
-        match next_piece(explainer, log, &mut piece, sink) {
-            Some(end) => return end,
-            None => (),
-        }
-    }
-    Err(Refusal::fixed(8, LOG_TOO_LONG))
-}
-
-/// Takes the next piece of the log. A status or a fault's row if it ended, or a port failed.
-fn next_piece<T: Source, K: Sink>(
-    explainer: &mut Explainer,
-    log: &mut T,
-    piece: &mut [u8; PIECE],
-    sink: &mut K,
-) -> Option<Result<u8, Refusal>>
-    ensures mapping { explainer.new.mapping ≡ explainer.old.mapping }
-    ensures turns { (first : SourceState) (start : SinkState) (bytes : List ℕ) (answers : List LineAnswer)
-        → ExplainSoFar (record {
-          log = record { before = first; after = T.state log.old };
-          before = start;
-          after = K.state sink.old;
-        }) explainer.old bytes answers
-        → ExplainTurns (record {
-          log = record { before = first; after = T.state log.new };
-          before = start;
-          after = K.state sink.new;
-        }) explainer.new bytes answers result }
-{
-    let count = match log.read(piece) {
-        Ok(count) => count,
-        Err(PortFailed) => return Some(Err(Refusal::fixed(5, LOG_FAILED))),
-    };
-    if count == 0 {
-        return Some(Ok(explainer.finish(sink)));
-    }
-    match explainer.take(&piece[..count], sink) {
-        Ok(()) => None,
-        Err(PortFailed) => Some(Ok(WRITE_FAULT)),
+    let mut port = ExplainPort { explainer, sink };
+    match stream_lines(log, &mut port) {
+        Ok(status) => Ok(status),
+        Err(StreamFault::ReadFault) => Err(Refusal::fixed(5, LOG_FAILED)),
+        Err(StreamFault::TooLong) => Err(Refusal::fixed(8, LOG_TOO_LONG)),
     }
 }

@@ -5,9 +5,9 @@ ghost use Rattle.explain_commands.specs.ReasonTexts.{text_with_number, beyond_te
 ghost use Rattle.explain_commands.specs.ReasonTexts.{reason_text, hedge, explained_line};
 
 use crate::kinds::{Explained, Reason};
+use can_logs::push_front;
 use itoa::Buffer;
 use std::alloc::AllocError;
-use trace_audit::push_front;
 
 /// So many authenticators may be computed for a reason that is more than a guess.
 const CERTAIN: usize = 16_777;

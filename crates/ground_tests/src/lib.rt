@@ -21,3 +21,5 @@ mod lists;
 mod ports;
 #[cfg(test)]
 mod runs;
+#[cfg(test)]
+mod streams;

@@ -10,10 +10,10 @@ use Rattle.std.proofs.lemmas.List.Splits.{length-slice_split}
 use Rattle.std.proofs.lemmas.List.Elements.{filter_map-append}
 use Rattle.text_lines.specs.Lines.{is_line_feed, words_of, is_skipped}
 use Rattle.text_lines.specs.Texts.{line}
-use Rattle.trace_audit.specs.Pieces.{log_lines}
-use Rattle.trace_audit.proofs.CallerLemmas.{one_line, cut_more, no_feed-front, through_feed}
-use Rattle.trace_audit.specs.declared.map_lines.MapLine.{MapLine}
-use Rattle.trace_audit.specs.Frames.{log_frame_of}
+use Rattle.line_stream.specs.Pieces.{log_lines}
+use Rattle.line_stream.proofs.CallerLemmas.{one_line, cut_more, no_feed-front, through_feed}
+use Rattle.can_logs.specs.declared.map_lines.MapLine.{MapLine}
+use Rattle.can_logs.specs.Frames.{log_frame_of}
 use Rattle.locate_commands.specs.Locating.{heard_in, as_list, asks_fresh, with_fresh, filled_line, filled_from, is_settled, are_settled}
 
 none_heard : (heard : List ℕ → Option (List ℕ)) → heard [] ≡ None → filter_map heard ([] ∷ []) ≡ []

@@ -8,19 +8,16 @@ use Rattle.program_edge.specs.Input.{input_fault_status}
 use Rattle.program_edge.specs.declared.input.InputFault.TheVariants as input
 use Rattle.program_edge.specs.Rows.{Row}
 use Rattle.program_edge.specs.Inputs.{Reading, IsUnread, ReadsWhole, Lacks, SourceFailed, CountsFault, GivesTooMuch, CountsTooMuch, Offers}
-use Rattle.program_edge.proofs.CallerLemmas.{Lacks-whole, CountsFault-is, CountsTooMuch-is, Offers-is, Offers-whole}
+use Rattle.program_edge.proofs.CallerLemmas.{Lacks-whole, CountsFault-is, CountsTooMuch-is, Offers-is, Offers-whole, EndsInRow-at, EndsInRow-front, EndsInRow-rose, EndsInRow-only, EndsInRow-may, EndsInRow-well}
 use Rattle.program_edge.specs.Endings.{EndsInRow, EndsIn, MayEndIn, PrintsFront, SinkFailed, CountsWriteFault}
-use Rattle.program_edge.proofs.CallerLemmas.{EndsInRow-at, EndsInRow-front, EndsInRow-rose, EndsInRow-only, EndsInRow-may, EndsInRow-well}
-use Rattle.trace_audit.specs.declared.map_lines.MapLine.{MapLine}
-use Rattle.trace_audit.specs.Pieces.{log_lines}
-use Rattle.trace_audit.specs.Rows.{AuditInputs}
-use Rattle.watch_maps.specs.MapFaults.{map_fault_text, map_input_text}
-use Rattle.watch_maps.specs.WatchMaps.{NumberedMap, watch_map_of}
-use Rattle.watch_maps.specs.LogRuns.{IsUnwritten, WritesWhole, WatchEnding, on_output, on_errors}
+use Rattle.can_logs.specs.declared.map_lines.MapLine.{MapLine}
+use Rattle.line_stream.specs.Pieces.{log_lines}
+use Rattle.can_logs.specs.LogRuns.{LogInputs, IsUnwritten, WritesWhole, WatchEnding, on_output, on_errors}
+use Rattle.can_logs.specs.MapFaults.{map_fault_text, map_input_text}
+use Rattle.can_logs.specs.WatchMaps.{NumberedMap, watch_map_of}
 use Rattle.locate_commands.specs.LocateOptions.{locate_asked}
 use Rattle.locate_commands.specs.Locating.{zeroed, FoundIn, fresh_of, are_settled, located_text, locate_status}
-use Rattle.locate_commands.specs.LocateRows.{locate_usage, log_input_text, ReadsAskingMap, IsAskingMapFault, AsksLocate, OverLocate}
-use Rattle.locate_commands.specs.LocateRows.{LocateOnOutput, done, LocateOnErrors, no_form, no_map, map_fault, no_log, no_memory, EndsLocate}
+use Rattle.locate_commands.specs.LocateRows.{locate_usage, log_input_text, ReadsAskingMap, IsAskingMapFault, AsksLocate, OverLocate, LocateOnOutput, done, LocateOnErrors, no_form, no_map, map_fault, no_log, no_memory, EndsLocate}
 use Rattle.locate_commands.specs.Locates.{IsMapPrinted, Locates}
 
 -- ---- statuses
@@ -39,7 +36,7 @@ found_few status (inr one) = omega (arith, one)
 above_1 : (status : ℕ) → 1 < status → ¬ IsMapPrinted status
 above_1 status above = λ is. omega (arith, above, found_few status is)
 
-module _ (i : AuditInputs) (e : WatchEnding) where
+module _ (i : LogInputs) (e : WatchEnding) where
   -- ---- rows by their status
 
   output_status : (row : Row) → LocateOnOutput i row → IsMapPrinted row.status

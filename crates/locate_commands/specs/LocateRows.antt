@@ -8,11 +8,9 @@ use Rattle.program_edge.specs.declared.input.InputFault.TheVariants as input
 use Rattle.program_edge.specs.Rows.{Row, row_of, memory_row}
 use Rattle.program_edge.specs.Inputs.{Reading, IsUnread, ReadsWhole, Lacks}
 use Rattle.program_edge.specs.Endings.{EndsInRow}
-use Rattle.trace_audit.specs.Rows.{AuditInputs}
-use Rattle.watch_maps.specs.OptionWords.{no_options}
-use Rattle.watch_maps.specs.MapFaults.{map_input_row, map_line_row}
-use Rattle.watch_maps.specs.WatchMaps.{NumberedMap, watch_map_of, IsMapOf}
-use Rattle.watch_maps.specs.LogRuns.{IsUnwritten, WatchEnding, on_output, on_errors}
+use Rattle.can_logs.specs.LogRuns.{LogInputs, IsUnwritten, WatchEnding, on_output, on_errors}
+use Rattle.can_logs.specs.MapFaults.{map_input_row, map_line_row}
+use Rattle.can_logs.specs.WatchMaps.{NumberedMap, watch_map_of, IsMapOf}
 use Rattle.locate_commands.specs.LocateOptions.{Asked, locate_asked}
 use Rattle.locate_commands.specs.Locating.{zeroed, FoundIn, located_text, locate_status}
 
@@ -30,8 +28,8 @@ abbrev pub log_input_row : InputFault → Row
 log_input_row fault = row_of (input_fault_status fault) (log_input_text fault)
 
 -- the map was read whole, and with FRESH 0 for each `?` it has these lines with these numbers
-abbrev pub ReadsAskingMap : AuditInputs → List ℕ → NumberedMap → Type 0
-ReadsAskingMap i text mapping = ReadsWhole i.map text × IsMapOf no_options (zeroed text) mapping
+abbrev pub ReadsAskingMap : LogInputs → List ℕ → NumberedMap → Type 0
+ReadsAskingMap i text mapping = ReadsWhole i.map text × IsMapOf (zeroed text) mapping
 
 -- the map was read whole, and this is then its first fault
 abbrev pub IsAskingMapFault : Reading → Fault → Type 0
@@ -43,7 +41,7 @@ AsksLocate words = (asked : Asked) × (locate_asked words ≡ Some asked)
 
 -- they are, the map has lines, and the log was read whole; this holds of the text of the map, and of its lines, the log
 -- and the values that are looked at
-abbrev pub OverLocate : AuditInputs → (List ℕ → FoundIn → Type 0) → Type 0
+abbrev pub OverLocate : LogInputs → (List ℕ → FoundIn → Type 0) → Type 0
 OverLocate i P = (asked : Asked) × (text : List ℕ) × (f : FoundIn) × (locate_asked i.words ≡ Some asked)
     × (f.candidates ≡ asked.candidates) × ReadsAskingMap i text f.mapping × ReadsWhole i.log f.log × P text f
 
@@ -51,11 +49,11 @@ OverLocate i P = (asked : Asked) × (text : List ℕ) × (f : FoundIn) × (locat
 abbrev pub located_row : List ℕ → FoundIn → Row
 located_row text f = row_of (locate_status text f) (located_text text f)
 
-pub data LocateOnOutput (i : AuditInputs) : Row → Type 0 where
+pub data LocateOnOutput (i : LogInputs) : Row → Type 0 where
   done : (row : Row) → OverLocate i (λ text f. row ≡ located_row text f) → LocateOnOutput i row
 
 -- the rows on standard error
-pub data LocateOnErrors (i : AuditInputs) : Row → Type 0 where
+pub data LocateOnErrors (i : LogInputs) : Row → Type 0 where
   no_form : locate_asked i.words ≡ None → IsUnread i.map → IsUnread i.log → LocateOnErrors i (row_of 2 locate_usage)
   no_map : (fault : InputFault) → AsksLocate i.words → Lacks i.map fault → IsUnread i.log
       → LocateOnErrors i (map_input_row fault)
@@ -66,7 +64,7 @@ pub data LocateOnErrors (i : AuditInputs) : Row → Type 0 where
   no_memory : AsksLocate i.words → Lacks i.map input.Memory → Lacks i.log input.Memory → LocateOnErrors i memory_row
 
 -- how a run ends: in the row on standard output, or in one on standard error
-abbrev pub EndsLocate : AuditInputs → WatchEnding → Type 0
+abbrev pub EndsLocate : LogInputs → WatchEnding → Type 0
 EndsLocate i e =
     (EndsInRow (LocateOnOutput i) (on_output e) × IsUnwritten e.errors)
     ⊎ (EndsInRow (LocateOnErrors i) (on_errors e) × IsUnwritten e.output)

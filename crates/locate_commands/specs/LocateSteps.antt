@@ -3,8 +3,7 @@ use Rattle.std.specs.Prelude.{◌≡◌, ◌⊎◌, ◌≤◌, length, Result, O
 use Rattle.program_edge.specs.Input.{input_limit}
 use Rattle.program_edge.specs.Rows.{Row, memory_row}
 use Rattle.program_edge.specs.Endings.{EndsInRow}
-use Rattle.trace_audit.specs.Rows.{AuditInputs}
-use Rattle.watch_maps.specs.LogRuns.{IsUnwritten, WatchEnding, on_output, on_errors}
+use Rattle.can_logs.specs.LogRuns.{LogInputs, IsUnwritten, WatchEnding, on_output, on_errors}
 use Rattle.locate_commands.specs.declared.run.Locating.{Locating}
 use Rattle.locate_commands.specs.Locating.{FoundIn}
 use Rattle.locate_commands.specs.LocateRows.{OverLocate, located_row, LocateOnErrors}
@@ -14,7 +13,7 @@ abbrev pub found_in : Locating → FoundIn
 found_in l = record { mapping = l.map; log = l.log.items; candidates = l.candidates }
 
 -- how the first phase ends: in what was read, or in a row on standard error
-abbrev pub PreparesLocate : AuditInputs → Result Locating Row → Type 0
+abbrev pub PreparesLocate : LogInputs → Result Locating Row → Type 0
 PreparesLocate i (Ok l) =
     (length l.text.items ≤ input_limit) × (length l.log.items ≤ input_limit)
     × OverLocate i (λ text f. (text ≡ l.text.items) × (f ≡ found_in l))

@@ -2,25 +2,22 @@
 use Rattle.std.specs.Prelude.{◌≡◌, ◌⊎◌, ℕ, List, [], None, Ok, Err}
 use Rattle.text_lines.specs.Readings.{Fault}
 use Rattle.program_edge.specs.declared.input.InputFault.TheVariants as input
-use Rattle.program_edge.specs.Inputs.{IsUnread, Lacks, SourceFailed, CountsFault}
-use Rattle.program_edge.specs.Inputs.{GivesTooMuch, CountsTooMuch, Offers}
+use Rattle.program_edge.specs.Inputs.{IsUnread, Lacks, SourceFailed, CountsFault, GivesTooMuch, CountsTooMuch, Offers}
 use Rattle.program_edge.specs.Endings.{EndsIn, MayEndIn, PrintsFront, SinkFailed, CountsWriteFault}
-use Rattle.trace_audit.specs.declared.map_lines.MapLine.{MapLine}
-use Rattle.trace_audit.specs.Rows.{AuditInputs}
-use Rattle.watch_maps.specs.MapFaults.{map_fault_text, map_input_text}
-use Rattle.watch_maps.specs.WatchMaps.{watch_map_of}
-use Rattle.watch_maps.specs.LogRuns.{IsUnwritten, WritesWhole, WatchEnding, on_output, on_errors}
+use Rattle.can_logs.specs.declared.map_lines.MapLine.{MapLine}
+use Rattle.can_logs.specs.LogRuns.{LogInputs, IsUnwritten, WritesWhole, WatchEnding, on_output, on_errors}
+use Rattle.can_logs.specs.MapFaults.{map_fault_text, map_input_text}
+use Rattle.can_logs.specs.WatchMaps.{watch_map_of}
 use Rattle.locate_commands.specs.LocateOptions.{locate_asked}
 use Rattle.locate_commands.specs.Locating.{zeroed, located_text, locate_status}
-use Rattle.locate_commands.specs.LocateRows.{locate_usage, log_input_text, IsAskingMapFault, AsksLocate, OverLocate}
-use Rattle.locate_commands.specs.LocateRows.{LocateOnOutput, LocateOnErrors, EndsLocate}
+use Rattle.locate_commands.specs.LocateRows.{locate_usage, log_input_text, IsAskingMapFault, AsksLocate, OverLocate, LocateOnOutput, LocateOnErrors, EndsLocate}
 
 -- the status of a map and a log that were read whole
 abbrev pub IsMapPrinted : ℕ → Type 0
 IsMapPrinted status = (status ≡ 0) ⊎ (status ≡ 1)
 
 -- what a run promises that has these inputs and ends so, in the order of the table of answers
-pub record Locates (i : AuditInputs) (e : WatchEnding) : Type 0 where
+pub record Locates (i : LogInputs) (e : WatchEnding) : Type 0 where
   -- The program prints a row of the table, on standard output or on standard error, and ends with its status, or at 6 a
   -- prefix of one.
   pub ends : EndsLocate i e

@@ -1,21 +1,18 @@
 -- A freshness that nobody knows, found from frames of a log
-use Rattle.std.specs.Prelude.{◌≡◌, ◌<◌, ◌≤◌, ℕ, ◌+◌, ◌-◌, ◌==◌, ◌&&◌, ◌||◌, not, nat_le, nat_lt}
-use Rattle.std.specs.Prelude.{Bool, true, false, if◌then◌else◌}
-use Rattle.std.specs.Prelude.{List, [], ◌∷◌, ◌++◌, length, take, drop, filter_map, find, position, slice_get}
-use Rattle.std.specs.Prelude.{Option, None, Some, option_map, option_and_then, unwrap_or, is_some, codes, bytes_eq}
+use Rattle.std.specs.Prelude.{◌≡◌, ◌<◌, ◌≤◌, ℕ, ◌+◌, ◌-◌, ◌==◌, ◌&&◌, ◌||◌, not, nat_le, nat_lt, Bool, true, false, if◌then◌else◌, List, [], ◌∷◌, ◌++◌, length, take, drop, filter_map, find, position, slice_get, Option, None, Some, option_map, option_and_then, unwrap_or, is_some, codes, bytes_eq}
 use Rattle.std.specs.List.{range_with_len}
 use Rattle.basics.specs.Numbers.{bytes_of}
 use Rattle.hex.specs.Hex.{encode_lower}
 use Rattle.text_lines.specs.Lines.{words_of, is_skipped}
 use Rattle.text_lines.specs.Readings.{nth_word}
 use Rattle.text_lines.specs.Texts.{line}
-use Rattle.trace_audit.specs.declared.map_lines.MapLine.{MapLine}
-use Rattle.trace_audit.specs.declared.frames.LogFrame.{LogFrame}
-use Rattle.trace_audit.specs.MapLines.{place_of_frame}
-use Rattle.trace_audit.specs.Frames.{log_frame_of}
-use Rattle.trace_audit.specs.Auditing.{channel_of}
-use Rattle.trace_audit.specs.Pieces.{line_limit, log_lines}
-use Rattle.watch_maps.specs.WatchMaps.{NumberedMap}
+use Rattle.can_logs.specs.declared.map_lines.MapLine.{MapLine}
+use Rattle.can_logs.specs.declared.frames.LogFrame.{LogFrame}
+use Rattle.can_logs.specs.MapLines.{place_of_frame}
+use Rattle.can_logs.specs.Frames.{log_frame_of}
+use Rattle.can_logs.specs.Findings.{channel_of}
+use Rattle.line_stream.specs.Pieces.{line_limit, log_lines}
+use Rattle.can_logs.specs.WatchMaps.{NumberedMap}
 use Rattle.explain_commands.specs.declared.trials.KnownReceiver.{KnownReceiver}
 use Rattle.explain_commands.specs.Trials.{trial_with, agrees, accepted_freshness}
 use Rattle.explain_commands.specs.Reasons.{receiver_of}

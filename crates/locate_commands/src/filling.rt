@@ -1,25 +1,25 @@
 //! The text of a map with the FRESH of each line that asks for it.
-ghost use Rattle.std.specs.Prelude.{◌≡◌, ◌<◌, ◌≤◌, ◌^◌, ◌++◌, ◌&&◌, length, IfOk, IfSome, OnOk};
+ghost use Rattle.std.specs.Prelude.{◌≡◌, ◌<◌, ◌^◌, ◌++◌, ◌&&◌, length, IfOk, IfSome, OnOk};
 ghost use Rattle.std.specs.Prelude.{◌==◌, position, slice_get, option_and_then};
 ghost use Rattle.std.specs.List.{position_or_len};
 ghost use Rattle.text_lines.specs.Lines.{is_line_feed};
 ghost use Rattle.text_lines.specs.Texts.{line};
-ghost use Rattle.trace_audit.specs.Pieces.{log_lines};
+ghost use Rattle.line_stream.specs.Pieces.{log_lines};
 ghost use Rattle.locate_commands.specs.Locating.{asks_fresh, with_fresh, filled, filled_line, are_settled, is_settled};
 ghost use Rattle.locate_commands.specs.Locating.{fresh_by, fresh_of, fresh_at, before_first};
 
 use crate::frames::FirstFrames;
 use crate::options::Candidates;
 use crate::searching::located;
+use can_logs::{MapLine, WatchMap};
 use explain_commands::receiver_of;
+use line_stream::until_feed;
 use std::alloc::Global;
 use std::marker::Model;
 use text_lines::Memory;
 use text_lines::pushing::{push_digits, push_line};
 use text_lines::span::Span;
 use text_lines::words::{Words, put_words};
-use trace_audit::{MapLine, until_feed};
-use watch_maps::WatchMap;
 
 /// By what the FRESH of a line is found: the map with zeros, the log, and the values that are looked at.
 #[derive(Drop)]

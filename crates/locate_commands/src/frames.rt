@@ -2,15 +2,16 @@
 ghost use Rattle.std.specs.Prelude.{◌≡◌, ◌<◌, ◌^◌, ◌++◌, length, IfOk, OnOk};
 ghost use Rattle.std.specs.List.{position_or_len};
 ghost use Rattle.text_lines.specs.Lines.{is_line_feed};
-ghost use Rattle.trace_audit.specs.Frames.{log_frame_of};
+ghost use Rattle.can_logs.specs.Frames.{log_frame_of};
 ghost use Rattle.locate_commands.specs.Locating.{data_heard, heard_in, as_list, first_frames};
 
+use can_logs::{FrameBytes, MapLine, log_frame, place_for};
+use line_stream::until_feed;
 use std::alloc::Global;
 use std::marker::Model;
 use text_lines::Memory;
 use text_lines::span::Span;
 use text_lines::words::{Words, put_words};
-use trace_audit::{FrameBytes, MapLine, log_frame, place_for, until_feed};
 
 /// The most bytes of a line that is looked at, its line feed not counted.
 const LINE_LIMIT: usize = 4096;

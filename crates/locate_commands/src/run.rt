@@ -1,8 +1,7 @@
 //! The program's command `explain --locate`.
-ghost use Rattle.std.specs.Prelude.{◌≡◌, ◌<◌, ◌≤◌, ◌^◌, map as each, string_bytes, length, IfOk, IfErr, if◌then◌else◌};
-ghost use Rattle.watch_maps.specs.OptionWords.{no_options};
-ghost use Rattle.watch_maps.specs.MapFaults.{NoMapLines};
-ghost use Rattle.watch_maps.specs.WatchMaps.{watch_map_of, IsMapOf};
+ghost use Rattle.std.specs.Prelude.{◌≡◌, ◌<◌, ◌^◌, map as each, string_bytes, length, IfOk, IfErr, if◌then◌else◌};
+ghost use Rattle.can_logs.specs.MapFaults.{NoMapLines};
+ghost use Rattle.can_logs.specs.WatchMaps.{watch_map_of, IsMapOf};
 ghost use Rattle.locate_commands.specs.Locating.{zeroed};
 ghost use Rattle.locate_commands.specs.LocateRows.{log_input_row};
 ghost use Rattle.locate_commands.specs.Locates.{Locates};
@@ -11,10 +10,10 @@ ghost use Rattle.locate_commands.specs.LocateSteps.{PreparesLocate, DoesLocate};
 use crate::filling::{Filled, Finder, fill};
 use crate::options::{Candidates, asked};
 use bus_port::{Sink, Source};
+use can_logs::{WatchMap, map_input_refusal, map_of_text};
 use program_edge::{InputFault, Refusal, read_input, tell, tell_refusal};
 use std::alloc::Global;
 use text_lines::Memory;
-use watch_maps::{WatchMap, WatchOptions, map_input_refusal, map_of_text};
 
 const USAGE: &str = "usage: explain --locate [--from N] [--to N] MAP LOG\n";
 
@@ -100,25 +99,25 @@ fn prepare<S: Source, T: Source>(
 /// The map that a text is with FRESH 0 for each `?`, or the refusal of its first line that is none.
 fn zeroed_map(alloc: Global, text: &[u8]) -> Result<WatchMap, Refusal>
     requires { length text.now < 2 ^ 32 }
-    ensures ok { IfOk result (IsMapOf no_options (zeroed text.now)) }
+    ensures ok { IfOk result (IsMapOf (zeroed text.now)) }
     ensures err { IfErr result (NoMapLines (watch_map_of (zeroed text.now))) }
 {
     match fill(alloc, text, &None) {
-        Ok(zeroed) => map_without_options(alloc, zeroed.text.as_slice()),
+        Ok(zeroed) => map_that_fits(alloc, zeroed.text.as_slice()),
         Err(Memory) => Err(Refusal::no_memory()),
     }
 }
 
 /// The map that a text is, or the refusal of its first line that is none. A text of 2^32 bytes has no room: a map has
 /// 1,048,576 at most, and with zeros not many times as many.
-fn map_without_options(alloc: Global, text: &[u8]) -> Result<WatchMap, Refusal>
-    ensures ok { IfOk result (IsMapOf no_options text.now) }
+fn map_that_fits(alloc: Global, text: &[u8]) -> Result<WatchMap, Refusal>
+    ensures ok { IfOk result (IsMapOf text.now) }
     ensures err { IfErr result (NoMapLines (watch_map_of text.now)) }
 {
     if text.len() >= 1 << 32 {
         return Err(Refusal::no_memory());
     }
-    map_of_text(alloc, text, WatchOptions::none())
+    map_of_text(alloc, text)
 }
 
 /// The second phase: the map is printed.

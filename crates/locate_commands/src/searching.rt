@@ -4,9 +4,9 @@ ghost use Rattle.std.specs.Prelude.{◌≡◌, ◌+◌, ◌-◌, ◌%◌, ◌^�
 ghost use Rattle.locate_commands.specs.Locating.{knowing, accepted_count, fit_first, located, IsLeast};
 
 use crate::options::Candidates;
+use can_logs::FrameBytes;
 use explain_commands::{KnownReceiver, Making, accepted_freshness, tag_trial_by};
 use she_aes::{Schedule, expand};
-use trace_audit::FrameBytes;
 
 /// The least freshness of a range with which the first of these frames verifies, and after which a receiver accepts two
 /// of the others. `None` if there is none.

@@ -1,10 +1,6 @@
-pub mod Digits
 pub mod Rising
 pub mod Windows
 pub mod OneFinding
 pub mod Audited
-pub mod Noting
 pub mod Phases
 pub mod Promises
-pub mod CallerLemmas
-pub mod Cutting

@@ -7,12 +7,13 @@ use Rattle.text_lines.specs.Readings.{Fault}
 use Rattle.program_edge.specs.Rows.{Row}
 use Rattle.program_edge.specs.Inputs.{Reading, IsUnread, ReadsWhole}
 use Rattle.program_edge.proofs.CallerLemmas.{Lacks-whole}
-use Rattle.trace_audit.specs.declared.map_lines.MapLine.{MapLine}
+use Rattle.can_logs.specs.declared.map_lines.MapLine.{MapLine}
 use Rattle.trace_audit.specs.declared.run.Audit.{Audit}
 use Rattle.text_lines.specs.LineRows.{NoLines}
-use Rattle.trace_audit.specs.MapLines.{map_of}
+use Rattle.trace_audit.specs.AuditMaps.{map_of}
 use Rattle.trace_audit.specs.Auditing.{TellsAudit}
-use Rattle.trace_audit.specs.Rows.{AuditInputs, NamesInputs, ComesInAudit, no_input, map_fault, no_memory, done}
+use Rattle.can_logs.specs.LogRuns.{LogInputs, NamesInputs}
+use Rattle.trace_audit.specs.Rows.{ComesInAudit, no_input, map_fault, no_memory, done}
 use Rattle.trace_audit.specs.Steps.{LacksMap, no_map, refused, ReadsMapSource, PreparesAudit, DoesAudit, found, no_text}
 
 -- the lines of a map that was read whole, or why it has none
@@ -23,12 +24,12 @@ ReadsMapSource-read means map text (Err row) whole ok (inl (fault, is, row_is)) 
 ReadsMapSource-read means map text (Err row) whole ok (inr memory) = subst (LacksMap means map) (sym memory) (no_map input.Memory (Lacks-whole map text whole))
 
 -- there is no map
-pub Comes-no_map : (i : AuditInputs) (row : Row) → NamesInputs i.words → LacksMap map_of i.map row → IsUnread i.log → ComesInAudit i row
+pub Comes-no_map : (i : LogInputs) (row : Row) → NamesInputs i.words → LacksMap map_of i.map row → IsUnread i.log → ComesInAudit i row
 Comes-no_map i row asks (no_map fault lacks) unread = no_input fault asks (inl (lacks, unread))
 Comes-no_map i row asks (refused fault is) unread = map_fault fault asks is unread
 
 -- what was prepared, and then audited
-pub Comes-does : (i : AuditInputs) (audit : Audit) → PreparesAudit i (Ok audit) → (row : Row) → DoesAudit audit row → ComesInAudit i row
+pub Comes-does : (i : LogInputs) (audit : Audit) → PreparesAudit i (Ok audit) → (row : Row) → DoesAudit audit row → ComesInAudit i row
 Comes-does i audit (short, (asks, (mapping, reads, (log, whole, (mapping_is, log_is))))) row (found text tells) =
     let tells_log : TellsAudit audit.map.items log text = subst (λ (l : List ℕ). TellsAudit audit.map.items l text) (sym log_is) tells in
     let tells_both : TellsAudit mapping log text = subst (λ (m : List MapLine). TellsAudit m log text) (sym mapping_is) tells_log in

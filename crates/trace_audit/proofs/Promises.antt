@@ -13,10 +13,12 @@ use Rattle.program_edge.specs.Inputs.{Reading, IsUnread, ReadsWhole, Lacks, Sour
 use Rattle.program_edge.proofs.CallerLemmas.{Lacks-unread, Lacks-whole, CountsFault-is, CountsTooMuch-is, Offers-is, Offers-whole, EndsInRow-at, EndsInRow-front, EndsInRow-rose, EndsInRow-only, EndsInRow-may, EndsInRow-done}
 use Rattle.program_edge.specs.Endings.{Ending, PrintsWhole, EndsInRow, EndsIn}
 use Rattle.secoc_words.specs.Counting.{AcceptedRise}
-use Rattle.trace_audit.specs.declared.map_lines.MapLine.{MapLine}
-use Rattle.trace_audit.specs.MapLines.{map_of}
-use Rattle.trace_audit.specs.Rows.{AuditInputs, NamesInputs, audit_usage, IsMapFault, OverAudit, ComesInAudit, no_form, no_input, map_fault, no_memory, done}
-use Rattle.trace_audit.specs.Auditing.{Finding, AuditsEach, finding_accepts, findings_text, TellsAudit}
+use Rattle.can_logs.specs.declared.map_lines.MapLine.{MapLine}
+use Rattle.trace_audit.specs.AuditMaps.{map_of}
+use Rattle.can_logs.specs.LogRuns.{LogInputs, NamesInputs}
+use Rattle.trace_audit.specs.Rows.{audit_usage, IsMapFault, OverAudit, ComesInAudit, no_form, no_input, map_fault, no_memory, done}
+use Rattle.can_logs.specs.Findings.{Finding, finding_accepts}
+use Rattle.trace_audit.specs.Auditing.{AuditsEach, findings_text, TellsAudit}
 use Rattle.trace_audit.specs.Audits.{Audits}
 use Rattle.trace_audit.proofs.Rising.{all_rise}
 
@@ -43,7 +45,7 @@ whole_long r text whole counts = lacks_long r (Lacks-whole r text whole) counts
 ok_is_err : (m : List MapLine) (f : Fault) (read text : List ℕ) → read ≡ text → map_of read ≡ Ok m → map_of text ≡ Err f → ⊥
 ok_is_err m f read text same ok err = let clash : Ok m ≡ Err f = sym ok ∙ ap map_of same ∙ err in cc
 
-module _ (i : AuditInputs) (e : Ending) where
+module _ (i : LogInputs) (e : Ending) where
   -- ---- rows by their status
 
   at_0 : (row : Row) → ComesInAudit i row → row.status ≡ 0 → PrintsWhole e row.text

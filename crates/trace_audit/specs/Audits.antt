@@ -5,18 +5,17 @@ use Rattle.text_lines.specs.Lines.{lines_of}
 use Rattle.text_lines.specs.Readings.{Fault}
 use Rattle.text_lines.specs.Texts.{fault_text_of}
 use Rattle.program_edge.specs.declared.input.InputFault.TheVariants as input
-use Rattle.program_edge.specs.Inputs.{IsUnread, Lacks, SourceFailed, CountsFault}
-use Rattle.program_edge.specs.Inputs.{GivesTooMuch, CountsTooMuch, Offers}
-use Rattle.program_edge.specs.Endings.{Ending, EndsInRow, EndsIn, MayEndIn, PrintsWhole, PrintsFront}
-use Rattle.program_edge.specs.Endings.{SinkFailed, CountsWriteFault}
-use Rattle.trace_audit.specs.declared.map_lines.MapLine.{MapLine}
-use Rattle.trace_audit.specs.MapLines.{map_of}
-use Rattle.trace_audit.specs.Auditing.{Finding, AuditsEach, finding_accepts, findings_text, TellsAudit}
-use Rattle.trace_audit.specs.Rows.{AuditInputs, NamesInputs, audit_usage}
-use Rattle.trace_audit.specs.Rows.{IsMapFault, OverAudit, ComesInAudit}
+use Rattle.program_edge.specs.Inputs.{IsUnread, Lacks, SourceFailed, CountsFault, GivesTooMuch, CountsTooMuch, Offers}
+use Rattle.program_edge.specs.Endings.{Ending, EndsInRow, EndsIn, MayEndIn, PrintsWhole, PrintsFront, SinkFailed, CountsWriteFault}
+use Rattle.can_logs.specs.declared.map_lines.MapLine.{MapLine}
+use Rattle.trace_audit.specs.AuditMaps.{map_of}
+use Rattle.can_logs.specs.Findings.{Finding, finding_accepts}
+use Rattle.trace_audit.specs.Auditing.{AuditsEach, findings_text, TellsAudit}
+use Rattle.can_logs.specs.LogRuns.{LogInputs, NamesInputs}
+use Rattle.trace_audit.specs.Rows.{audit_usage, IsMapFault, OverAudit, ComesInAudit}
 
 -- what a run promises that has these inputs and ends so, in the order of the table of answers
-pub record Audits (i : AuditInputs) (e : Ending) : Type 0 where
+pub record Audits (i : LogInputs) (e : Ending) : Type 0 where
   -- The program prints a row of the table and ends with its status, or at 6 a prefix of one.
   pub ends : EndsInRow (ComesInAudit i) e
   -- 0: the map and the log were read whole, and exactly what is found of the log's lines was printed.

@@ -1,8 +1,6 @@
-pub mod MapLines
-pub mod Frames
+pub mod AuditMaps
 pub mod Auditing
-pub mod Findings
+pub mod AuditedLines
 pub mod Rows
 pub mod Audits
 pub mod Steps
-pub mod Pieces

@@ -1,5 +1,5 @@
 -- The table of answers of `audit`: its rows, and when each comes
-use Rattle.std.specs.Prelude.{◌≡◌, ◌⊎◌, ℕ, List, length, Result, Ok, Err, codes}
+use Rattle.std.specs.Prelude.{◌⊎◌, ℕ, List, codes}
 use Rattle.text_lines.specs.Readings.{Fault}
 use Rattle.text_lines.specs.Texts.{line}
 use Rattle.program_edge.specs.declared.input.InputFault.{InputFault}
@@ -7,36 +7,19 @@ use Rattle.program_edge.specs.declared.input.InputFault.TheVariants as input
 use Rattle.program_edge.specs.Rows.{Row, row_of, input_row, memory_row}
 use Rattle.program_edge.specs.Inputs.{Reading, IsUnread, ReadsWhole, Lacks, Offers}
 use Rattle.text_lines.specs.LineRows.{line_row}
-use Rattle.trace_audit.specs.declared.map_lines.MapLine.{MapLine}
+use Rattle.can_logs.specs.declared.map_lines.MapLine.{MapLine}
 use Rattle.trace_audit.specs.declared.start.TheConstants.{EXAMPLE_MAP, EXAMPLE_LOG}
-use Rattle.trace_audit.specs.MapLines.{map_of}
+use Rattle.trace_audit.specs.AuditMaps.{map_of}
 use Rattle.trace_audit.specs.Auditing.{TellsAudit}
-
--- what goes into an audit: its words, and what was known of the sources of the map and of the log
-pub record AuditInputs : Type 0 where
-  pub words : List (List ℕ)
-  pub map : Reading
-  pub log : Reading
-
--- two words ask for the audit of the map and the log that they name
-abbrev pub NamesInputs : List (List ℕ) → Type 0
-NamesInputs words = length words ≡ 2
+use Rattle.can_logs.specs.LogRuns.{LogInputs, NamesInputs, ReadsMapBy, IsMapFaultBy}
 
 -- an audit of the example: of two words, over sources that tell its map and its log, and don't fail
-abbrev pub IsExampleAudit : AuditInputs → Type 0
+abbrev pub IsExampleAudit : LogInputs → Type 0
 IsExampleAudit i = NamesInputs i.words × Offers i.map EXAMPLE_MAP.now × Offers i.log EXAMPLE_LOG.now
 
 -- the line that is printed if they are malformed
 abbrev pub audit_usage : List ℕ
 audit_usage = line (codes "usage: audit MAP LOG")
-
--- the map was read whole, and has these lines; `means` says which lines a text has
-abbrev pub ReadsMapBy : (List ℕ → Result (List MapLine) Fault) → Reading → List MapLine → Type 0
-ReadsMapBy means map mapping = (text : List ℕ) × ReadsWhole map text × (means text ≡ Ok mapping)
-
--- the map was read whole, and this is its first fault
-abbrev pub IsMapFaultBy : (List ℕ → Result (List MapLine) Fault) → Reading → Fault → Type 0
-IsMapFaultBy means map fault = (text : List ℕ) × ReadsWhole map text × (means text ≡ Err fault)
 
 -- the map of an audit was read whole, and has these lines
 abbrev pub ReadsMap : Reading → List MapLine → Type 0
@@ -47,19 +30,19 @@ abbrev pub IsMapFault : Reading → Fault → Type 0
 IsMapFault map fault = IsMapFaultBy map_of map fault
 
 -- there is no map, and nothing of the log was read; or the map has lines, and there is no log
-abbrev pub LacksInput : AuditInputs → InputFault → Type 0
+abbrev pub LacksInput : LogInputs → InputFault → Type 0
 LacksInput i fault =
     (Lacks i.map fault × IsUnread i.log)
     ⊎ ((mapping : List MapLine) × ReadsMap i.map mapping × Lacks i.log fault)
 
 -- the words are two, the map has lines, and the log was read whole; this holds of both
-abbrev pub OverAudit : AuditInputs → (List MapLine → List ℕ → Type 0) → Type 0
+abbrev pub OverAudit : LogInputs → (List MapLine → List ℕ → Type 0) → Type 0
 OverAudit i P =
     NamesInputs i.words × ((mapping : List MapLine) × ReadsMap i.map mapping
     × ((log : List ℕ) × ReadsWhole i.log log × P mapping log))
 
 -- the table: when each row comes, with its status and text
-pub data ComesInAudit (i : AuditInputs) : Row → Type 0 where
+pub data ComesInAudit (i : LogInputs) : Row → Type 0 where
   no_form : ¬ NamesInputs i.words → IsUnread i.map → IsUnread i.log
       → ComesInAudit i (row_of 2 audit_usage)
   no_input : (fault : InputFault) → NamesInputs i.words → LacksInput i fault

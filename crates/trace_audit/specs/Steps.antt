@@ -7,10 +7,11 @@ use Rattle.text_lines.specs.Readings.{Fault}
 use Rattle.program_edge.specs.Rows.{Row, row_of, input_row, memory_row}
 use Rattle.program_edge.specs.Inputs.{Reading, Lacks}
 use Rattle.text_lines.specs.LineRows.{line_row}
-use Rattle.trace_audit.specs.declared.map_lines.MapLine.{MapLine}
+use Rattle.can_logs.specs.declared.map_lines.MapLine.{MapLine}
 use Rattle.trace_audit.specs.declared.run.Audit.{Audit}
 use Rattle.trace_audit.specs.Auditing.{TellsAudit}
-use Rattle.trace_audit.specs.Rows.{AuditInputs, ReadsMapBy, IsMapFaultBy, OverAudit, ComesInAudit}
+use Rattle.can_logs.specs.LogRuns.{LogInputs, ReadsMapBy, IsMapFaultBy}
+use Rattle.trace_audit.specs.Rows.{OverAudit, ComesInAudit}
 
 -- why the source of a map gives no lines; `means` says which lines a text has
 pub data LacksMap (means : List ℕ → Result (List MapLine) Fault) (map : Reading) : Row → Type 0 where
@@ -23,7 +24,7 @@ ReadsMapSource means map (Ok lines) = ReadsMapBy means map lines.items
 ReadsMapSource means map (Err row) = LacksMap means map row
 
 -- how the first phase ends: in the lines of the map and the whole log, or in a row that comes
-abbrev pub PreparesAudit : AuditInputs → Result Audit Row → Type 0
+abbrev pub PreparesAudit : LogInputs → Result Audit Row → Type 0
 PreparesAudit i (Ok audit) =
     (length audit.log.items ≤ input_limit)
     × OverAudit i (λ mapping log. (mapping ≡ audit.map.items) × (log ≡ audit.log.items))

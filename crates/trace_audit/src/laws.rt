@@ -3,9 +3,10 @@ ghost use Rattle.std.specs.Prelude.{◌≡◌, ℕ, List, map, All, Ok};
 ghost use Rattle.secured_pdu.specs.Frame.{IsWindow};
 ghost use Rattle.secoc_words.specs.Counting.{AcceptedRise};
 ghost use Rattle.text_lines.specs.Lines.{TextLine};
-ghost use Rattle.trace_audit.specs.declared.map_lines.MapLine.{MapLine};
-ghost use Rattle.trace_audit.specs.MapLines.{map_of};
-ghost use Rattle.trace_audit.specs.Auditing.{Finding, AuditsEach, finding_accepts};
+ghost use Rattle.can_logs.specs.declared.map_lines.MapLine.{MapLine};
+ghost use Rattle.trace_audit.specs.AuditMaps.{map_of};
+ghost use Rattle.can_logs.specs.Findings.{Finding, finding_accepts};
+ghost use Rattle.trace_audit.specs.Auditing.{AuditsEach};
 
 /// Of two frames that the same line of the map accepts, the later has the greater freshness.
 pub fn accepted_freshness_rises_per_map_line()

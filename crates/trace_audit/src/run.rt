@@ -1,15 +1,14 @@
 //! The program's one command.
-ghost use Rattle.std.specs.Prelude.{◌↔◌, ◌≤◌, length, map as each, string_bytes, IsTrue};
+ghost use Rattle.std.specs.Prelude.{◌≤◌, length, map as each, string_bytes};
 ghost use Rattle.program_edge.specs.Input.{input_limit};
 ghost use Rattle.program_edge.specs.Endings.{EndsInRow};
-ghost use Rattle.trace_audit.specs.Rows.{NamesInputs};
 ghost use Rattle.trace_audit.specs.Audits.{Audits};
 ghost use Rattle.trace_audit.specs.Steps.{PreparesAudit, DoesAudit};
 
 use crate::auditing::audit_text;
-use crate::map_lines::MapLine;
 use crate::map_source::read_map;
 use bus_port::{Sink, Source};
+use can_logs::{MapLine, names_inputs};
 use program_edge::{DONE, Refusal, read_input, tell, tell_refusal};
 use std::alloc::Global;
 use text_lines::Memory;
@@ -73,13 +72,6 @@ fn prepare<S: Source, T: Source>(
     let map = read_map(alloc, map)?;
     let log = read_input(alloc, log)?;
     Ok(Audit { map, log })
-}
-
-/// Whether the words, the program's name left out, are the two that name the map and the log.
-pub fn names_inputs(words: &[String]) -> bool
-    ensures { IsTrue result ↔ NamesInputs (each string_bytes words.now) }
-{
-    words.len() == 2
 }
 
 /// The second phase: what is found of the log is printed.

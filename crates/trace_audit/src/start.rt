@@ -2,7 +2,8 @@
 ghost use Rattle.std.specs.Prelude.{◌≡◌, ◌<◌, length, map as each, string_bytes, option_map};
 ghost use Rattle.program_edge.specs.NamedSources.{word_source, openings, first_of_two, second_of_two};
 ghost use Rattle.program_edge.specs.NamedSources.{OverTwoNamed};
-ghost use Rattle.trace_audit.specs.Rows.{AuditInputs, IsExampleAudit};
+ghost use Rattle.can_logs.specs.LogRuns.{LogInputs};
+ghost use Rattle.trace_audit.specs.Rows.{IsExampleAudit};
 ghost use Rattle.trace_audit.specs.Audits.{Audits};
 
 use crate::run::run_audit;
@@ -31,7 +32,7 @@ pub fn audit_words<O: Opener, I: Source + Drop, K: Sink>(
     sink: &mut K,
 ) -> (u8, WordSource<O::Opened, I>, WordSource<O::Opened, I>)
     // All that an audit promises, over the map and the log of the example.
-    ensures example { length words.now ≡ 0 → (i : AuditInputs) × IsExampleAudit i
+    ensures example { length words.now ≡ 0 → (i : LogInputs) × IsExampleAudit i
         × Audits i (record { before = K.state sink.old; after = K.state sink.new; status = result.0 }) }
 
     ensures unopened { length words.now ≡ 0 → openings (O.opened opener.new) (option_map I.state input.new)
@@ -59,7 +60,7 @@ pub fn audit_words<O: Opener, I: Source + Drop, K: Sink>(
 
 /// Audits the example, whose two words and sources take no memory.
 fn audit_example<K: Sink>(alloc: Global, sink: &mut K) -> u8
-    ensures { (i : AuditInputs) × IsExampleAudit i
+    ensures { (i : LogInputs) × IsExampleAudit i
         × Audits i (record { before = K.state sink.old; after = K.state sink.new; status = result }) }
 {
     let words = [String::new(alloc), String::new(alloc)];

@@ -3,9 +3,9 @@ use Rattle.std.proofs.Common.{◌≡◌, ℕ, List, sym, subst}
 use Rattle.std.specs.Prelude.{Some}
 use Rattle.std.specs.List.{slice_get}
 use Rattle.text_lines.specs.Lines.{TextLine}
-use Rattle.trace_audit.specs.declared.map_lines.MapLine.{MapLine}
-use Rattle.trace_audit.specs.declared.auditing.FrameTally.{FrameTally}
-use Rattle.trace_audit.specs.Auditing.{Finding, other, too_short, verdict, finding_text, tally_of, AuditsLine}
+use Rattle.can_logs.specs.declared.map_lines.MapLine.{MapLine}
+use Rattle.can_logs.specs.declared.findings.FrameTally.{FrameTally}
+use Rattle.can_logs.specs.Findings.{Finding, other, too_short, verdict, finding_text, tally_of, AuditsLine}
 use Rattle.watch_commands.specs.Answers.{IsAnswerIn}
 
 -- what was found of a line, and its text

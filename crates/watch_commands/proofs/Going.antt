@@ -13,20 +13,20 @@ use Rattle.basics.specs.FaultCount.{counted}
 use Rattle.secured_pdu.specs.Verdict.{Accepted, FreshnessFailure, VerificationFailure}
 use Rattle.text_lines.specs.Lines.{TextLine, words_of, is_skipped}
 use Rattle.secoc_words.specs.Counting.{Acceptance, last_accepted, next_counter}
-use Rattle.trace_audit.specs.declared.map_lines.MapLine.{MapLine}
-use Rattle.trace_audit.specs.declared.frames.OtherLine.TheVariants as kind
-use Rattle.trace_audit.specs.declared.auditing.FrameTally.{FrameTally}
-use Rattle.trace_audit.specs.declared.auditing.FrameTally.TheVariants as tally
+use Rattle.can_logs.specs.declared.map_lines.MapLine.{MapLine}
+use Rattle.can_logs.specs.declared.frames.OtherLine.TheVariants as kind
+use Rattle.can_logs.specs.declared.findings.FrameTally.{FrameTally}
+use Rattle.can_logs.specs.declared.findings.FrameTally.TheVariants as tally
 use Rattle.watch_commands.specs.declared.counts.WatchCounts.{WatchCounts}
-use Rattle.watch_maps.specs.WatchMaps.{NumberedMap}
-use Rattle.trace_audit.specs.Auditing.{Finding, other, too_short, verdict, tally_of, finding_accepts, first_counters, counter_of_place, AuditsLine, is_accepted_tally}
-use Rattle.trace_audit.proofs.CallerLemmas.{AuditsLine-same, HasNoFeed, one_line, cut_more, take_twice, kept_whole, kept_long, one_more_line}
-use Rattle.trace_audit.specs.Pieces.{line_limit, log_lines, in_64_bits}
+use Rattle.watch_commands.specs.WatchedMaps.{WatchedMap}
+use Rattle.can_logs.specs.Findings.{Finding, other, too_short, verdict, tally_of, finding_accepts, first_counters, counter_of_place, AuditsLine, is_accepted_tally}
+use Rattle.can_logs.proofs.CallerLemmas.{AuditsLine-same}
+use Rattle.line_stream.proofs.CallerLemmas.{HasNoFeed, one_line, cut_more, take_twice, kept_whole, kept_long, one_more_line}
+use Rattle.line_stream.specs.Pieces.{line_limit, log_lines, in_64_bits}
 use Rattle.watch_commands.specs.Watching.{Found, stamped, findings_of, WatchesLine, WatchesEach, none, more, FindsAll, told_text, found_text}
 use Rattle.watch_commands.specs.Stamps.{stamp_of}
 use Rattle.watch_commands.proofs.Stamping.{findings_more, stamped_kept}
-use Rattle.watch_commands.specs.WatchTotals.{is_failed_tally, is_accepted_at, is_failed_at, is_other_of, is_unmapped_line, is_other_frame, is_malformed_line}
-use Rattle.watch_commands.specs.WatchTotals.{count_of, counted_of, counts_of, counts_text, total_line_at, map_places, LineTotals, totals_of, totals_text_of, totals_text, is_heard_at, are_heard, watch_status}
+use Rattle.watch_commands.specs.WatchTotals.{is_failed_tally, is_accepted_at, is_failed_at, is_other_of, is_unmapped_line, is_other_frame, is_malformed_line, count_of, counted_of, counts_of, counts_text, total_line_at, map_places, LineTotals, totals_of, totals_text_of, totals_text, is_heard_at, are_heard, watch_status}
 use Rattle.watch_commands.specs.States.{WatchState, Watched, FindsMore, JudgesLine, IsPlaced, tally_found, counts_as, counts_after, accepted_place, failed_place, raised_at, totals_in, end_text, end_status}
 
 -- before the log
@@ -276,7 +276,7 @@ FindsMore-more old mid new piece next same first second = λ bytes findings w.
       some ++ rest,
       subst (λ bs. Watched new bs (findings ++ (some ++ rest))) (append_assoc bytes piece next)
           (subst (Watched new ((bytes ++ piece) ++ next)) (append_assoc findings some rest) watched_all),
-      text_all ∙ ap (λ t. t ++ found_text mid.mapping rest) text ∙ ap (λ (m : NumberedMap). (old.text ++ found_text old.mapping some) ++ found_text m rest) same
+      text_all ∙ ap (λ t. t ++ found_text mid.mapping rest) text ∙ ap (λ (m : WatchedMap). (old.text ++ found_text old.mapping some) ++ found_text m rest) same
           ∙ append_assoc old.text (found_text old.mapping some) (found_text old.mapping rest)
           ∙ ap (λ t. old.text ++ t) (sym (flat_map-append (told_text old.mapping.options) some rest)),
     )
@@ -364,11 +364,11 @@ all_but_last one two x y same =
     sym (take-append_seam one (x ∷ [])) ∙ ap (take (length one)) same ∙ ap (λ n. take n (two ++ y ∷ [])) as_many ∙ take-append_seam two (y ∷ [])
 
 -- after one more line feed all lines of a log are complete
-pub FindsAll-ended : (state : WatchState) (mapping : NumberedMap) (bytes : List ℕ) (findings : List Found) → state.mapping ≡ mapping
+pub FindsAll-ended : (state : WatchState) (mapping : WatchedMap) (bytes : List ℕ) (findings : List Found) → state.mapping ≡ mapping
     → Watched state (bytes ++ 10 ∷ []) findings → FindsAll mapping.lines bytes findings
 FindsAll-ended state mapping bytes findings same w =
     let lines_are : w.lines ≡ log_lines bytes = all_but_last w.lines (log_lines bytes) w.rest [] (sym w.cut ∙ one_more_line bytes) in
-    subst (λ (m : NumberedMap). FindsAll m.lines bytes findings) same
+    subst (λ (m : WatchedMap). FindsAll m.lines bytes findings) same
     (subst (λ (lines : List (List ℕ)). WatchesEach state.mapping.lines lines findings) lines_are w.finds)
 
 -- the same is found of as many places
@@ -379,7 +379,7 @@ places_same {X} f g a (suc n) m all same =
     ∙ ap (λ (xs : List X). g a ∷ xs) (places_same f g (a + 1) n m (omega (arith, all)) same)
 
 -- the numbers of the lines depend on what is known of the places of the map alone
-module _ (mapping : NumberedMap) (one two : LineTotals)
+module _ (mapping : WatchedMap) (one two : LineTotals)
     (accepted : (place : ℕ) → place < length mapping.lines → one.accepted place ≡ two.accepted place)
     (failed : (place : ℕ) → place < length mapping.lines → one.failed place ≡ two.failed place)
     (last : (place : ℕ) → place < length mapping.lines → one.last place ≡ two.last place) where
@@ -407,7 +407,7 @@ some_in_64_bits : (n : ℕ) → nat_lt 0 (in_64_bits n) ≡ nat_lt 0 n
 some_in_64_bits zero = refl
 some_in_64_bits (suc n) = grind (arith, nat_tests)
 
-heard_at_same : (mapping : NumberedMap) (one two : ℕ → ℕ) (place : ℕ) → nat_lt 0 (one place) ≡ nat_lt 0 (two place)
+heard_at_same : (mapping : WatchedMap) (one two : ℕ → ℕ) (place : ℕ) → nat_lt 0 (one place) ≡ nat_lt 0 (two place)
     → is_heard_at mapping one place ≡ is_heard_at mapping two place
 heard_at_same mapping one two place same =
     ap (λ b. unwrap_or (option_map (λ (entry : MapLine). entry.optional || b) (slice_get mapping.lines place)) true) same
@@ -415,7 +415,7 @@ heard_at_same mapping one two place same =
 -- so is the status
 pub end_status_is : (state : WatchState) (bytes : List ℕ) (findings : List Found) → Watched state bytes findings → end_status state ≡ watch_status state.mapping (findings_of findings)
 end_status_is state bytes findings w =
-    let mapping : NumberedMap = state.mapping in
+    let mapping : WatchedMap = state.mapping in
     let counts_in : ℕ → ℕ = λ place. count_of (is_accepted_at place) (findings_of findings) in
     let failed : nat_lt 0 state.counts.failed ≡ nat_lt 0 (count_of is_failed_tally (findings_of findings)) =
     ap (λ (counts : WatchCounts). nat_lt 0 counts.failed) w.counts_are ∙ some_in_64_bits (count_of is_failed_tally (findings_of findings)) in

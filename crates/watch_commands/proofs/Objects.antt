@@ -8,9 +8,9 @@ use Rattle.hex.specs.Hex.{encode_lower, lower_digits}
 use Rattle.hex.proofs.HexLemmas.{length-encode_with}
 use Rattle.secured_pdu.specs.Verdict.{Outcome, Accepted, FreshnessFailure, VerificationFailure}
 use Rattle.text_lines.specs.Texts.{line}
-use Rattle.trace_audit.specs.Auditing.{Finding, other, too_short, verdict, front_text, finding_text, tally_of, is_accepted_tally}
+use Rattle.can_logs.specs.Findings.{Finding, other, too_short, verdict, front_text, finding_text, tally_of, is_accepted_tally}
 use Rattle.basics.proofs.CallerLemmas.{length-bytes_of}
-use Rattle.watch_maps.specs.declared.options.WatchOptions.{WatchOptions}
+use Rattle.watch_commands.specs.declared.options.WatchOptions.{WatchOptions}
 use Rattle.watch_commands.specs.Stamps.{LineStamp, lead_text}
 use Rattle.watch_commands.specs.Watching.{told_text, finding_line}
 use Rattle.watch_commands.specs.Objects.{finding_object}

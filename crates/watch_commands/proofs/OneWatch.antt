@@ -2,11 +2,11 @@
 use Rattle.std.proofs.Common.{◌≡◌, ℕ, ◌+◌, Bool, true, false, List, [], ◌∷◌, ◌++◌, length, refl, sym, ap, ◌∙◌, subst, arith, inl, inr}
 use Rattle.std.proofs.lemmas.List.{same_from_push, length_push}
 use Rattle.text_lines.specs.Lines.{words_of, is_skipped}
-use Rattle.trace_audit.specs.declared.map_lines.MapLine.{MapLine}
-use Rattle.trace_audit.specs.Auditing.{Finding, counter_of_place}
-use Rattle.trace_audit.proofs.CallerLemmas.{HaveWindows, same_finding}
+use Rattle.can_logs.specs.declared.map_lines.MapLine.{MapLine}
+use Rattle.can_logs.specs.Findings.{Finding, counter_of_place}
+use Rattle.can_logs.proofs.CallerLemmas.{HaveWindows, same_finding}
 use Rattle.watch_commands.specs.Watching.{Found, stamped, findings_of, WatchesLine, WatchesEach, none, more}
-use Rattle.trace_audit.specs.Pieces.{in_64_bits}
+use Rattle.line_stream.specs.Pieces.{in_64_bits}
 
 -- ---- what is found of a line
 

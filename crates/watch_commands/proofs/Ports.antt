@@ -12,14 +12,14 @@ use Rattle.program_edge.specs.Told.{AppendedWell, EndingTold}
 use Rattle.program_edge.proofs.CallerLemmas.{AppendedWell-more}
 use Rattle.program_edge.specs.Rows.{row_of}
 use Rattle.program_edge.specs.Inputs.{Reading}
-use Rattle.watch_maps.specs.WatchMaps.{NumberedMap}
+use Rattle.watch_commands.specs.WatchedMaps.{WatchedMap}
 use Rattle.watch_commands.specs.Watching.{Found, findings_of, told_text, found_text, FindsComplete, FindsAll}
 use Rattle.watch_commands.specs.WatchTotals.{totals_text, watch_status}
 use Rattle.watch_commands.specs.States.{WatchState, Watched}
-use Rattle.watch_maps.specs.LogRuns.{Writing, ReadsToEnd, log_failed_text, log_too_long_text, Ports}
+use Rattle.can_logs.specs.LogRuns.{Writing, ReadsToEnd, log_failed_text, log_too_long_text, Ports}
 use Rattle.watch_commands.specs.WatchRows.{done, FailsOfLog, failed, too_long, EndsLog}
 use Rattle.watch_commands.specs.WatchSteps.{SoFar}
-use Rattle.watch_maps.proofs.CallerLemmas.{told_more}
+use Rattle.line_stream.proofs.CallerLemmas.{told_more}
 
 -- what is found of the complete lines, of a state
 pub complete_of : (watch : WatchState) (bytes : List ℕ) (findings : List Found) → Watched watch bytes findings → FindsComplete watch.mapping.lines bytes findings
@@ -50,7 +50,7 @@ module _ (first log later : SourceState) (start sink next : SinkState) (old new 
     came = Came-more so_far.came came;
     calm = calm ∙ so_far.calm;
     watched = watched;
-    prints = subst (λ (m : NumberedMap). AppendedWell start next (found_text m (findings ++ more))) (sym same)
+    prints = subst (λ (m : WatchedMap). AppendedWell start next (found_text m (findings ++ more))) (sym same)
         (subst (AppendedWell start next) (sym (flat_map-append (told_text old.mapping.options) findings more))
         (AppendedWell-more start sink next (found_text old.mapping findings) (found_text old.mapping more) so_far.prints prints));
   }
@@ -70,7 +70,7 @@ module _ (first log later : SourceState) (start sink next : SinkState) (old new 
     calm = calm ∙ so_far.calm;
     short = short;
     finds = complete_of old bytes findings so_far.watched;
-    finds_more = subst (λ (m : NumberedMap). FindsComplete m.lines (bytes ++ piece) (findings ++ more)) same (complete_of new (bytes ++ piece) (findings ++ more) watched);
+    finds_more = subst (λ (m : WatchedMap). FindsComplete m.lines (bytes ++ piece) (findings ++ more)) same (complete_of new (bytes ++ piece) (findings ++ more) watched);
     size = size;
     proper = proper;
     prints = Appended-more so_far.prints.1 part;

@@ -7,13 +7,12 @@ use Rattle.bus_port.specs.Sink.{SinkState, Appended}
 use Rattle.program_edge.specs.Told.{EndingTold}
 use Rattle.program_edge.specs.Rows.{Row}
 use Rattle.program_edge.specs.Inputs.{IsUnread}
-use Rattle.trace_audit.specs.Rows.{AuditInputs}
-use Rattle.watch_maps.specs.WatchMaps.{NumberedMap}
-use Rattle.trace_audit.specs.Pieces.{log_lines}
+use Rattle.can_logs.specs.LogRuns.{LogInputs, HasCome, Writing, WritesWhole, ending_of, WatchEnding}
+use Rattle.watch_commands.specs.WatchedMaps.{WatchedMap}
+use Rattle.line_stream.specs.Pieces.{log_lines}
 use Rattle.watch_commands.specs.Watching.{Found, findings_of, FindsComplete, told_text, found_text}
 use Rattle.watch_commands.specs.WatchTotals.{totals_text}
 use Rattle.watch_commands.specs.Words.{AsksWatch}
-use Rattle.watch_maps.specs.LogRuns.{HasCome, Writing, WritesWhole, ending_of, WatchEnding}
 use Rattle.watch_commands.specs.WatchRows.{ReadsWatchMap, ComesOfLog, done, FailsOfLog, failed, too_long, Stops, OverMap, ComesOnOutput, asked, of_log, ComesOnErrors, no_form, no_map, map_fault, no_log, EndsWatch}
 use Rattle.watch_commands.specs.Watches.{PrintsRising}
 use Rattle.watch_commands.proofs.WatchRising.{all_rise}
@@ -26,7 +25,7 @@ printed_front before after text status answer (inl (is, well)) =
 printed_front before after text status answer (inr (six, rose, (size, proper, part))) = (size, part)
 
 -- what was printed of the last piece is a prefix of what is found of all
-front_of_all : (mapping : NumberedMap) (findings more : List Found) (size : ℕ)
+front_of_all : (mapping : WatchedMap) (findings more : List Found) (size : ℕ)
     → found_text mapping findings ++ take size (found_text mapping more)
     ≡ take (length (found_text mapping findings) + size) (found_text mapping (findings ++ more) ++ [])
 front_of_all mapping findings more size =
@@ -35,12 +34,12 @@ front_of_all mapping findings more size =
     sym (take-append-add (found_text mapping findings) (found_text mapping more) size)
     ∙ ap (λ (text : List ℕ). take (length (found_text mapping findings) + size) text) all
 
-module _ (i : AuditInputs) (output : Writing) where
+module _ (i : LogInputs) (output : Writing) where
   abbrev Rises : Type 0
   Rises = IsUnread i.log ⊎ OverMap i (λ mapping. PrintsRising mapping i.log output)
 
   -- what was written of the row of a log that ended
-  of_log_rises : AsksWatch i.words → (mapping : NumberedMap) → ReadsWatchMap i mapping → (row : Row) → ComesOfLog mapping i.log row
+  of_log_rises : AsksWatch i.words → (mapping : WatchedMap) → ReadsWatchMap i mapping → (row : Row) → ComesOfLog mapping i.log row
       → (size : ℕ) → Appended output.before output.after (take size row.text) → Rises
   of_log_rises asks mapping reads row (done bytes findings whole finds) size part = inr (
     asks,
@@ -66,7 +65,7 @@ module _ (i : AuditInputs) (output : Writing) where
   output_rises row (of_log _ (asks, (mapping, reads, comes))) size part = of_log_rises asks mapping reads row comes size part
 
   -- what is found of the complete lines was written whole
-  complete_rises : AsksWatch i.words → (mapping : NumberedMap) → ReadsWatchMap i mapping → (bytes : List ℕ) (findings : List Found) → HasCome i.log bytes
+  complete_rises : AsksWatch i.words → (mapping : WatchedMap) → ReadsWatchMap i mapping → (bytes : List ℕ) (findings : List Found) → HasCome i.log bytes
       → FindsComplete mapping.lines bytes findings → WritesWhole output (found_text mapping findings) → Rises
   complete_rises asks mapping reads bytes findings came finds written = inr (
     asks,
@@ -89,7 +88,7 @@ module _ (i : AuditInputs) (output : Writing) where
     ),
   )
 
-  no_log_rises : AsksWatch i.words → (mapping : NumberedMap) → ReadsWatchMap i mapping → (row : Row) → FailsOfLog mapping i.log output row → Rises
+  no_log_rises : AsksWatch i.words → (mapping : WatchedMap) → ReadsWatchMap i mapping → (row : Row) → FailsOfLog mapping i.log output row → Rises
   no_log_rises asks mapping reads row (failed bytes findings came finds fails written) = complete_rises asks mapping reads bytes findings came finds written
   no_log_rises asks mapping reads row (too_long bytes findings came finds calm long written) = complete_rises asks mapping reads bytes findings came finds written
 
@@ -119,7 +118,7 @@ module _ (i : AuditInputs) (output : Writing) where
     ),
   )
 
-pub rises : (i : AuditInputs) (e : WatchEnding) → EndsWatch i e → IsUnread i.log ⊎ OverMap i (λ mapping. PrintsRising mapping i.log e.output)
+pub rises : (i : LogInputs) (e : WatchEnding) → EndsWatch i e → IsUnread i.log ⊎ OverMap i (λ mapping. PrintsRising mapping i.log e.output)
 rises i e (inl (ends, unwritten)) =
     let front = printed_front e.output.before e.output.after ends.row.text ends.row.status e.status ends.told in
     output_rises i e.output ends.row ends.comes front.0 front.1

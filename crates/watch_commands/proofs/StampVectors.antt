@@ -1,7 +1,7 @@
 -- The time and the channel of a line of a log, tried on written-out words
 use Rattle.std.proofs.Common.{◌≡◌, Bool, true, false, [], ◌∷◌, refl}
 use Rattle.std.specs.Prelude.{codes}
-use Rattle.watch_maps.specs.declared.options.WatchOptions.{WatchOptions}
+use Rattle.watch_commands.specs.declared.options.WatchOptions.{WatchOptions}
 use Rattle.watch_commands.specs.Stamps.{LineStamp, stamp_of, is_plain_ascii, escaped, lead_text}
 
 options : Bool → Bool → WatchOptions

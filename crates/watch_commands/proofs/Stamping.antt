@@ -1,10 +1,10 @@
 -- Findings with the time and the channel of their lines
 use Rattle.std.proofs.Common.{◌≡◌, ℕ, ◌+◌, ◌≤◌, List, [], ◌∷◌, ◌++◌, length, take, refl, sym, ◌∙◌, ap, subst, inl, inr}
 use Rattle.std.proofs.lemmas.List.{map-append}
-use Rattle.trace_audit.specs.Auditing.{Finding}
-use Rattle.trace_audit.specs.Pieces.{line_limit}
-use Rattle.trace_audit.proofs.CallerLemmas.{kept_whole}
-use Rattle.watch_maps.specs.WatchMaps.{NumberedMap}
+use Rattle.can_logs.specs.Findings.{Finding}
+use Rattle.line_stream.specs.Pieces.{line_limit}
+use Rattle.line_stream.proofs.CallerLemmas.{kept_whole}
+use Rattle.watch_commands.specs.WatchedMaps.{WatchedMap}
 use Rattle.watch_commands.specs.Watching.{Found, stamped, findings_of, WatchesLine, found_text}
 
 findings_stamped : (bytes : List ℕ) (findings : List Finding) → findings_of (stamped bytes findings) ≡ findings
@@ -19,7 +19,7 @@ findings_more found bytes findings =
     ∙ ap (λ (fs : List Finding). findings_of found ++ fs) (findings_stamped bytes findings)
 
 -- of a line that is too long nothing is printed, so its time and channel are never looked at
-pub stamped_kept : (mapping : NumberedMap) (counter : ℕ → ℕ) (number : ℕ) (line rest : List ℕ) (findings : List Finding) → line ≡ take (line_limit + 1) rest
+pub stamped_kept : (mapping : WatchedMap) (counter : ℕ → ℕ) (number : ℕ) (line rest : List ℕ) (findings : List Finding) → line ≡ take (line_limit + 1) rest
     → WatchesLine mapping.lines counter number line findings → found_text mapping (stamped line findings) ≡ found_text mapping (stamped rest findings)
 stamped_kept mapping counter number line rest findings is (inl (long, are)) =
     subst (λ (fs : List Finding). found_text mapping (stamped line fs) ≡ found_text mapping (stamped rest fs)) (sym are) refl

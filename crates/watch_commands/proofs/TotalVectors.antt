@@ -2,12 +2,12 @@
 use Rattle.std.proofs.Common.{◌≡◌, Bool, true, false, List, [], ◌∷◌, refl}
 use Rattle.std.specs.Prelude.{codes, None}
 use Rattle.secured_pdu.specs.Verdict.{Accepted, VerificationFailure}
-use Rattle.trace_audit.specs.declared.map_lines.MapLine.{MapLine}
-use Rattle.trace_audit.specs.declared.frames.OtherLine.TheVariants as kind
-use Rattle.trace_audit.specs.Frames.{unheard_kind, is_dataless_word}
-use Rattle.watch_maps.specs.OptionWords.{no_options}
-use Rattle.watch_maps.specs.WatchMaps.{NumberedMap}
-use Rattle.trace_audit.specs.Auditing.{Finding, other, too_short, verdict}
+use Rattle.can_logs.specs.declared.map_lines.MapLine.{MapLine}
+use Rattle.can_logs.specs.declared.frames.OtherLine.TheVariants as kind
+use Rattle.can_logs.specs.Frames.{unheard_kind, is_dataless_word}
+use Rattle.watch_commands.specs.declared.options.WatchOptions.{WatchOptions}
+use Rattle.watch_commands.specs.WatchedMaps.{WatchedMap}
+use Rattle.can_logs.specs.Findings.{Finding, other, too_short, verdict}
 use Rattle.watch_commands.specs.WatchTotals.{totals_of, counts_of, watch_status}
 
 -- ---- the lines that no line of a map judges
@@ -55,7 +55,10 @@ entry optional = record {
 }
 
 -- two lines, at 3 and 5 of the map's text
-mapping : Bool → Bool → NumberedMap
+no_options : WatchOptions
+no_options = record { quiet = false; json = false; time = false }
+
+mapping : Bool → Bool → WatchedMap
 mapping first second = record { lines = entry first ∷ entry second ∷ []; numbers = 3 ∷ 5 ∷ []; options = no_options }
 
 -- freshness 12 and 15 for the first line, a failure, a frame that is too short, and a remote frame

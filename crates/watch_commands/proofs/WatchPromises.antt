@@ -13,22 +13,19 @@ use Rattle.program_edge.specs.declared.input.InputFault.TheVariants as input
 use Rattle.program_edge.specs.Told.{EndingTold}
 use Rattle.program_edge.specs.Rows.{Row}
 use Rattle.program_edge.specs.Inputs.{Reading, IsUnread, ReadsWhole, Lacks, SourceFailed, CountsFault, GivesTooMuch, CountsTooMuch, Offers}
-use Rattle.program_edge.proofs.CallerLemmas.{Lacks-whole, CountsFault-is, CountsTooMuch-is, Offers-is, Offers-whole}
+use Rattle.program_edge.proofs.CallerLemmas.{Lacks-whole, CountsFault-is, CountsTooMuch-is, Offers-is, Offers-whole, EndsInRow-at, EndsInRow-front, EndsInRow-rose, EndsInRow-only, EndsInRow-may, EndsInRow-well}
 use Rattle.program_edge.specs.Endings.{EndsInRow, EndsIn, MayEndIn, PrintsFront, SinkFailed, CountsWriteFault}
-use Rattle.program_edge.proofs.CallerLemmas.{EndsInRow-at, EndsInRow-front, EndsInRow-rose, EndsInRow-only, EndsInRow-may, EndsInRow-well}
-use Rattle.trace_audit.specs.declared.map_lines.MapLine.{MapLine}
-use Rattle.trace_audit.specs.Auditing.{Finding}
-use Rattle.trace_audit.specs.Rows.{AuditInputs}
-use Rattle.watch_maps.specs.MapFaults.{map_fault_text, map_input_text}
-use Rattle.watch_maps.specs.OptionWords.{flags_before, behind_flags, kept_first, behind_kept, watch_inputs}
+use Rattle.can_logs.specs.declared.map_lines.MapLine.{MapLine}
+use Rattle.can_logs.specs.Findings.{Finding}
+use Rattle.can_logs.specs.LogRuns.{LogInputs, IsWatchMapFault, IsUnwritten, WritesWhole, WatchEnding, on_output, on_errors, log_failed_text, log_too_long_text, IsAnswer}
+use Rattle.can_logs.specs.MapFaults.{map_fault_text, map_input_text}
+use Rattle.watch_commands.specs.OptionWords.{flags_before, behind_flags, kept_first, behind_kept, watch_inputs}
 use Rattle.watch_commands.specs.Words.{watch_usage, AsksWatch, text_asked}
-use Rattle.watch_maps.specs.WatchMaps.{NumberedMap, watch_map_of}
+use Rattle.watch_commands.specs.WatchedMaps.{WatchedMap}
+use Rattle.can_logs.specs.WatchMaps.{watch_map_of}
 use Rattle.watch_commands.specs.Watching.{findings_of}
 use Rattle.watch_commands.specs.WatchTotals.{is_failed_tally, is_accepted_at, count_of, are_heard, watch_status}
-use Rattle.watch_maps.specs.LogRuns.{IsWatchMapFault, IsUnwritten, WritesWhole, WatchEnding, on_output, on_errors, log_failed_text, log_too_long_text, IsAnswer}
-use Rattle.watch_commands.specs.WatchRows.{ReadsWatchMap}
-use Rattle.watch_commands.specs.WatchRows.{ComesOfLog, done, FailsOfLog, failed, too_long, Stops, FailsBoth, OverMap}
-use Rattle.watch_commands.specs.WatchRows.{ComesOnOutput, asked, of_log, ComesOnErrors, no_form, no_map, map_fault, no_log, EndsWatch}
+use Rattle.watch_commands.specs.WatchRows.{ReadsWatchMap, ComesOfLog, done, FailsOfLog, failed, too_long, Stops, FailsBoth, OverMap, ComesOnOutput, asked, of_log, ComesOnErrors, no_form, no_map, map_fault, no_log, EndsWatch}
 use Rattle.watch_commands.specs.Watches.{AnswersLog, HoldsNothingBack, Watches}
 use Rattle.watch_commands.proofs.PrintedRise.{rises}
 
@@ -40,7 +37,7 @@ two_tests true b = inr (inl refl)
 two_tests false true = inl refl
 two_tests false false = inr (inr refl)
 
-status_answers : (mapping : NumberedMap) (findings : List Finding) → IsAnswer (watch_status mapping findings)
+status_answers : (mapping : WatchedMap) (findings : List Finding) → IsAnswer (watch_status mapping findings)
 status_answers mapping findings =
     two_tests (nat_lt 0 (count_of is_failed_tally findings)) (are_heard mapping (λ place. count_of (is_accepted_at place) findings))
 
@@ -70,21 +67,21 @@ asks_no_text [] text asks is = omega (arith, asks, few_inputs [])
 asks_no_text (word ∷ []) text asks is = omega (arith, asks, few_inputs (word ∷ []))
 asks_no_text (word ∷ next ∷ rest) text asks is = let clash : None ≡ Some text = is in cc
 
-module _ (i : AuditInputs) (e : WatchEnding) where
+module _ (i : LogInputs) (e : WatchEnding) where
   -- ---- rows by their status
 
-  of_log_status : (mapping : NumberedMap) (row : Row) → ComesOfLog mapping i.log row → IsAnswer row.status
+  of_log_status : (mapping : WatchedMap) (row : Row) → ComesOfLog mapping i.log row → IsAnswer row.status
   of_log_status mapping row (done log findings whole finds) = status_answers mapping (findings_of findings)
 
   output_status : (row : Row) → ComesOnOutput i row → IsAnswer row.status
   output_status row (asked text is map log) = inl refl
   output_status row (of_log _ (asks, (mapping, reads, comes))) = of_log_status mapping row comes
 
-  fails_status : (mapping : NumberedMap) (row : Row) → FailsOfLog mapping i.log e.output row → (row.status ≡ 5) ⊎ (row.status ≡ 8)
+  fails_status : (mapping : WatchedMap) (row : Row) → FailsOfLog mapping i.log e.output row → (row.status ≡ 5) ⊎ (row.status ≡ 8)
   fails_status mapping row (failed bytes findings came finds fails written) = inl refl
   fails_status mapping row (too_long bytes findings came finds calm long written) = inr refl
 
-  fails_not : (n : ℕ) (mapping : NumberedMap) (row : Row) → (¬ (n ≡ 5)) → (¬ (n ≡ 8)) → FailsOfLog mapping i.log e.output row → row.status ≡ n → ⊥
+  fails_not : (n : ℕ) (mapping : WatchedMap) (row : Row) → (¬ (n ≡ 5)) → (¬ (n ≡ 8)) → FailsOfLog mapping i.log e.output row → row.status ≡ n → ⊥
   fails_not n mapping row not_5 not_8 fails is = elim (fails_status mapping row fails) [
     | inl five ↦ not_5 (sym is ∙ five)
     | inr eight ↦ not_8 (sym is ∙ eight)
@@ -122,7 +119,7 @@ module _ (i : AuditInputs) (e : WatchEnding) where
       × ((SourceFailed i.map × IsUnread i.log × IsUnwritten e.output × WritesWhole e.errors (map_input_text input.ReadFault))
       ⊎ (SourceFailed i.log × HoldsNothingBack i e (λ bytes. Unit {0}) × WritesWhole e.errors log_failed_text))
 
-  fails_at_5 : AsksWatch i.words → (mapping : NumberedMap) → ReadsWatchMap i mapping → (row : Row) → FailsOfLog mapping i.log e.output row → row.status ≡ 5
+  fails_at_5 : AsksWatch i.words → (mapping : WatchedMap) → ReadsWatchMap i mapping → (row : Row) → FailsOfLog mapping i.log e.output row → row.status ≡ 5
       → WritesWhole e.errors row.text → AtFive
   fails_at_5 asks mapping reads row (failed bytes findings came finds fails written) five prints =
       (asks, inr (fails, (asks, (mapping, reads, (bytes, findings, came, tt, finds, written))), prints))
@@ -150,7 +147,7 @@ module _ (i : AuditInputs) (e : WatchEnding) where
       × ((GivesTooMuch i.map × IsUnread i.log × IsUnwritten e.output × WritesWhole e.errors (map_input_text input.TooLong))
       ⊎ (HoldsNothingBack i e (λ bytes. last_count ≤ length bytes) × WritesWhole e.errors log_too_long_text))
 
-  fails_at_8 : AsksWatch i.words → (mapping : NumberedMap) → ReadsWatchMap i mapping → (row : Row) → FailsOfLog mapping i.log e.output row → row.status ≡ 8
+  fails_at_8 : AsksWatch i.words → (mapping : WatchedMap) → ReadsWatchMap i mapping → (row : Row) → FailsOfLog mapping i.log e.output row → row.status ≡ 8
       → WritesWhole e.errors row.text → AtEight
   fails_at_8 asks mapping reads row (failed bytes findings came finds fails written) eight prints = absurd (omega (arith, eight))
   fails_at_8 asks mapping reads row (too_long bytes findings came finds calm long written) eight prints =
@@ -198,7 +195,7 @@ module _ (i : AuditInputs) (e : WatchEnding) where
   ok_is_err m f read text same ok err = let clash : Ok m ≡ Err f = sym ok ∙ ap watch_map_of same ∙ err in cc
 
   -- a map that was read whole has no fault
-  map_is_err : (text : List ℕ) (fault : Fault) → Offers i.map text → watch_map_of text ≡ Err fault → (mapping : NumberedMap) → ReadsWatchMap i mapping → ⊥
+  map_is_err : (text : List ℕ) (fault : Fault) → Offers i.map text → watch_map_of text ≡ Err fault → (mapping : WatchedMap) → ReadsWatchMap i mapping → ⊥
   map_is_err text fault offers is mapping (read, whole, read_is) =
       ok_is_err mapping.lines fault read text (Offers-whole i.map text read offers whole) read_is.0 is
 
@@ -221,7 +218,7 @@ module _ (i : AuditInputs) (e : WatchEnding) where
   map_faults counts row (map_fault fault asks (text, whole, is) unread unwritten) = absurd (omega (arith, counts, whole.no_fault))
   map_faults counts row (no_log _ (asks, (mapping, (text, whole, is), fails))) = absurd (omega (arith, counts, whole.no_fault))
 
-  fails_log_faults : CountsFault i.log → (mapping : NumberedMap) (row : Row) → FailsOfLog mapping i.log e.output row → row.status ≡ 5
+  fails_log_faults : CountsFault i.log → (mapping : WatchedMap) (row : Row) → FailsOfLog mapping i.log e.output row → row.status ≡ 5
   fails_log_faults counts mapping row (failed bytes findings came finds fails written) = refl
   fails_log_faults counts mapping row (too_long bytes findings came finds calm long written) = absurd (omega (arith, counts, calm))
 
@@ -236,7 +233,7 @@ module _ (i : AuditInputs) (e : WatchEnding) where
   output_map_calm counts row (asked text is map log) = unread_faults i.map map counts
   output_map_calm counts row (of_log _ (asks, (mapping, (text, whole, is), comes))) = omega (arith, counts, whole.no_fault)
 
-  of_log_calm : CountsFault i.log → (mapping : NumberedMap) (row : Row) → ComesOfLog mapping i.log row → ⊥
+  of_log_calm : CountsFault i.log → (mapping : WatchedMap) (row : Row) → ComesOfLog mapping i.log row → ⊥
   of_log_calm counts mapping row (done bytes findings whole finds) = omega (arith, counts, whole.no_fault)
 
   output_log_calm : CountsFault i.log → (row : Row) → ComesOnOutput i row → ⊥
@@ -263,7 +260,7 @@ module _ (i : AuditInputs) (e : WatchEnding) where
   few_came : (bytes : List ℕ) → Came i.log.before i.log.after bytes → last_count ≤ length bytes → i.log.after.taken < last_count → ⊥
   few_came bytes came long few = omega (arith, came.counted, long, few)
 
-  fails_not_valid : ¬ SourceFailed i.log → i.log.after.taken < last_count → (mapping : NumberedMap) (row : Row) → FailsOfLog mapping i.log e.output row → ⊥
+  fails_not_valid : ¬ SourceFailed i.log → i.log.after.taken < last_count → (mapping : WatchedMap) (row : Row) → FailsOfLog mapping i.log e.output row → ⊥
   fails_not_valid calm few mapping row (failed bytes findings came finds fails written) = calm fails
   fails_not_valid calm few mapping row (too_long bytes findings came finds still long written) = few_came bytes came long few
 
@@ -275,7 +272,7 @@ module _ (i : AuditInputs) (e : WatchEnding) where
       let same : text ≡ read = sym (Offers-whole i.map text read offers whole) in absurd (ok_is_err mapping fault text read same is read_is)
   completes text mapping names offers is calm few row (no_log _ (asks, (m, reads, fails))) = absurd (fails_not_valid calm few m row fails)
 
-  fails_calm : (mapping : NumberedMap) (row : Row) → FailsOfLog mapping i.log e.output row → e.output.after.faults ≡ e.output.before.faults
+  fails_calm : (mapping : WatchedMap) (row : Row) → FailsOfLog mapping i.log e.output row → e.output.after.faults ≡ e.output.before.faults
   fails_calm mapping row (failed bytes findings came finds fails written) = written.0
   fails_calm mapping row (too_long bytes findings came finds calm long written) = written.0
 
@@ -309,7 +306,7 @@ module _ (i : AuditInputs) (e : WatchEnding) where
   ends_told (inr (inl ((asks, over), unwritten))) text is = absurd (asks_no_text i.words text asks is)
   ends_told (inr (inr ends)) text is = absurd (not_told text is ends.row ends.comes)
 
-  of_log_answers : AsksWatch i.words → IsUnwritten e.errors → (mapping : NumberedMap) → ReadsWatchMap i mapping → (row : Row) → ComesOfLog mapping i.log row
+  of_log_answers : AsksWatch i.words → IsUnwritten e.errors → (mapping : WatchedMap) → ReadsWatchMap i mapping → (row : Row) → ComesOfLog mapping i.log row
       → e.status ≡ row.status → WritesWhole e.output row.text → AnswersLog i e
   of_log_answers asks unwritten mapping reads row (done log findings whole finds) same prints =
       (asks, (mapping, reads, (log, findings, whole, finds, same, prints, unwritten)))
@@ -379,7 +376,7 @@ module _ (i : AuditInputs) (e : WatchEnding) where
       let rose : e.output.before.faults < e.output.after.faults = output in absurd (omega (arith, rose, errors_calm ends.row ends.comes))
   ends_counts (inr (inr ends)) (inr errors) = EndsInRow-rose ends errors
 
-  fails_both : AsksWatch i.words → (mapping : NumberedMap) → ReadsWatchMap i mapping → CountsFault i.log → (row : Row) → FailsOfLog mapping i.log e.output row
+  fails_both : AsksWatch i.words → (mapping : WatchedMap) → ReadsWatchMap i mapping → CountsFault i.log → (row : Row) → FailsOfLog mapping i.log e.output row
       → EndingTold e.errors.before e.errors.after row.text row.status e.status → e.status ≡ 6 → OverMap i (λ m. FailsBoth m i.log e)
   fails_both asks mapping reads counts row (failed bytes findings came finds fails written) (inl (is, told)) six = absurd (omega (arith, is, six))
   fails_both asks mapping reads counts row (failed bytes findings came finds fails written) (inr (is, rose, part)) six =

@@ -4,13 +4,13 @@ use Rattle.std.specs.Prelude.{slice_index}
 use Rattle.secoc_words.specs.Counting.{AcceptedRise}
 use Rattle.secoc_words.specs.Counting as counting
 use Rattle.secoc_words.proofs.CallerLemmas.{KeepsCounters-rise}
-use Rattle.trace_audit.specs.declared.map_lines.MapLine.{MapLine}
-use Rattle.trace_audit.specs.declared.frames.OtherLine.TheVariants as kind
-use Rattle.trace_audit.specs.Auditing.{Finding, other, finding_accepts, first_counters, counter_of_place}
-use Rattle.trace_audit.proofs.CallerLemmas.{Keeps, keeps_one, above}
+use Rattle.can_logs.specs.declared.map_lines.MapLine.{MapLine}
+use Rattle.can_logs.specs.declared.frames.OtherLine.TheVariants as kind
+use Rattle.can_logs.specs.Findings.{Finding, other, finding_accepts, first_counters, counter_of_place}
+use Rattle.can_logs.proofs.CallerLemmas.{Keeps, keeps_one, above}
 use Rattle.watch_commands.specs.Watching.{Found, findings_of, WatchesLine, WatchesEach, none, more}
 use Rattle.watch_commands.proofs.Stamping.{findings_more}
-use Rattle.trace_audit.specs.Pieces.{in_64_bits}
+use Rattle.line_stream.specs.Pieces.{in_64_bits}
 
 -- what is found of one more line
 keeps_line : (mapping : List MapLine) (findings : List Finding) (number : ℕ) (bytes : List ℕ) (found : List Finding) → Keeps mapping findings

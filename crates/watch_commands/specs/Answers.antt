@@ -2,11 +2,11 @@
 use Rattle.std.specs.Prelude.{◌≡◌, ℕ, Bool, if◌then◌else◌, List, ◌++◌, take, drop, codes, Option, None, Some}
 use Rattle.std.specs.List.{slice_get}
 use Rattle.text_lines.specs.Texts.{line}
-use Rattle.trace_audit.specs.declared.map_lines.MapLine.{MapLine}
-use Rattle.trace_audit.specs.declared.auditing.FrameTally.{FrameTally}
-use Rattle.trace_audit.specs.declared.auditing.FrameTally.TheVariants as tally
-use Rattle.trace_audit.specs.MapLines.{row_head}
-use Rattle.trace_audit.specs.Auditing.{Finding, other, too_short, verdict, finding_text, tally_of, is_accepted_tally}
+use Rattle.can_logs.specs.declared.map_lines.MapLine.{MapLine}
+use Rattle.can_logs.specs.declared.findings.FrameTally.{FrameTally}
+use Rattle.can_logs.specs.declared.findings.FrameTally.TheVariants as tally
+use Rattle.can_logs.specs.MapLines.{row_head}
+use Rattle.can_logs.specs.Findings.{Finding, other, too_short, verdict, finding_text, tally_of, is_accepted_tally}
 
 -- the front of an object, by the digits of the number
 abbrev pub front_object : List ℕ → List ℕ → List ℕ

@@ -1,3 +1,5 @@
+pub mod OptionWords
+pub mod WatchedMaps
 pub mod Words
 pub mod Stamps
 pub mod Objects

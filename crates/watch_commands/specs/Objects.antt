@@ -5,7 +5,7 @@ use Rattle.basics.specs.Numbers.{bytes_of}
 use Rattle.hex.specs.Hex.{encode_lower}
 use Rattle.secured_pdu.specs.Verdict.{Outcome, Accepted, FreshnessFailure, VerificationFailure}
 use Rattle.text_lines.specs.Texts.{line}
-use Rattle.trace_audit.specs.Auditing.{Finding, other, too_short, verdict}
+use Rattle.can_logs.specs.Findings.{Finding, other, too_short, verdict}
 
 -- the number of the frame's line in the log, the name or CAN identifier of the map's line, and what is said of the frame
 abbrev pub object_front : ℕ → List ℕ → List ℕ → List ℕ

@@ -1,11 +1,10 @@
 -- The time and the channel of a line of a log, and how they stand before an answer
-use Rattle.std.specs.Prelude.{ℕ, ◌-◌, ◌==◌, ◌&&◌, nat_le, not, Bool, if◌then◌else◌}
-use Rattle.std.specs.Prelude.{List, [], ◌∷◌, ◌++◌, length, take, drop, codes}
+use Rattle.std.specs.Prelude.{ℕ, ◌-◌, ◌==◌, ◌&&◌, nat_le, not, Bool, if◌then◌else◌, List, [], ◌∷◌, ◌++◌, length, take, drop, codes}
 use Rattle.std.specs.List.{flat_map}
 use Rattle.hex.specs.Hex.{encode_lower}
 use Rattle.text_lines.specs.Readings.{nth_word}
-use Rattle.trace_audit.specs.Auditing.{channel_of}
-use Rattle.watch_maps.specs.declared.options.WatchOptions.{WatchOptions}
+use Rattle.can_logs.specs.Findings.{channel_of}
+use Rattle.watch_commands.specs.declared.options.WatchOptions.{WatchOptions}
 
 -- the first two words of a line: the time with its parentheses, and the channel
 pub record LineStamp : Type 0 where

@@ -1,25 +1,21 @@
 -- The state between two pieces of a log, and what the steps say to one another
-use Rattle.std.specs.Prelude.{◌≡◌, ℕ, ◌+◌, ◌<◌, nat_lt, Bool, if◌then◌else◌, List, [], ◌∷◌, ◌++◌, length, take, map}
-use Rattle.std.specs.Prelude.{set, slice_index, Option, None, Some}
+use Rattle.std.specs.Prelude.{◌≡◌, ℕ, ◌+◌, ◌<◌, nat_lt, Bool, if◌then◌else◌, List, [], ◌∷◌, ◌++◌, length, take, map, set, slice_index, Option, None, Some}
 use Rattle.bus_port.specs.Fault.{counted}
-use Rattle.trace_audit.specs.declared.auditing.FrameTally.{FrameTally}
-use Rattle.trace_audit.specs.declared.auditing.FrameTally.TheVariants as tally
+use Rattle.can_logs.specs.declared.findings.FrameTally.{FrameTally}
+use Rattle.can_logs.specs.declared.findings.FrameTally.TheVariants as tally
 use Rattle.watch_commands.specs.declared.counts.WatchCounts.{WatchCounts}
 use Rattle.secoc_words.specs.Counting.{last_accepted}
-use Rattle.watch_maps.specs.WatchMaps.{NumberedMap}
-use Rattle.trace_audit.specs.Auditing.{Finding, tally_of, finding_accepts, counter_of_place, is_accepted_tally}
-use Rattle.trace_audit.specs.Pieces.{line_limit, log_lines, in_64_bits}
+use Rattle.watch_commands.specs.WatchedMaps.{WatchedMap}
+use Rattle.can_logs.specs.Findings.{Finding, tally_of, finding_accepts, counter_of_place, is_accepted_tally}
+use Rattle.line_stream.specs.Pieces.{line_limit, log_lines, in_64_bits}
 use Rattle.watch_commands.specs.Watching.{Found, stamped, findings_of, WatchesLine, WatchesEach, found_text}
-use Rattle.watch_commands.specs.WatchTotals.{counted_of, counts_of, is_failed_tally}
-use Rattle.watch_commands.specs.WatchTotals.{is_accepted_at, is_failed_at, is_other_of}
-use Rattle.watch_commands.specs.WatchTotals.{is_unmapped_line, is_other_frame}
-use Rattle.watch_commands.specs.WatchTotals.{is_malformed_line, LineTotals, totals_text_of, are_heard}
+use Rattle.watch_commands.specs.WatchTotals.{counted_of, counts_of, is_failed_tally, is_accepted_at, is_failed_at, is_other_of, is_unmapped_line, is_other_frame, is_malformed_line, LineTotals, totals_text_of, are_heard}
 
 -- the map; for each of its lines the counter, how many frames it accepted, and how many it didn't; the line that no
 -- line feed has ended, as far as it is kept, and the number of lines before it; the numbers of the log so far; what was
 -- found of the last piece
 pub record WatchState : Type 0 where
-  pub mapping : NumberedMap
+  pub mapping : WatchedMap
   pub counters : List ℕ
   pub accepted : List ℕ
   pub failed : List ℕ
@@ -29,7 +25,7 @@ pub record WatchState : Type 0 where
   pub text : List ℕ
 
 -- for each line of the map the number of findings that pass for it
-abbrev pub AreCounted : (ℕ → FrameTally → Bool) → NumberedMap → List ℕ → List Found → Type 0
+abbrev pub AreCounted : (ℕ → FrameTally → Bool) → WatchedMap → List ℕ → List Found → Type 0
 AreCounted passes mapping numbers findings =
     (place : ℕ) → place < length mapping.lines
     → slice_index numbers place ≡ counted_of (passes place) (findings_of findings)

@@ -3,15 +3,14 @@ use Rattle.std.specs.Prelude.{◌≡◌, ℕ, ◌<◌, List, [], ◌++◌, lengt
 use Rattle.bus_port.specs.Source.{Came}
 use Rattle.program_edge.specs.Told.{AppendedWell}
 use Rattle.program_edge.specs.Rows.{Row}
-use Rattle.trace_audit.specs.Rows.{AuditInputs}
+use Rattle.can_logs.specs.LogRuns.{LogInputs, Writing, Ports}
 use Rattle.watch_commands.specs.Watching.{Found, found_text}
 use Rattle.watch_commands.specs.States.{WatchState, Watched}
-use Rattle.watch_maps.specs.LogRuns.{Writing, Ports}
 use Rattle.watch_commands.specs.WatchRows.{EndsLog, OverMap, ComesOnErrors}
 
 -- how the words and the map end: in the watch of this map before the log, or in a row that comes on standard error, if
 -- nothing was written to standard output
-abbrev pub PreparesWatch : AuditInputs → Writing → Result WatchState Row → Type 0
+abbrev pub PreparesWatch : LogInputs → Writing → Result WatchState Row → Type 0
 PreparesWatch i output (Ok watch) = OverMap i (λ mapping. watch.mapping ≡ mapping) × Watched watch [] []
 PreparesWatch i output (Err row) = ComesOnErrors i output row
 

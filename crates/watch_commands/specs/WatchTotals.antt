@@ -1,21 +1,20 @@
 -- The numbers at the end of a log: those of each line of the map, and those of the whole log
-use Rattle.std.specs.Prelude.{ℕ, ◌-◌, ◌==◌, ◌&&◌, ◌||◌, nat_lt, Bool, true, false, if◌then◌else◌}
-use Rattle.std.specs.Prelude.{List, [], ◌++◌, length, filter, slice_index, codes, option_map, unwrap_or}
+use Rattle.std.specs.Prelude.{ℕ, ◌-◌, ◌==◌, ◌&&◌, ◌||◌, nat_lt, Bool, true, false, if◌then◌else◌, List, [], ◌++◌, length, filter, slice_index, codes, option_map, unwrap_or}
 use Rattle.std.specs.List.{flat_map, list_all, range_with_len, slice_get}
 use Rattle.std.specs.Fmt.{decimal}
 use Rattle.basics.specs.Numbers.{bytes_of}
 use Rattle.hex.specs.Hex.{encode_lower}
 use Rattle.text_lines.specs.Texts.{line}
-use Rattle.trace_audit.specs.declared.map_lines.MapLine.{MapLine}
-use Rattle.trace_audit.specs.declared.frames.OtherLine.{OtherLine}
-use Rattle.trace_audit.specs.declared.frames.OtherLine.TheVariants as kind
-use Rattle.trace_audit.specs.declared.auditing.FrameTally.{FrameTally}
-use Rattle.trace_audit.specs.declared.auditing.FrameTally.TheVariants as tally
+use Rattle.can_logs.specs.declared.map_lines.MapLine.{MapLine}
+use Rattle.can_logs.specs.declared.frames.OtherLine.{OtherLine}
+use Rattle.can_logs.specs.declared.frames.OtherLine.TheVariants as kind
+use Rattle.can_logs.specs.declared.findings.FrameTally.{FrameTally}
+use Rattle.can_logs.specs.declared.findings.FrameTally.TheVariants as tally
 use Rattle.watch_commands.specs.declared.counts.WatchCounts.{WatchCounts}
-use Rattle.trace_audit.specs.MapLines.{row_head}
-use Rattle.trace_audit.specs.Pieces.{in_64_bits}
-use Rattle.watch_maps.specs.WatchMaps.{NumberedMap}
-use Rattle.trace_audit.specs.Auditing.{Finding, is_accepted_tally, tally_of, counter_of_place}
+use Rattle.can_logs.specs.MapLines.{row_head}
+use Rattle.line_stream.specs.Pieces.{in_64_bits}
+use Rattle.watch_commands.specs.WatchedMaps.{WatchedMap}
+use Rattle.can_logs.specs.Findings.{Finding, is_accepted_tally, tally_of, counter_of_place}
 
 -- ---- what is counted
 
@@ -130,30 +129,30 @@ pub record LineTotals : Type 0 where
   pub last : ℕ → ℕ
 
 -- the numbers of the line at a place
-abbrev pub total_line_at : NumberedMap → LineTotals → ℕ → List ℕ
+abbrev pub total_line_at : WatchedMap → LineTotals → ℕ → List ℕ
 total_line_at mapping totals place = unwrap_or (option_map
     (total_line mapping.options.json (slice_index mapping.numbers place) (totals.accepted place) (totals.failed place)
     (totals.last place))
     (slice_get mapping.lines place)) []
 
 -- the places of the lines of a map, in their order
-abbrev pub map_places : NumberedMap → List ℕ
+abbrev pub map_places : WatchedMap → List ℕ
 map_places mapping = range_with_len 0 (length mapping.lines)
 
 -- a line for each line of the map, and one for each of the five numbers
-abbrev pub totals_text_of : NumberedMap → LineTotals → WatchCounts → List ℕ
+abbrev pub totals_text_of : WatchedMap → LineTotals → WatchCounts → List ℕ
 totals_text_of mapping totals counts =
     flat_map (total_line_at mapping totals) (map_places mapping) ++ counts_text mapping.options.json counts
 
 -- the totals of what was found
-abbrev pub totals_of : NumberedMap → List Finding → LineTotals
+abbrev pub totals_of : WatchedMap → List Finding → LineTotals
 totals_of mapping findings = record {
   accepted = λ place. counted_of (is_accepted_at place) findings;
   failed = λ place. counted_of (is_failed_at place) findings;
   last = counter_of_place mapping.lines findings;
 }
 
-abbrev pub totals_text : NumberedMap → List Finding → List ℕ
+abbrev pub totals_text : WatchedMap → List Finding → List ℕ
 totals_text mapping findings = totals_text_of mapping (totals_of mapping findings) (counts_of findings)
 
 -- ---- the status at the end of a log
@@ -162,18 +161,18 @@ totals_text mapping findings = totals_text_of mapping (totals_of mapping finding
 abbrev pub is_heard : ℕ → MapLine → Bool
 is_heard accepted entry = entry.optional || nat_lt 0 accepted
 
-abbrev pub is_heard_at : NumberedMap → (ℕ → ℕ) → ℕ → Bool
+abbrev pub is_heard_at : WatchedMap → (ℕ → ℕ) → ℕ → Bool
 is_heard_at mapping accepted place =
     unwrap_or (option_map (is_heard (accepted place)) (slice_get mapping.lines place)) true
 
 -- a map has lines, and each of them is heard
-abbrev pub are_heard : NumberedMap → (ℕ → ℕ) → Bool
+abbrev pub are_heard : WatchedMap → (ℕ → ℕ) → Bool
 are_heard mapping accepted =
     list_all (is_heard_at mapping accepted) (map_places mapping) && nat_lt 0 (length mapping.lines)
 
 -- 1 if a mapped frame wasn't accepted; else 3 if a line of the map that isn't optional accepted none, or the map has no
 -- line; else 0
-abbrev pub watch_status : NumberedMap → List Finding → ℕ
+abbrev pub watch_status : WatchedMap → List Finding → ℕ
 watch_status mapping findings =
     if nat_lt 0 (count_of is_failed_tally findings) then 1
     else if are_heard mapping (λ place. count_of (is_accepted_at place) findings) then 0

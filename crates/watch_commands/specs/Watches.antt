@@ -6,32 +6,29 @@ use Rattle.secoc_words.specs.Counting.{AcceptedRise}
 use Rattle.text_lines.specs.Readings.{Fault}
 use Rattle.program_edge.specs.declared.input.InputFault.TheVariants as input
 use Rattle.program_edge.specs.Told.{EndingTold}
-use Rattle.program_edge.specs.Inputs.{Reading, IsUnread, Lacks, SourceFailed, CountsFault}
-use Rattle.program_edge.specs.Inputs.{GivesTooMuch, CountsTooMuch, Offers}
+use Rattle.program_edge.specs.Inputs.{Reading, IsUnread, Lacks, SourceFailed, CountsFault, GivesTooMuch, CountsTooMuch, Offers}
 use Rattle.program_edge.specs.Endings.{EndsIn, MayEndIn, PrintsFront, SinkFailed, CountsWriteFault}
-use Rattle.trace_audit.specs.declared.map_lines.MapLine.{MapLine}
-use Rattle.trace_audit.specs.Auditing.{finding_accepts}
-use Rattle.trace_audit.specs.Rows.{AuditInputs}
-use Rattle.watch_maps.specs.MapFaults.{map_fault_text, map_input_text}
+use Rattle.can_logs.specs.declared.map_lines.MapLine.{MapLine}
+use Rattle.can_logs.specs.Findings.{finding_accepts}
+use Rattle.can_logs.specs.LogRuns.{LogInputs, IsAnswer, IsWatchMapFault, ReadsToEnd, HasCome, log_failed_text, log_too_long_text, Writing, IsUnwritten, WritesWhole, WatchEnding, on_output, on_errors}
+use Rattle.can_logs.specs.MapFaults.{map_fault_text, map_input_text}
 use Rattle.watch_commands.specs.Words.{watch_usage, AsksWatch, text_asked}
-use Rattle.watch_maps.specs.WatchMaps.{NumberedMap, watch_map_of}
+use Rattle.watch_commands.specs.WatchedMaps.{WatchedMap}
+use Rattle.can_logs.specs.WatchMaps.{watch_map_of}
 use Rattle.watch_commands.specs.Watching.{Found, findings_of, FindsComplete, FindsAll, found_text}
 use Rattle.watch_commands.specs.WatchTotals.{totals_text, watch_status}
-use Rattle.watch_maps.specs.LogRuns.{IsAnswer, IsWatchMapFault, ReadsToEnd, HasCome, log_failed_text, log_too_long_text}
-use Rattle.watch_maps.specs.LogRuns.{Writing, IsUnwritten, WritesWhole, WatchEnding, on_output, on_errors}
-use Rattle.watch_commands.specs.WatchRows.{Stops, FailsBoth, OverMap}
-use Rattle.watch_commands.specs.WatchRows.{ComesOnOutput, ComesOnErrors, EndsWatch}
+use Rattle.watch_commands.specs.WatchRows.{Stops, FailsBoth, OverMap, ComesOnOutput, ComesOnErrors, EndsWatch}
 
 -- the whole log was read, exactly what is found of its lines and the totals were printed, and these findings give the
 -- status
-abbrev pub AnswersLog : AuditInputs → WatchEnding → Type 0
+abbrev pub AnswersLog : LogInputs → WatchEnding → Type 0
 AnswersLog i e = OverMap i (λ mapping. (log : List ℕ) × (findings : List Found) × ReadsToEnd i.log log
     × FindsAll mapping.lines log findings × (e.status ≡ watch_status mapping (findings_of findings))
     × WritesWhole e.output (found_text mapping findings ++ totals_text mapping (findings_of findings))
     × IsUnwritten e.errors)
 
 -- exactly what is found of every complete line of the bytes that came was printed
-abbrev pub HoldsNothingBack : AuditInputs → WatchEnding → (List ℕ → Type 0) → Type 0
+abbrev pub HoldsNothingBack : LogInputs → WatchEnding → (List ℕ → Type 0) → Type 0
 HoldsNothingBack i e P = OverMap i (λ mapping. (bytes : List ℕ) × (findings : List Found)
     × HasCome i.log bytes × P bytes × FindsComplete mapping.lines bytes findings
     × WritesWhole e.output (found_text mapping findings))
@@ -39,7 +36,7 @@ HoldsNothingBack i e P = OverMap i (λ mapping. (bytes : List ℕ) × (findings 
 -- what was printed is a prefix of what is found of all that came of the log, and of the totals if the log ended. What
 -- is found is that of its complete lines or of all. Of two frames that the same line of the map accepted, the later has
 -- the greater freshness
-pub record PrintsRising (mapping : NumberedMap) (log : Reading) (output : Writing) : Type 0 where
+pub record PrintsRising (mapping : WatchedMap) (log : Reading) (output : Writing) : Type 0 where
   pub bytes : List ℕ
   pub findings : List Found
   pub came : HasCome log bytes
@@ -51,7 +48,7 @@ pub record PrintsRising (mapping : NumberedMap) (log : Reading) (output : Writin
   pub prints : Appended output.before output.after (take size (found_text mapping findings ++ last))
 
 -- what a run promises that has these inputs and ends so, in the order of the table of answers
-pub record Watches (i : AuditInputs) (e : WatchEnding) : Type 0 where
+pub record Watches (i : LogInputs) (e : WatchEnding) : Type 0 where
   -- The program prints a row of the table, on standard output or on standard error, and ends with its status, or at 6 a
   -- prefix of one. Or standard output failed at what was found of a log that hadn't ended.
   pub ends : EndsWatch i e

@@ -1,17 +1,15 @@
 -- What is found of each line of a log that has no greatest length, and printed
-use Rattle.std.specs.Prelude.{◌≡◌, ◌⊎◌, ℕ, ◌+◌, ◌<◌, ◌≤◌, ◌&&◌, Bool, true, false, if◌then◌else◌}
-use Rattle.std.specs.Prelude.{List, [], ◌∷◌, ◌++◌, length, map}
+use Rattle.std.specs.Prelude.{◌≡◌, ◌⊎◌, ℕ, ◌+◌, ◌<◌, ◌≤◌, ◌&&◌, Bool, true, false, if◌then◌else◌, List, [], ◌∷◌, ◌++◌, length, map}
 use Rattle.std.specs.List.{flat_map}
 use Rattle.text_lines.specs.Lines.{words_of, is_skipped}
-use Rattle.trace_audit.specs.declared.map_lines.MapLine.{MapLine}
-use Rattle.trace_audit.specs.declared.frames.OtherLine.TheVariants as kind
-use Rattle.watch_maps.specs.declared.options.WatchOptions.{WatchOptions}
+use Rattle.can_logs.specs.declared.map_lines.MapLine.{MapLine}
+use Rattle.can_logs.specs.declared.frames.OtherLine.TheVariants as kind
+use Rattle.watch_commands.specs.declared.options.WatchOptions.{WatchOptions}
 use Rattle.watch_commands.specs.Objects.{finding_object}
-use Rattle.watch_maps.specs.WatchMaps.{NumberedMap}
+use Rattle.watch_commands.specs.WatchedMaps.{WatchedMap}
 use Rattle.watch_commands.specs.Stamps.{LineStamp, stamp_of, lead_text}
-use Rattle.trace_audit.specs.Auditing.{Finding, other, is_other, finding_text, tally_of}
-use Rattle.trace_audit.specs.Auditing.{counter_of_place, AuditsLine, is_accepted_tally}
-use Rattle.trace_audit.specs.Pieces.{line_limit, log_lines, in_64_bits}
+use Rattle.can_logs.specs.Findings.{Finding, other, is_other, finding_text, tally_of, counter_of_place, AuditsLine, is_accepted_tally}
+use Rattle.line_stream.specs.Pieces.{line_limit, log_lines, in_64_bits}
 
 -- what is found of a line: it is malformed if it is too long; nothing if it is skipped; else as for an audit
 abbrev pub WatchesLine : List MapLine → (ℕ → ℕ) → ℕ → List ℕ → List Finding → Type 0
@@ -69,5 +67,5 @@ told_text options found =
     else lead_text options found.stamp ++ finding_line options.json found.finding
 
 -- what is printed of all that was found, one after the other
-abbrev pub found_text : NumberedMap → List Found → List ℕ
+abbrev pub found_text : WatchedMap → List Found → List ℕ
 found_text mapping found = flat_map (told_text mapping.options) found

@@ -1,8 +1,8 @@
 -- What the words of the command line of `watch` ask for, the program's name left out
 use Rattle.std.specs.Prelude.{ℕ, if◌then◌else◌, List, codes, Option, None, Some}
 use Rattle.text_lines.specs.Texts.{line}
-use Rattle.trace_audit.specs.Rows.{NamesInputs}
-use Rattle.watch_maps.specs.OptionWords.{watch_inputs, is_only_word}
+use Rattle.can_logs.specs.LogRuns.{NamesInputs, is_only_word}
+use Rattle.watch_commands.specs.OptionWords.{watch_inputs}
 use Rattle.watch_commands.specs.declared.run.TheConstants.{HELP, VERSION}
 
 -- the line that is printed if the words are of no form

@@ -1,20 +1,22 @@
 //! The answer to a frame, as it is printed.
-ghost use Rattle.std.specs.Prelude.{◌≡◌, ◌≤◌, ◌<◌, ◌+◌, ◌*◌, ◌++◌, true, length, IfSome, vec_len, vec_capacity};
-ghost use Rattle.trace_audit.specs.Auditing.{Finding};
+ghost use Rattle.std.specs.Prelude.{◌≡◌, ◌≤◌, ◌<◌, ◌+◌, ◌*◌, ◌++◌, true, length, vec_len, vec_capacity};
+ghost use Rattle.can_logs.specs.Findings.{Finding};
 ghost use Rattle.watch_commands.specs.Watching.{told_text};
 ghost use Rattle.watch_commands.specs.Answers.{IsAnswerTo, IsAnswerIn, judged_place};
 ghost use Rattle.watch_commands.specs.Answers.{front_object, said_object, said_values, accepted_values};
 
+use crate::options::WatchOptions;
 use crate::stamps::{Stamp, add_lead};
+use crate::task::WatchTask;
+use can_logs::FrameTally;
 use itoa::Buffer;
-use trace_audit::{FrameTally, add_bytes};
-use watch_maps::{WatchMap, WatchOptions};
+use line_stream::add_bytes;
 
 /// Adds what is printed of the answer to the line with this number of the log, in room for 320 bytes, and for 6 bytes
 /// for each byte of the line's stamp. The answer is empty if no line of the map judged it. It takes no memory.
 pub fn add_answer(
     text: &mut Vec<u8>,
-    map: &WatchMap,
+    map: &WatchTask,
     number: u64,
     tally: FrameTally,
     stamp: &Stamp<'_>,

@@ -5,9 +5,10 @@ ghost use Rattle.watch_commands.specs.States.{counts_after};
 ghost use Rattle.watch_commands.specs.WatchTotals.{counts_of, named, before_value, count_text, counts_text};
 ghost use Rattle.watch_commands.specs.WatchTotals.{line_head, last_text, total_line};
 
+use can_logs::{FrameTally, MapLine, OtherLine};
 use itoa::Buffer;
+use line_stream::add_bytes;
 use text_lines::pushing::push_digits;
-use trace_audit::{FrameTally, MapLine, OtherLine, add_bytes};
 
 /// The numbers of a log, each in 64 bits.
 #[derive(Clone, Copy)]

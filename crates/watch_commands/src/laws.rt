@@ -2,8 +2,8 @@
 ghost use Rattle.std.specs.Prelude.{◌≡◌, List, ℕ, map, All};
 ghost use Rattle.secured_pdu.specs.Frame.{IsWindow};
 ghost use Rattle.secoc_words.specs.Counting.{AcceptedRise};
-ghost use Rattle.trace_audit.specs.declared.map_lines.MapLine.{MapLine};
-ghost use Rattle.trace_audit.specs.Auditing.{finding_accepts};
+ghost use Rattle.can_logs.specs.declared.map_lines.MapLine.{MapLine};
+ghost use Rattle.can_logs.specs.Findings.{finding_accepts};
 ghost use Rattle.watch_commands.specs.Watching.{Found, findings_of, WatchesEach};
 
 /// Of two frames that the same line of the map accepts, the later has the greater freshness.

@@ -12,11 +12,15 @@
 mod answers;
 mod counts;
 pub mod laws;
+mod options;
 mod run;
 mod stamps;
 mod start;
 mod state;
+mod task;
 
+pub use options::{WatchOptions, inputs_of, kept_file};
 pub use run::{prepare, run_watch};
 pub use start::watch_words;
 pub use state::Watch;
+pub use task::WatchTask;

@@ -9,12 +9,14 @@ ghost use Rattle.watch_commands.specs.Words.{text_asked};
 ghost use Rattle.watch_commands.specs.Watches.{Watches};
 ghost use Rattle.watch_commands.specs.WatchSteps.{PreparesWatch, SoFar, Turns};
 
+use crate::options::{WatchOptions, inputs_of};
 use crate::state::Watch;
+use crate::task::WatchTask;
 use bus_port::{PortFailed, Sink, Source};
+use can_logs::{is_only, names_inputs, read_watch_map};
+use line_stream::PIECE;
 use program_edge::{DONE, Refusal, WRITE_FAULT, tell, tell_refusal};
 use std::alloc::{AllocError, Global};
-use trace_audit::{PIECE, names_inputs};
-use watch_maps::{WatchOptions, inputs_of, is_only, read_watch_map};
 
 const USAGE: &str = "usage: watch [--quiet] [--json] [--time] [--expect FILE] MAP LOG\n";
 
@@ -41,7 +43,7 @@ const LOG_TOO_LONG: &str = "log: input too long\n";
 
 /// Judges the frames of a log by a map while they come, and gives the status that the program ends with. Two words,
 /// which name the map and the log and may be any text, are the form of the words, the program's name left out; options
-/// may stand before them ([`WatchOptions`](watch_maps::WatchOptions)). The map is read whole before the log is
+/// may stand before them ([`WatchOptions`]). The map is read whole before the log is
 /// asked for. Each complete line of the log is answered on `sink` before the log is read again. Faults are told on
 /// `errors`. Every text that is printed ends with a line feed. `--help` or `--version` alone print a text, with status
 /// 0.
@@ -119,8 +121,9 @@ pub fn prepare<S: Source>(alloc: Global, words: &[String], map: &mut S) -> Resul
     if !names_inputs(inputs_of(words)) {
         return Err(Refusal::fixed(2, USAGE));
     }
-    let map = read_watch_map(alloc, map, WatchOptions::of(words))?;
-    match Watch::new(alloc, map) {
+    let map = read_watch_map(alloc, map)?;
+    let task = WatchTask::of(map, WatchOptions::of(words));
+    match Watch::new(alloc, task) {
         Ok(watch) => Ok(watch),
         Err(AllocError) => Err(Refusal::no_memory()),
     }

@@ -4,11 +4,11 @@ ghost use Rattle.text_lines.specs.Readings.{nth_word};
 ghost use Rattle.watch_commands.specs.Stamps.{stamp_of, within_ends, is_plain_ascii, escaped_byte, escaped};
 ghost use Rattle.watch_commands.specs.Stamps.{stamp_words, stamp_object, lead_text};
 
+use crate::options::WatchOptions;
+use line_stream::add_bytes;
 use std::marker::Model;
 use text_lines::pushing::push_digits;
 use text_lines::words::Words;
-use trace_audit::add_bytes;
-use watch_maps::WatchOptions;
 
 /// The time and the channel of a line of a log: its first word, with its parentheses, and its second. Each is empty if
 /// the line hasn't the word.

@@ -2,14 +2,14 @@
 ghost use Rattle.std.specs.Prelude.{map as each, string_bytes, option_map};
 ghost use Rattle.program_edge.specs.NamedSources.{word_source, openings, first_of_two, second_of_two};
 ghost use Rattle.program_edge.specs.NamedSources.{OverTwoNamed};
-ghost use Rattle.watch_maps.specs.OptionWords.{watch_inputs};
+ghost use Rattle.watch_commands.specs.OptionWords.{watch_inputs};
 ghost use Rattle.watch_commands.specs.Watches.{Watches};
 
+use crate::options::inputs_of;
 use crate::run::run_watch;
 use bus_port::{Sink, Source};
 use program_edge::{Opener, WordSource, open_two};
 use std::alloc::Global;
-use watch_maps::inputs_of;
 
 /// Watches what two arguments name, the map first; options may stand before them. It gives the status that the
 /// program ends with, and the sources of the map and of the log as the watch left them. `-` names the input, which is

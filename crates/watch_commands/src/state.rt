@@ -1,27 +1,27 @@
 //! The state between two pieces of a log.
 ghost use Rattle.std.specs.Prelude.{◌≡◌, ◌+◌, ◌*◌, ◌<◌, ◌≤◌, ◌++◌, [], ◌∷◌, length, take, replicate, slice_index};
-ghost use Rattle.std.specs.Prelude.{List, ℕ, IfOk, IfSome, ◌&&◌, if◌then◌else◌, vec_len, vec_capacity};
+ghost use Rattle.std.specs.Prelude.{List, ℕ, IfOk, IfSome, ◌&&◌, vec_len, vec_capacity};
 ghost use Rattle.std.specs.List.{position_or_len};
 ghost use Rattle.program_edge.specs.Told.{EndingTold};
 ghost use Rattle.text_lines.specs.Lines.{is_line_feed};
-ghost use Rattle.trace_audit.specs.Auditing.{is_accepted_tally};
 ghost use Rattle.watch_commands.specs.Watching.{Found, findings_of, found_text, FindsAll};
 ghost use Rattle.watch_commands.specs.WatchTotals.{totals_text, watch_status, total_line_at, is_heard_at, are_heard};
-ghost use Rattle.trace_audit.specs.Pieces.{PutsPiece};
+ghost use Rattle.line_stream.specs.Pieces.{PutsPiece};
 ghost use Rattle.watch_commands.specs.States.{Watched, FindsMore, JudgesLine, IsPlaced, counts_after};
 ghost use Rattle.watch_commands.specs.States.{raised_at, accepted_place, failed_place, totals_in, end_text, end_status};
 
 use crate::answers::add_answer;
 use crate::counts::{LineCounts, WatchCounts, add_counts, add_line_counts};
 use crate::stamps::Stamp;
+use crate::task::WatchTask;
 use bus_port::{PortFailed, Sink, write_all};
+use can_logs::{FrameTally, OtherLine, counters_of, push_finding};
+use line_stream::{PIECE, add_bytes, until_feed};
 use program_edge::tell;
 use std::alloc::{AllocError, Global};
 use std::marker::Model;
 use text_lines::span::Span;
 use text_lines::words::{Words, put_words};
-use trace_audit::{FrameTally, OtherLine, PIECE, add_bytes, counters_of, push_finding, until_feed};
-use watch_maps::WatchMap;
 
 /// The most bytes of a line that is looked at, its line feed not counted.
 const LINE_LIMIT: usize = 4096;
@@ -45,7 +45,7 @@ const TEXT_ROOM: usize = FINDING_ROOM * (PIECE + 1) + STAMP_ROOM * (LINE_LIMIT +
 /// before the unended one, and has the numbers of the log. All room is taken when it is made.
 #[derive(Drop)]
 pub struct Watch {
-    map: WatchMap,
+    map: WatchTask,
     counters: Vec<u64>,
     accepted: Vec<u64>,
     failed: Vec<u64>,
@@ -85,7 +85,7 @@ impl Model for Watch {
 
 impl Watch {
     /// Before the log, by the lines of a map.
-    pub fn new(alloc: Global, map: WatchMap) -> Result<Watch, AllocError>
+    pub fn new(alloc: Global, map: WatchTask) -> Result<Watch, AllocError>
         ensures mapping { IfOk result (λ watch. watch.mapping ≡ map) }
         ensures before { IfOk result (λ watch. Watched watch [] []) }
     {

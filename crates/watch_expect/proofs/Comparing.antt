@@ -12,13 +12,12 @@ use Rattle.program_edge.specs.declared.input.InputFault.TheVariants as input
 use Rattle.program_edge.specs.Input.{input_fault_status}
 use Rattle.program_edge.specs.Rows.{Row}
 use Rattle.bus_port.specs.Sink.{SinkState}
-use Rattle.trace_audit.specs.Rows.{AuditInputs}
-use Rattle.watch_maps.specs.WatchMaps.{NumberedMap}
+use Rattle.can_logs.specs.LogRuns.{LogInputs, Writing, WritesWhole, ReadsToEnd}
+use Rattle.watch_commands.specs.WatchedMaps.{WatchedMap}
 use Rattle.watch_commands.specs.States.{WatchState, Watched}
 use Rattle.watch_commands.specs.Watching.{Found, findings_of, FindsComplete, FindsAll, found_text, told_text}
 use Rattle.watch_commands.specs.WatchTotals.{totals_text}
 use Rattle.watch_commands.specs.Words.{AsksWatch, text_asked}
-use Rattle.watch_maps.specs.LogRuns.{Writing, WritesWhole, ReadsToEnd}
 use Rattle.watch_commands.specs.WatchRows.{OverMap, ComesOnErrors, no_form, no_map, map_fault, no_log, FailsOfLog, failed, too_long}
 use Rattle.watch_commands.specs.WatchSteps.{SoFar}
 use Rattle.watch_commands.proofs.CallerLemmas.{asks_no_text, complete_of, SoFar-more, at_end}
@@ -51,7 +50,7 @@ well_is : (all text : List ℕ) → AppendedWell (holds_bytes []) (holds_bytes a
 well_is all text well = same_Some all text (well.1.grown [] refl)
 
 -- what is printed of the whole log, and the text
-ended_as : (mapping : NumberedMap) (log : Reading) (text : List ℕ) (at : ℕ) (found : List ℕ) (end : Option ℕ)
+ended_as : (mapping : WatchedMap) (log : Reading) (text : List ℕ) (at : ℕ) (found : List ℕ) (end : Option ℕ)
     → ((t : List ℕ) → t ≡ take at text ++ found → PrintsAll mapping log t) → EndsAsKept text at found end → ComparesLog mapping log text (Ok end)
 ended_as mapping log text at found None prints is = prints text is
 ended_as mapping log text at found (Some n) prints (few, inl leaves) = (few, differs.at_end (take at text ++ found) (prints (take at text ++ found) refl) leaves)
@@ -81,7 +80,7 @@ module _ (first log later : SourceState) (text : List ℕ) (at : ℕ) (old new :
       → DiffersIn old.mapping reading text n
   piece_leaves n piece more same came calm watched leaves =
       goes_on (bytes ++ piece) (findings ++ more) (Came-more so_far.came came) (calm ∙ so_far.calm)
-      (subst (λ (m : NumberedMap). FindsComplete m.lines (bytes ++ piece) (findings ++ more)) same (complete_of new (bytes ++ piece) (findings ++ more) watched))
+      (subst (λ (m : WatchedMap). FindsComplete m.lines (bytes ++ piece) (findings ++ more)) same (complete_of new (bytes ++ piece) (findings ++ more) watched))
       (subst (λ (t : List ℕ). LeavesAt text t n)
       (ap (λ (t : List ℕ). t ++ found_text old.mapping more) printed ∙ sym (flat_map-append (told_text old.mapping.options) findings more)) leaves)
 
@@ -113,11 +112,11 @@ kept_status input.ReadFault = omega arith
 kept_status input.TooLong = omega arith
 kept_status input.Memory = omega arith
 
-log_status : (mapping : NumberedMap) (log : Reading) (output : Writing) (row : Row) → FailsOfLog mapping log output row → 1 < row.status
+log_status : (mapping : WatchedMap) (log : Reading) (output : Writing) (row : Row) → FailsOfLog mapping log output row → 1 < row.status
 log_status mapping log output _ (failed bytes findings came finds rose writes) = omega arith
 log_status mapping log output _ (too_long bytes findings came finds calm long writes) = omega arith
 
-error_status : (i : AuditInputs) (output : Writing) (row : Row) → ComesOnErrors i output row → 1 < row.status
+error_status : (i : LogInputs) (output : Writing) (row : Row) → ComesOnErrors i output row → 1 < row.status
 error_status i output _ (no_form other no_asked map log unwritten) = omega arith
 error_status i output _ (no_map fault asks lacks log unwritten) = fault_status fault
 error_status i output _ (map_fault fault asks is log unwritten) = omega arith

@@ -6,10 +6,10 @@ use Rattle.bus_port.specs.Sink.{SinkState}
 use Rattle.text_lines.specs.Lines.{is_line_feed}
 use Rattle.text_lines.specs.Texts.{line}
 use Rattle.program_edge.specs.Inputs.{Reading}
-use Rattle.watch_maps.specs.WatchMaps.{NumberedMap}
+use Rattle.watch_commands.specs.WatchedMaps.{WatchedMap}
 use Rattle.watch_commands.specs.Watching.{Found, findings_of, FindsComplete, FindsAll, found_text}
 use Rattle.watch_commands.specs.WatchTotals.{totals_text}
-use Rattle.watch_maps.specs.LogRuns.{Writing, ReadsToEnd, HasCome}
+use Rattle.can_logs.specs.LogRuns.{Writing, ReadsToEnd, HasCome}
 
 -- two texts go on in different ways
 abbrev pub Parts : Option ℕ → Option ℕ → Type 0
@@ -29,14 +29,14 @@ LeavesAt text other n =
     (take n other ≡ take n text) × (n < length other) × Parts (slice_get text n) (slice_get other n)
 
 -- exactly this is printed of a log: what is found of all its lines, and the totals
-abbrev pub PrintsAll : NumberedMap → Reading → List ℕ → Type 0
+abbrev pub PrintsAll : WatchedMap → Reading → List ℕ → Type 0
 PrintsAll mapping log text = (bytes : List ℕ) × (findings : List Found) × ReadsToEnd log bytes
     × FindsAll mapping.lines bytes findings
     × (text ≡ found_text mapping findings ++ totals_text mapping (findings_of findings))
 
 -- behind its first n bytes a kept text isn't what is printed of a log. Of what came of the log another byte is printed
 -- there, or all that is printed ends there; and the log didn't fail
-pub data DiffersIn (mapping : NumberedMap) (log : Reading) (text : List ℕ) (n : ℕ) : Type 0 where
+pub data DiffersIn (mapping : WatchedMap) (log : Reading) (text : List ℕ) (n : ℕ) : Type 0 where
   goes_on : (bytes : List ℕ) (findings : List Found) → HasCome log bytes → log.after.faults ≡ log.before.faults
       → FindsComplete mapping.lines bytes findings → LeavesAt text (found_text mapping findings) n
       → DiffersIn mapping log text n

@@ -6,8 +6,7 @@ use Rattle.program_edge.specs.declared.input.InputFault.TheVariants.{ReadFault, 
 use Rattle.program_edge.specs.Inputs.{Reading, IsUnread, ReadsWhole, Lacks}
 use Rattle.program_edge.specs.Rows.{Row, row_of}
 use Rattle.program_edge.specs.Endings.{EndsInRow}
-use Rattle.trace_audit.specs.Rows.{AuditInputs}
-use Rattle.watch_maps.specs.LogRuns.{Writing, WritesWhole, ending_of}
+use Rattle.can_logs.specs.LogRuns.{LogInputs, Writing, WritesWhole, ending_of}
 use Rattle.watch_commands.specs.WatchRows.{OverMap, ComesOnErrors}
 use Rattle.watch_expect.specs.Comparing.{difference_text, PrintsAll, DiffersIn, writes_bytes}
 
@@ -18,7 +17,7 @@ pub record ExpectInputs : Type 0 where
   pub map : Reading
   pub log : Reading
 
-abbrev pub watched_of : ExpectInputs → AuditInputs
+abbrev pub watched_of : ExpectInputs → LogInputs
 watched_of i = record { words = i.words; map = i.map; log = i.log }
 
 -- how a run ended: what was written to standard error, and its status

@@ -15,9 +15,9 @@ ghost use Rattle.watch_expect.specs.CompareSteps.{IsKeptRow, ports_at, ComparesL
 use crate::texts::{follow, follow_to_end, line_at};
 use bus_port::{PortFailed, Sink, Source};
 use itoa::Buffer;
+use line_stream::{PIECE, add_bytes};
 use program_edge::{DONE, InputFault, Refusal, read_input, tell, tell_refusal};
 use std::alloc::{AllocError, Global};
-use trace_audit::{PIECE, add_bytes};
 use watch_commands::{Watch, prepare};
 
 /// The status if the output isn't the kept text.

@@ -2,7 +2,7 @@
 ghost use Rattle.std.specs.Prelude.{◌≡◌, ℕ, List, None, Some, map as each, string_bytes, option_map};
 ghost use Rattle.program_edge.specs.NamedSources.{word_source, openings, behind, first_of_two, second_of_two};
 ghost use Rattle.program_edge.specs.NamedSources.{OverNamed, OverTwoNamed};
-ghost use Rattle.watch_maps.specs.OptionWords.{watch_inputs, kept_file};
+ghost use Rattle.watch_commands.specs.OptionWords.{watch_inputs, kept_file};
 ghost use Rattle.watch_commands.specs.Watches.{Watches};
 ghost use Rattle.watch_expect.specs.Expects.{Expects};
 
@@ -10,8 +10,7 @@ use crate::run::run_expected;
 use bus_port::{Sink, Source};
 use program_edge::{MissingSource, Opener, WordSource, open_two, open_word};
 use std::alloc::Global;
-use watch_commands::watch_words;
-use watch_maps::{inputs_of, kept_file};
+use watch_commands::{inputs_of, kept_file, watch_words};
 
 /// Watches what two arguments name, the map first, or compares what is found with the file that `--expect` names. It
 /// gives the status that the program ends with, and the sources of the kept text, the map and the log as the run left

@@ -2,7 +2,7 @@ use Rattle.std.proofs.Common.{ℕ, List, [], sym, subst}
 use Rattle.std.specs.Prelude.{Option}
 use Rattle.bus_port.specs.Sink.{SinkState}
 use Rattle.program_edge.specs.Inputs.{Reading}
-use Rattle.watch_maps.specs.LogRuns.{WatchEnding}
+use Rattle.can_logs.specs.LogRuns.{WatchEnding}
 use Rattle.endpoint_commands.specs.declared.rules.FrameRule.{FrameRule}
 use Rattle.endpoint_commands.specs.Logs.{EndsLines}
 use Rattle.endpoint_commands.specs.Promises.{AnswersAll}

@@ -3,7 +3,7 @@ use Rattle.bus_machine.specs.declared.events.Event.TheVariants as event
 use Rattle.endpoint_commands.specs.Alone.{TurnsAlone}
 use Rattle.bus_port.specs.Sink.{SinkState}
 use Rattle.program_edge.specs.Inputs.{Reading}
-use Rattle.watch_maps.specs.LogRuns.{WatchEnding}
+use Rattle.can_logs.specs.LogRuns.{WatchEnding}
 use Rattle.bus_script.specs.LineTexts.{told_words}
 use Rattle.endpoint_commands.specs.declared.rules.FrameRule.{FrameRule}
 use Rattle.endpoint_commands.specs.Lines.{comment_text}

@@ -1,7 +1,7 @@
 use Rattle.std.proofs.Common.{◌≡◌, ℕ, List, [], ◌∷◌, ◌++◌, length, drop, map, ap, ◌∙◌, subst, refl}
 use Rattle.std.specs.Prelude.{Option}
 use Rattle.program_edge.specs.Inputs.{Reading}
-use Rattle.watch_maps.specs.LogRuns.{WatchEnding}
+use Rattle.can_logs.specs.LogRuns.{WatchEnding}
 use Rattle.bus_config.specs.Buses.{NamedBus}
 use Rattle.cut_disk.specs.State.{DiskState}
 use Rattle.secoc_node.specs.State.{NodeState}

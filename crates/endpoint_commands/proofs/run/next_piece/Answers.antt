@@ -4,7 +4,7 @@ use Rattle.bus_port.specs.Source.{SourceState, HandsOut}
 use Rattle.bus_port.specs.Sink.{SinkState}
 use Rattle.program_edge.specs.Told.{EndingTold}
 use Rattle.program_edge.specs.Rows.{Row}
-use Rattle.watch_maps.specs.LogRuns.{Writing}
+use Rattle.can_logs.specs.LogRuns.{Writing}
 use Rattle.endpoint_commands.proofs.Ports.{AnswersSoFar-more, Ends-stopped, Ends-finished, Ends-failed}
 use Rattle.endpoint_commands.proofs.run.next_piece.Goals as goal
 

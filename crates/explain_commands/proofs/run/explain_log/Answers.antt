@@ -1,43 +1,27 @@
-use Rattle.std.proofs.Common.{[], ◌++◌, ◌∙◌, subst, sym, refl, arith}
-use Rattle.std.proofs.lemmas.List.{length-append}
-use Rattle.bus_port.specs.Source.{SourceState}
-use Rattle.bus_port.specs.Sink.{SinkState}
-use Rattle.watch_maps.specs.WatchMaps.{NumberedMap}
-use Rattle.explain_commands.specs.ExplainRows.{FailsOfExplained, EndsExplained}
-use Rattle.explain_commands.proofs.ExplainPorts.{ExplainSoFar-none, Ends-too_long}
+use Rattle.std.proofs.Common.{rules, subst, sym}
+use Rattle.std.specs.Prelude.{Ok}
+use Rattle.program_edge.specs.Inputs.{Reading}
+use Rattle.explain_commands.specs.ExplainRows.{EndsExplained, FailsOfExplained}
+use Rattle.explain_commands.proofs.ExplainPorts.{Ends-taken, Ends-failed, Ends-too_long}
 use Rattle.explain_commands.proofs.run.explain_log.Goals as goal
 
-pub loop-init : goal.loop-init
-loop-init g c = record {
-  mapping = refl;
-  so_far = ([], [], ExplainSoFar-none (g.T.Source.state c.args.log.now) (g.K.Sink.state c.args.sink.now) c.args.explainer.now c.requires, omega arith);
-}
+pub returns-in-Ok : goal.returns-in-Ok
+returns-in-Ok g c =
+    let log : Reading = record { before = g.T.Source.state c.args.log.now; after = g.T.Source.state c.stream_lines.new.log } in
+    let start = g.K.Sink.state c.args.sink.now in
+    subst (λ k. EndsExplained c.args.explainer.now.mapping log (record { before = start; after = k }) (Ok c.in-Ok.status)) (search rules)
+    (Ends-taken c.args.explainer.now start c.requires log _ c.in-Ok.status c.in-Ok.ensures.streamed)
 
-pub loop-preserved : goal.loop-preserved
-loop-preserved g c =
-    let (bytes, answers, so_far, enough) = c.loop.invariant.so_far in
-    let (piece, more, some, next) = c.in-None.ensures.turns (g.T.Source.state c.args.log.now) (g.K.Sink.state c.args.sink.now) bytes answers so_far in
-    record {
-      mapping = c.next_piece.ensures.mapping ∙ c.loop.invariant.mapping;
-      so_far = (bytes ++ piece, answers ++ more, next, omega (arith, enough, some, length-append bytes piece));
-    }
+pub returns-in-Err-ReadFault : goal.returns-in-Err-ReadFault
+returns-in-Err-ReadFault g c =
+    let log : Reading = record { before = g.T.Source.state c.args.log.now; after = g.T.Source.state c.stream_lines.new.log } in
+    let start = g.K.Sink.state c.args.sink.now in
+    subst (λ k. FailsOfExplained c.args.explainer.now.mapping log (record { before = start; after = k }) c.fixed.result) (search rules)
+    (subst (FailsOfExplained c.args.explainer.now.mapping log _) (sym c.fixed.ensures) (Ends-failed c.args.explainer.now start c.requires log _ c.in-Err-ReadFault.field-0 c.in-Err-ReadFault.field-0-is c.in-Err-ReadFault.ensures.streamed))
 
-pub returns-in-Some : goal.returns-in-Some
-returns-in-Some g c =
-    let first : SourceState = g.T.Source.state c.args.log.now in
-    let start : SinkState = g.K.Sink.state c.args.sink.now in
-    let (bytes, answers, so_far, enough) = c.loop.invariant.so_far in
-    subst (λ (m : NumberedMap). EndsExplained m (record { before = first; after = g.T.Source.state c.next_piece.new.log })
-    (record { before = start; after = g.K.Sink.state c.next_piece.new.sink }) c.in-Some.end) (c.next_piece.ensures.mapping ∙ c.loop.invariant.mapping)
-    (c.in-Some.ensures.turns first start bytes answers so_far)
-
-pub returns : goal.returns
-returns g c =
-    let first : SourceState = g.T.Source.state c.args.log.now in
-    let start : SinkState = g.K.Sink.state c.args.sink.now in
-    let log : SourceState = g.T.Source.state c.loop.log in
-    let sink : SinkState = g.K.Sink.state c.loop.sink in
-    let (bytes, answers, so_far, enough) = c.loop.invariant.so_far in
-    subst (λ (m : NumberedMap). FailsOfExplained m (record { before = first; after = log }) (record { before = start; after = sink }) c.fixed.result) c.loop.invariant.mapping
-    (subst (FailsOfExplained c.loop.explainer.mapping (record { before = first; after = log }) (record { before = start; after = sink })) (sym c.fixed.ensures)
-    (Ends-too_long first log start sink c.loop.explainer bytes answers so_far (omega (arith, enough, c.loop-test.false))))
+pub returns-in-Err-TooLong : goal.returns-in-Err-TooLong
+returns-in-Err-TooLong g c =
+    let log : Reading = record { before = g.T.Source.state c.args.log.now; after = g.T.Source.state c.stream_lines.new.log } in
+    let start = g.K.Sink.state c.args.sink.now in
+    subst (λ k. FailsOfExplained c.args.explainer.now.mapping log (record { before = start; after = k }) c.fixed-in-Err-TooLong.result) (search rules)
+    (subst (FailsOfExplained c.args.explainer.now.mapping log _) (sym c.fixed-in-Err-TooLong.ensures) (Ends-too_long c.args.explainer.now start c.requires log _ c.in-Err-TooLong.field-0 c.in-Err-TooLong.field-0-is c.in-Err-TooLong.ensures.streamed))

@@ -3,10 +3,7 @@ use Rattle.std.proofs.lemmas.Result.{err_from_is_err_and}
 use Rattle.std.specs.Prelude.{string_bytes}
 use Rattle.program_edge.specs.declared.input.InputFault.TheVariants as input
 use Rattle.program_edge.proofs.CallerLemmas.{Lacks-whole}
-use Rattle.trace_audit.specs.Rows.{NamesInputs}
-use Rattle.watch_maps.specs.declared.options.WatchOptions.{WatchOptions}
-use Rattle.watch_maps.specs.OptionWords.{no_options}
-use Rattle.watch_maps.specs.WatchMaps.{IsMapOf}
+use Rattle.can_logs.specs.LogRuns.{NamesInputs}
 use Rattle.explain_commands.specs.ExplainRows.{ExplainOnErrors, no_form, no_map}
 use Rattle.explain_commands.proofs.ExplainPhases.{Comes-no_map}
 use Rattle.explain_commands.proofs.run.prepare.Goals as goal
@@ -26,8 +23,7 @@ pub returns-in-Ok : goal.returns-in-Ok
 returns-in-Ok g c = λ log sink no_text.
     let asks : NamesInputs (map string_bytes c.args.words.now) = c.names_inputs.ensures.0 c.if-not-names_inputs.false in
     let (text, whole, is) = c.in_ok-map.ensures in
-    let plain : IsMapOf no_options text c.in_ok-map.map = subst (λ (o : WatchOptions). IsMapOf o text c.in_ok-map.map) c.none.ensures is in
-    ((asks, (c.in_ok-map.map, (text, whole, plain), c.in-Ok.ensures.mapping)), c.in-Ok.ensures.before)
+    ((asks, (c.in_ok-map.map, (text, whole, is), c.in-Ok.ensures.mapping)), c.in-Ok.ensures.before)
 
 pub returns-in-Err : goal.returns-in-Err
 returns-in-Err g c = λ log sink no_text.

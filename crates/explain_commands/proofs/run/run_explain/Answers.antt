@@ -1,14 +1,13 @@
 use Rattle.std.proofs.Common.{inr, map}
 use Rattle.std.specs.Prelude.{string_bytes}
-use Rattle.trace_audit.specs.Rows.{AuditInputs}
-use Rattle.watch_maps.specs.LogRuns.{Writing, WatchEnding}
+use Rattle.can_logs.specs.LogRuns.{LogInputs, Writing, WatchEnding}
 use Rattle.explain_commands.proofs.ExplainPhases.{Ends-untold}
 use Rattle.explain_commands.proofs.ExplainPromises.{Explains-ends}
 use Rattle.explain_commands.proofs.run.run_explain.Goals as goal
 
 pub returns-in-Ok : goal.returns-in-Ok
 returns-in-Ok g c =
-    let i : AuditInputs = record {
+    let i : LogInputs = record {
       words = map string_bytes c.args.words.now;
       map = record { before = g.S.Source.state c.args.map.now; after = g.S.Source.state c.run_untold.new.map };
       log = record { before = g.T.Source.state c.args.log.now; after = g.T.Source.state c.run_untold.new.log };
@@ -18,7 +17,7 @@ returns-in-Ok g c =
 
 pub returns-in-Err : goal.returns-in-Err
 returns-in-Err g c =
-    let i : AuditInputs = record {
+    let i : LogInputs = record {
       words = map string_bytes c.args.words.now;
       map = record { before = g.S.Source.state c.args.map.now; after = g.S.Source.state c.run_untold.new.map };
       log = record { before = g.T.Source.state c.args.log.now; after = g.T.Source.state c.run_untold.new.log };

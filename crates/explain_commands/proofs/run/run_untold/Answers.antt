@@ -2,9 +2,8 @@ use Rattle.std.proofs.Common.{◌≡◌, ℕ, List, true, false, inl, sym, refl,
 use Rattle.std.specs.Prelude.{string_bytes, codes, None, Some}
 use Rattle.program_edge.specs.Rows.{row_of}
 use Rattle.program_edge.specs.Told.{EndingTold}
-use Rattle.trace_audit.specs.Rows.{AuditInputs}
+use Rattle.can_logs.specs.LogRuns.{LogInputs, is_only_word}
 use Rattle.explain_commands.specs.declared.run.TheConstants.{HELP, VERSION}
-use Rattle.watch_maps.specs.OptionWords.{is_only_word}
 use Rattle.explain_commands.specs.ExplainRows.{explain_text_asked, asked}
 use Rattle.explain_commands.proofs.ExplainPhases.{Ends-log}
 use Rattle.explain_commands.proofs.run.run_untold.Goals as goal
@@ -46,7 +45,7 @@ returns-in-Ok g c =
     let words : List (List ℕ) = map string_bytes c.args.words.now in
     let made = c.in-Ok.ensures (g.T.Source.state c.args.log.now) (g.K.Sink.state c.args.sink.now)
     (none_asked words (sym c.is_only.ensures ∙ c.if-is_only.false) (sym c.is_only-2.ensures ∙ c.if-is_only-2.false)) in
-    let i : AuditInputs = record {
+    let i : LogInputs = record {
       words = words;
       map = record { before = g.S.Source.state c.args.map.now; after = g.S.Source.state c.prepare.new.map };
       log = record { before = g.T.Source.state c.args.log.now; after = g.T.Source.state c.explain_log.new.log };

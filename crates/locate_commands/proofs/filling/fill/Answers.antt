@@ -4,8 +4,8 @@ use Rattle.std.specs.List.{position_or_len}
 use Rattle.std.proofs.lemmas.List.{length-drop}
 use Rattle.text_lines.specs.Lines.{is_line_feed}
 use Rattle.text_lines.specs.Texts.{line}
-use Rattle.trace_audit.specs.Pieces.{log_lines}
-use Rattle.trace_audit.proofs.CallerLemmas.{HasNoFeed, no_feed-front}
+use Rattle.line_stream.specs.Pieces.{log_lines}
+use Rattle.line_stream.proofs.CallerLemmas.{HasNoFeed, no_feed-front}
 use Rattle.locate_commands.specs.Locating.{fresh_by, filled_line, filled_from, is_settled, are_settled}
 use Rattle.locate_commands.proofs.LinesAhead.{filled_ahead, settled_ahead, filled_end, settled_end, drop_on, and_once, and_all}
 use Rattle.locate_commands.proofs.filling.fill.Goals as goal

@@ -1,6 +1,6 @@
 -- the lines so far are filled in, and those that are left are to be
 use Rattle.std.proofs.Common.{◌≡◌, ◌≤◌, ◌+◌, ◌-◌, ◌++◌, ◌&&◌, length, drop}
-use Rattle.trace_audit.specs.Pieces.{log_lines}
+use Rattle.line_stream.specs.Pieces.{log_lines}
 use Rattle.locate_commands.specs.Locating.{fresh_by, filled, filled_from, are_settled}
 use Rattle.locate_commands.proofs.filling.fill.Given as goal
 

@@ -1,6 +1,6 @@
 use Rattle.std.proofs.Common.{◌≡◌, ℕ, List, ◌==◌, sym, ap, ◌∙◌, subst}
 use Rattle.std.specs.Prelude.{position, slice_get, option_and_then, Option, Some, IfOk}
-use Rattle.trace_audit.specs.declared.map_lines.MapLine.{MapLine}
+use Rattle.can_logs.specs.declared.map_lines.MapLine.{MapLine}
 use Rattle.locate_commands.specs.Locating.{FoundIn, fresh_at, fresh_of_place}
 use Rattle.locate_commands.proofs.filling.find_fresh.Goals as goal
 

@@ -2,7 +2,7 @@ use Rattle.std.proofs.Common.{◌≡◌, ℕ, List, Bool, refl, ap, ◌∙◌, s
 use Rattle.std.specs.Prelude.{Some, if◌then◌else◌}
 use Rattle.bus_port.specs.Sink.{SinkState}
 use Rattle.program_edge.specs.Told.{EndingTold}
-use Rattle.trace_audit.specs.Pieces.{log_lines}
+use Rattle.line_stream.specs.Pieces.{log_lines}
 use Rattle.locate_commands.specs.declared.run.Locating.{Locating}
 use Rattle.locate_commands.specs.Locating.{FoundIn, fresh_of, fresh_by, filled, are_settled, located_text, locate_status}
 use Rattle.locate_commands.specs.LocateRows.{located_row}

@@ -1,9 +1,8 @@
 use Rattle.std.proofs.Common.{ℕ, List, map, refl, sym, ◌∙◌, subst}
 use Rattle.std.proofs.lemmas.Result.{err_from_is_err_and}
 use Rattle.std.specs.Prelude.{string_bytes}
-use Rattle.watch_maps.specs.OptionWords.{no_options}
-use Rattle.watch_maps.specs.MapFaults.{NoMapLines}
-use Rattle.watch_maps.specs.WatchMaps.{watch_map_of, IsMapOf}
+use Rattle.can_logs.specs.MapFaults.{NoMapLines}
+use Rattle.can_logs.specs.WatchMaps.{watch_map_of, IsMapOf}
 use Rattle.locate_commands.specs.Locating.{zeroed}
 use Rattle.locate_commands.specs.LocateRows.{AsksLocate, LocateOnErrors, no_form, no_map, no_log}
 use Rattle.locate_commands.proofs.LocatePhases.{Comes-no_lines}
@@ -28,7 +27,7 @@ returns-in_err-map g c =
 pub returns-in-Err-read_input : goal.returns-in-Err-read_input
 returns-in-Err-read_input g c =
     let asks : AsksLocate (map string_bytes c.args.words.now) = (c.in-Some.asked, sym c.asked.ensures ∙ c.in-Some.is) in
-    let is : IsMapOf no_options (zeroed c.in-Ok.text.items) c.in_ok-map.map =
-    subst (λ (t : List ℕ). IsMapOf no_options (zeroed t) c.in_ok-map.map) c.as_slice.ensures.value c.in_ok-map.ensures.ok in
+    let is : IsMapOf (zeroed c.in-Ok.text.items) c.in_ok-map.map =
+    subst (λ (t : List ℕ). IsMapOf (zeroed t) c.in_ok-map.map) c.as_slice.ensures.value c.in_ok-map.ensures.ok in
     subst (LocateOnErrors _) (sym c.log_input_refusal.ensures)
     (no_log c.in-Err-read_input.fault c.in-Ok.text.items c.in_ok-map.map asks (c.in-Ok.ensures.ok, is) c.in-Err-read_input.ensures.refused)

@@ -1,7 +1,6 @@
 use Rattle.std.proofs.Common.{inr, refl, map}
 use Rattle.std.specs.Prelude.{string_bytes}
-use Rattle.trace_audit.specs.Rows.{AuditInputs}
-use Rattle.watch_maps.specs.LogRuns.{WatchEnding}
+use Rattle.can_logs.specs.LogRuns.{LogInputs, WatchEnding}
 use Rattle.locate_commands.proofs.LocatePhases.{Ends-does}
 use Rattle.locate_commands.proofs.LocatePromises.{Locates-ends}
 use Rattle.locate_commands.proofs.run.run_locate.Goals as goal
@@ -11,7 +10,7 @@ returns-in-Ok g c = Locates-ends _ _ (Ends-does _ c.in-Ok.locating _ c.in-Ok.ens
 
 pub returns-in-Err : goal.returns-in-Err
 returns-in-Err g c =
-    let i : AuditInputs = record {
+    let i : LogInputs = record {
       words = map string_bytes c.args.words.now;
       map = record { before = g.S.Source.state c.args.map.now; after = g.S.Source.state c.prepare.new.map };
       log = record { before = g.T.Source.state c.args.log.now; after = g.T.Source.state c.prepare.new.log };

@@ -4,10 +4,12 @@ use Rattle.text_lines.specs.declared.span.Cut.{Cut}
 use Rattle.text_lines.specs.Lines.{TextLine, lines_of}
 use Rattle.text_lines.specs.Places.{placed_lines_of}
 use Rattle.text_lines.specs.Spans.{word_at, line_at}
-use Rattle.trace_audit.specs.declared.map_lines.MapLine.{MapLine}
-use Rattle.trace_audit.specs.Auditing.{finding_text, others_text, AuditsEach}
-use Rattle.trace_audit.specs.Findings.{AddsFinding}
-use Rattle.trace_audit.proofs.Audited.{Audited-none, Audited-mapped, Audited-other, Audited-same, put_back, line_of, line_more, all_lines}
+use Rattle.can_logs.specs.declared.map_lines.MapLine.{MapLine}
+use Rattle.can_logs.specs.Findings.{finding_text}
+use Rattle.trace_audit.specs.Auditing.{others_text, AuditsEach}
+use Rattle.can_logs.specs.FindingSteps.{AddsFinding}
+use Rattle.trace_audit.proofs.Audited.{Audited-none, Audited-mapped, Audited-other, Audited-same}
+use Rattle.can_logs.proofs.CallerLemmas.{put_back, line_of, line_more, all_lines}
 use Rattle.trace_audit.proofs.auditing.audit_text.Goals as goal
 use Rattle.trace_audit.proofs.auditing.audit_text.Goals.{then-is_other, else-is_other}
 

@@ -1,7 +1,7 @@
 -- the lines so far were audited
 use Rattle.std.proofs.Common.{◌≤◌, take, map}
-use Rattle.trace_audit.specs.Findings.{Audited}
-use Rattle.trace_audit.proofs.Audited.{line_of}
+use Rattle.trace_audit.specs.AuditedLines.{Audited}
+use Rattle.can_logs.proofs.CallerLemmas.{line_of}
 use Rattle.trace_audit.proofs.auditing.audit_text.Given as goal
 
 abbrev pub invariant-loop-line : goal.invariant-loop-line

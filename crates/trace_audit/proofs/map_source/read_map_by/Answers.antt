@@ -1,6 +1,6 @@
 use Rattle.std.proofs.lemmas.Result.{err_from_is_err_and}
 use Rattle.text_lines.specs.Readings.{read_all}
-use Rattle.trace_audit.specs.MapLines.{most_map_lines}
+use Rattle.can_logs.specs.MapLines.{most_map_lines}
 use Rattle.trace_audit.specs.Steps.{no_map}
 use Rattle.trace_audit.proofs.Phases.{ReadsMapSource-read}
 use Rattle.trace_audit.proofs.map_source.read_map_by.Goals as goal

@@ -1,7 +1,8 @@
 use Rattle.std.proofs.Common.{subst, sym, refl, inr, map, rules}
 use Rattle.std.proofs.lemmas.Result.{err_from_is_err_and}
 use Rattle.std.specs.Prelude.{string_bytes}
-use Rattle.trace_audit.specs.Rows.{NamesInputs, ComesInAudit, no_form, no_input}
+use Rattle.can_logs.specs.LogRuns.{NamesInputs}
+use Rattle.trace_audit.specs.Rows.{ComesInAudit, no_form, no_input}
 use Rattle.trace_audit.proofs.Phases.{Comes-no_map}
 use Rattle.trace_audit.proofs.run.prepare.Goals as goal
 

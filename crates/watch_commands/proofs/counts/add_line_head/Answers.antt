@@ -4,7 +4,7 @@ use Rattle.std.specs.Int.{w16}
 use Rattle.basics.specs.Numbers.{bytes_of}
 use Rattle.basics.proofs.CallerLemmas.{to_be_bytes-is}
 use Rattle.hex.specs.Hex.{encode_lower}
-use Rattle.trace_audit.specs.MapLines.{row_head}
+use Rattle.can_logs.specs.MapLines.{row_head}
 use Rattle.watch_commands.specs.WatchTotals.{named, before_value}
 use Rattle.watch_commands.proofs.Parts.{five_parts}
 use Rattle.watch_commands.proofs.counts.add_line_head.Goals as goal

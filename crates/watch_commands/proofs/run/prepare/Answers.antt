@@ -3,9 +3,9 @@ use Rattle.std.proofs.lemmas.Result.{err_from_is_err_and}
 use Rattle.std.specs.Prelude.{string_bytes}
 use Rattle.program_edge.specs.declared.input.InputFault.TheVariants as input
 use Rattle.program_edge.proofs.CallerLemmas.{Lacks-whole}
-use Rattle.trace_audit.specs.Rows.{NamesInputs}
-use Rattle.watch_maps.specs.WatchMaps.{IsMapOf}
-use Rattle.watch_maps.specs.declared.options.WatchOptions.{WatchOptions}
+use Rattle.can_logs.specs.LogRuns.{NamesInputs}
+use Rattle.watch_commands.specs.WatchedMaps.{IsWatchedMap}
+use Rattle.watch_commands.specs.OptionWords.{watch_options}
 use Rattle.watch_commands.specs.Words.{AsksWatch}
 use Rattle.watch_commands.specs.WatchRows.{ComesOnErrors, no_form, no_map}
 use Rattle.watch_commands.proofs.WatchPhases.{Comes-no_map}
@@ -24,9 +24,12 @@ returns-in_err-map g c = λ log sink no_text.
 
 pub returns-in-Ok : goal.returns-in-Ok
 returns-in-Ok g c = λ log sink no_text.
-    let asks : AsksWatch (map string_bytes c.args.words.now) = subst NamesInputs c.inputs_of.ensures (c.names_inputs.ensures.0 c.if-not-names_inputs.false) in
-    let (text, whole, is) = c.in_ok-map.ensures in
-    ((asks, (c.in_ok-map.map, (text, whole, subst (λ (o : WatchOptions). IsMapOf o text c.in_ok-map.map) c.of.ensures is), c.in-Ok.ensures.mapping)), c.in-Ok.ensures.before)
+    let words : List (List ℕ) = map string_bytes c.args.words.now in
+    let asks : AsksWatch words = subst NamesInputs c.inputs_of.ensures (c.names_inputs.ensures.0 c.if-not-names_inputs.false) in
+    let (text, whole, lines_are, numbers_are) = c.in_ok-map.ensures in
+    let is : IsWatchedMap (watch_options words) text c.of-task.result =
+    subst (IsWatchedMap (watch_options words) text) (sym c.of-task.ensures) (lines_are, numbers_are, c.of.ensures) in
+    ((asks, (c.of-task.result, (text, whole, is), c.in-Ok.ensures.mapping)), c.in-Ok.ensures.before)
 
 pub returns-in-Err : goal.returns-in-Err
 returns-in-Err g c = λ log sink no_text.

@@ -1,7 +1,7 @@
 use Rattle.std.proofs.Common.{[], ◌++◌, ℕ, List, take, ◌∙◌, subst, sym, refl, arith}
 use Rattle.std.proofs.lemmas.List.{length-append}
 use Rattle.bus_port.specs.Source.{SourceState}
-use Rattle.watch_maps.specs.WatchMaps.{NumberedMap}
+use Rattle.watch_commands.specs.WatchedMaps.{WatchedMap}
 use Rattle.watch_commands.specs.WatchRows.{FailsOfLog}
 use Rattle.watch_commands.proofs.CallerLemmas.{SoFar-none, Ends-too_long}
 use Rattle.watch_expect.specs.Comparing.{holds_bytes, writes_bytes}
@@ -32,7 +32,7 @@ pub returns-in-Some : goal.returns-in-Some
 returns-in-Some g c =
     let first : SourceState = g.T.Source.state c.args.log.now in
     let (bytes, findings, so_far, enough) = c.loop.invariant.so_far in
-    subst (λ (m : NumberedMap). ComparesLog m (record { before = first; after = g.T.Source.state c.compare_piece.new.log }) c.args.text.now c.in-Some.end)
+    subst (λ (m : WatchedMap). ComparesLog m (record { before = first; after = g.T.Source.state c.compare_piece.new.log }) c.args.text.now c.in-Some.end)
     c.loop.invariant.mapping (c.in-Some.ensures.turns first bytes findings so_far)
 
 pub returns : goal.returns
@@ -42,7 +42,7 @@ returns g c =
     let printed : List ℕ = take c.loop.at c.args.text.now in
     let (bytes, findings, so_far, enough) = c.loop.invariant.so_far in (
       c.loop.at,
-      subst (λ (m : NumberedMap). FailsOfLog m (record { before = first; after = log }) (writes_bytes printed) c.fixed.result) c.loop.invariant.mapping
+      subst (λ (m : WatchedMap). FailsOfLog m (record { before = first; after = log }) (writes_bytes printed) c.fixed.result) c.loop.invariant.mapping
           (subst (FailsOfLog c.loop.watch.mapping (record { before = first; after = log }) (writes_bytes printed)) (sym c.fixed.ensures)
           (Ends-too_long first log (holds_bytes []) (holds_bytes printed) c.loop.watch bytes findings so_far (omega (arith, enough, c.loop-test.false)))),
     )

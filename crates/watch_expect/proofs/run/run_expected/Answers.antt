@@ -3,7 +3,7 @@ use Rattle.std.specs.Prelude.{string_bytes, Option, None, Some, Ok}
 use Rattle.bus_port.specs.Source.{SourceState}
 use Rattle.program_edge.specs.Rows.{Row, row_of}
 use Rattle.program_edge.proofs.CallerLemmas.{AppendedWell-nothing}
-use Rattle.watch_maps.specs.WatchMaps.{NumberedMap}
+use Rattle.watch_commands.specs.WatchedMaps.{WatchedMap}
 use Rattle.watch_commands.specs.WatchRows.{FailsOfLog, no_log}
 use Rattle.watch_expect.specs.Comparing.{PrintsAll, DiffersIn, holds_bytes, writes_bytes}
 use Rattle.watch_expect.specs.CompareSteps.{ComparesLog}
@@ -77,7 +77,7 @@ returns-in-Ok-None g c =
       (
         mapping,
         reads,
-        subst (λ (m : NumberedMap). PrintsAll m i.log text) is (subst (PrintsAll c.in-Ok-prepare.watch.mapping i.log) c.as_slice.ensures.value prints),
+        subst (λ (m : WatchedMap). PrintsAll m i.log text) is (subst (PrintsAll c.in-Ok-prepare.watch.mapping i.log) c.as_slice.ensures.value prints),
       ),
     ))
     (inl (refl, AppendedWell-nothing (g.E.Sink.state c.args.errors.now) (g.E.Sink.state c.args.errors.now) refl))
@@ -109,7 +109,7 @@ returns-in-Ok-Some g c =
       (
         mapping,
         reads,
-        subst (λ (m : NumberedMap). DiffersIn m i.log text n) is
+        subst (λ (m : WatchedMap). DiffersIn m i.log text n) is
             (subst (λ (t : List ℕ). DiffersIn c.in-Ok-prepare.watch.mapping i.log t n) c.as_slice.ensures.value differs),
       ),
     ))
@@ -135,6 +135,6 @@ returns g c =
     let ((asks, (mapping, reads, is)), watched) = c.in-Ok-prepare.ensures log_before (holds_bytes []) (no_text words c.requires) in
     let (n, fails) = c.in-Err-compare_log.ensures in
     let fails_over : FailsOfLog mapping i.log (writes_bytes (take n text)) found =
-    subst (λ (m : NumberedMap). FailsOfLog m i.log (writes_bytes (take n text)) found) is
+    subst (λ (m : WatchedMap). FailsOfLog m i.log (writes_bytes (take n text)) found) is
     (subst (λ (t : List ℕ). FailsOfLog c.in-Ok-prepare.watch.mapping i.log (writes_bytes (take n t)) found) c.as_slice.ensures.value fails) in
     expects i e found (row.fault text n found c.in-Ok.ensures.ok.1 (no_log found (asks, (mapping, reads, fails_over)))) c.tell_refusal-in-Err-compare_log.ensures

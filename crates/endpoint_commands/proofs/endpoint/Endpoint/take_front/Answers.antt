@@ -2,7 +2,7 @@ use Rattle.std.proofs.Common.{◌≡◌, ℕ, ◌+◌, ◌++◌, List, [], ◌�
 use Rattle.std.specs.Prelude.{Ok, Err}
 use Rattle.std.proofs.lemmas.List.{take-append-drop}
 use Rattle.bus_port.specs.Sink.{SinkState}
-use Rattle.trace_audit.proofs.CallerLemmas.{HasNoFeed, no_feed-front, through_feed}
+use Rattle.line_stream.proofs.CallerLemmas.{HasNoFeed, no_feed-front, through_feed}
 use Rattle.endpoint_commands.specs.States.{EndpointState, EndsLine, TakesPiece}
 use Rattle.endpoint_commands.proofs.Going.{TakesPiece-keeps, TakesPiece-ends, TakesPiece-stopped}
 use Rattle.endpoint_commands.proofs.endpoint.Endpoint.take_front.Goals as goal

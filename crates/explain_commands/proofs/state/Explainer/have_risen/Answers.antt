@@ -1,6 +1,6 @@
 use Rattle.std.proofs.Common.{ℕ, ◌&&◌, Bool, sym, ap, ◌∙◌}
 use Rattle.explain_commands.specs.Explaining.{has_risen_at}
-use Rattle.watch_maps.proofs.CallerLemmas.{tests_more}
+use Rattle.can_logs.proofs.CallerLemmas.{tests_more}
 use Rattle.explain_commands.proofs.state.Explainer.have_risen.Goals as goal
 use Rattle.explain_commands.proofs.state.Explainer.have_risen.Goals.{then-each, else-each}
 

@@ -3,8 +3,8 @@ use Rattle.std.specs.Prelude.{filter_map, Option}
 use Rattle.std.specs.List.{position_or_len}
 use Rattle.std.proofs.lemmas.List.{length-drop, take-append-le}
 use Rattle.text_lines.specs.Lines.{is_line_feed}
-use Rattle.trace_audit.specs.Pieces.{log_lines}
-use Rattle.trace_audit.proofs.CallerLemmas.{HasNoFeed, no_feed-front}
+use Rattle.line_stream.specs.Pieces.{log_lines}
+use Rattle.line_stream.proofs.CallerLemmas.{HasNoFeed, no_feed-front}
 use Rattle.locate_commands.specs.Locating.{heard_in, as_list}
 use Rattle.locate_commands.proofs.LinesAhead.{heard_ahead, heard_end, empty_heard, one_heard, few_heard, drop_on}
 use Rattle.locate_commands.proofs.frames.FirstFrames.of.Goals as goal

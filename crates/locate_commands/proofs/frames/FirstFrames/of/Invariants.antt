@@ -1,7 +1,7 @@
 -- the frames so far, and those that are heard in the lines that are left, are all
 use Rattle.std.proofs.Common.{◌≡◌, ◌≤◌, ◌-◌, ◌++◌, length, drop}
 use Rattle.std.specs.Prelude.{filter_map}
-use Rattle.trace_audit.specs.Pieces.{log_lines}
+use Rattle.line_stream.specs.Pieces.{log_lines}
 use Rattle.locate_commands.specs.Locating.{heard_in}
 use Rattle.locate_commands.proofs.frames.FirstFrames.of.Given as goal
 

@@ -1,5 +1,5 @@
 use Rattle.std.proofs.Common.{◌≡◌, List, [], ◌∷◌, ◌++◌, sym, ap, ◌∙◌, subst}
-use Rattle.watch_maps.specs.WatchMaps.{NumberedMap}
+use Rattle.watch_commands.specs.WatchedMaps.{WatchedMap}
 use Rattle.watch_commands.specs.States.{WatchState, Watched, end_text}
 use Rattle.watch_commands.specs.Watching.{Found, findings_of, found_text}
 use Rattle.watch_commands.specs.WatchTotals.{totals_text, watch_status}
@@ -14,7 +14,7 @@ returns-clause-ends c = λ bytes findings w.
     let ended : WatchState = c.end_line.new.self in
     let last : WatchState = c.push_totals.new.self in
     let all : List Found = findings ++ more in
-    let mapping : NumberedMap = c.args.self.now.mapping in
+    let mapping : WatchedMap = c.args.self.now.mapping in
     let same : ended.mapping ≡ mapping = c.end_line.ensures.mapping ∙ ap (λ (s : WatchState). s.mapping) c.self.view_is in
     let watched_last : Watched last (bytes ++ 10 ∷ []) all =
     subst (λ (s : WatchState). Watched s (bytes ++ 10 ∷ []) all) (sym c.push_totals.ensures)
@@ -26,9 +26,9 @@ returns-clause-ends c = λ bytes findings w.
     ap (λ (s : WatchState). s.text) c.push_totals.ensures
     ∙ ap (λ t. t ++ end_text ended) told
     ∙ ap (λ t. found_text mapping more ++ t) (end_text_is ended (bytes ++ 10 ∷ []) all watched)
-    ∙ ap (λ (m : NumberedMap). found_text mapping more ++ totals_text m (findings_of all)) same in
+    ∙ ap (λ (m : WatchedMap). found_text mapping more ++ totals_text m (findings_of all)) same in
     let status_is : c.status.result ≡ watch_status mapping (findings_of all) =
-    c.status.ensures ∙ end_status_is last (bytes ++ 10 ∷ []) all watched_last ∙ ap (λ (m : NumberedMap). watch_status m (findings_of all)) last_same in (
+    c.status.ensures ∙ end_status_is last (bytes ++ 10 ∷ []) all watched_last ∙ ap (λ (m : WatchedMap). watch_status m (findings_of all)) last_same in (
       more,
       FindsAll-ended ended mapping bytes all same watched,
       text_is,

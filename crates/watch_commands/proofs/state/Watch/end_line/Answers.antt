@@ -1,7 +1,7 @@
 use Rattle.std.proofs.Common.{◌≡◌, [], ◌∷◌, length, sym, ap, ◌∙◌, subst}
 use Rattle.std.specs.Prelude.{IfSome}
 use Rattle.basics.specs.FaultCount.{counted}
-use Rattle.watch_maps.specs.WatchMaps.{NumberedMap}
+use Rattle.watch_commands.specs.WatchedMaps.{WatchedMap}
 use Rattle.watch_commands.specs.States.{WatchState, FindsMore, JudgesLine, IsPlaced}
 use Rattle.watch_commands.specs.contracts.state.Watch.{the_view}
 use Rattle.watch_commands.proofs.Going.{Watched-ends, ended, ended_is}
@@ -23,4 +23,4 @@ returns-clause-goes_on c =
 pub count-requires : goal.count-requires
 count-requires c =
     let same : c.judge_line-tally.new.self.mapping ≡ c.self.inside.map = ap (λ (s : WatchState). s.mapping) c.judge_line-tally.ensures.judges.2 in
-    subst (λ (m : NumberedMap). IfSome c.judge_line-tally.result (IsPlaced (length m.lines))) (sym same) c.judge_line-tally.ensures.placed
+    subst (λ (m : WatchedMap). IfSome c.judge_line-tally.result (IsPlaced (length m.lines))) (sym same) c.judge_line-tally.ensures.placed

@@ -1,6 +1,6 @@
 use Rattle.std.proofs.Common.{ℕ, ◌&&◌, Bool, sym, ap, ◌∙◌, slice_index}
 use Rattle.watch_commands.specs.WatchTotals.{is_heard_at}
-use Rattle.watch_maps.proofs.CallerLemmas.{tests_more}
+use Rattle.can_logs.proofs.CallerLemmas.{tests_more}
 use Rattle.watch_commands.proofs.state.Watch.hears_each.Goals as goal
 use Rattle.watch_commands.proofs.state.Watch.hears_each.Goals.{then-each, else-each}
 

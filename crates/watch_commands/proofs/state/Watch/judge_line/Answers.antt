@@ -3,13 +3,13 @@ use Rattle.std.specs.Prelude.{Some, slice_index}
 use Rattle.std.proofs.lemmas.Result.{IfOk-at_ok}
 use Rattle.text_lines.specs.Lines.{words_of, is_skipped}
 use Rattle.text_lines.specs.Spans.{word_at}
-use Rattle.trace_audit.specs.declared.map_lines.MapLine.{MapLine}
-use Rattle.trace_audit.specs.declared.frames.OtherLine.TheVariants as kind
-use Rattle.trace_audit.specs.declared.auditing.FrameTally.{FrameTally}
-use Rattle.trace_audit.specs.declared.auditing.FrameTally.TheVariants as tally
-use Rattle.trace_audit.specs.Findings.{AddsFinding}
-use Rattle.trace_audit.proofs.CallerLemmas.{put_back}
-use Rattle.trace_audit.specs.Auditing.{finding_text}
+use Rattle.can_logs.specs.declared.map_lines.MapLine.{MapLine}
+use Rattle.can_logs.specs.declared.frames.OtherLine.TheVariants as kind
+use Rattle.can_logs.specs.declared.findings.FrameTally.{FrameTally}
+use Rattle.can_logs.specs.declared.findings.FrameTally.TheVariants as tally
+use Rattle.can_logs.specs.FindingSteps.{AddsFinding}
+use Rattle.can_logs.proofs.CallerLemmas.{put_back}
+use Rattle.can_logs.specs.Findings.{finding_text}
 use Rattle.watch_commands.specs.Stamps.{LineStamp, stamp_of}
 use Rattle.watch_commands.specs.Watching.{told_text}
 use Rattle.watch_commands.proofs.Answering.{answer_in}

@@ -1,6 +1,6 @@
 use Rattle.std.proofs.Common.{◌≡◌, ◌++◌, ℕ, List, length, take, refl, sym, ap, ◌∙◌, subst, arith}
 use Rattle.std.proofs.lemmas.List.{length-take}
-use Rattle.trace_audit.proofs.CallerLemmas.{HasNoFeed, kept_front, no_feed-append, no_feed-take}
+use Rattle.line_stream.proofs.CallerLemmas.{HasNoFeed, kept_front, no_feed-append, no_feed-take}
 use Rattle.watch_commands.proofs.state.Watch.keep.Goals as goal
 
 pub invariant_of-self : goal.invariant_of-self

@@ -1,7 +1,7 @@
 use Rattle.std.proofs.Common.{◌≡◌, ◌≤◌, ◌+◌, ℕ, List, [], ◌∷◌, ◌++◌, length, take, sym, ap, subst, arith, length-append}
 use Rattle.std.proofs.lemmas.List.{length-take}
 use Rattle.watch_commands.specs.States.{WatchState, FindsMore}
-use Rattle.trace_audit.proofs.CallerLemmas.{HasNoFeed, no_feed-front, through_feed}
+use Rattle.line_stream.proofs.CallerLemmas.{HasNoFeed, no_feed-front, through_feed}
 use Rattle.watch_commands.proofs.Going.{FindsMore-keeps, FindsMore-more}
 use Rattle.watch_commands.proofs.state.Watch.look_at_front.Goals as goal
 

@@ -1,6 +1,6 @@
 use Rattle.std.proofs.Common.{ℕ, length, ap, ◌∙◌, refl}
 use Rattle.std.specs.Prelude.{replicate}
-use Rattle.trace_audit.specs.Auditing.{first_counters}
+use Rattle.can_logs.specs.Findings.{first_counters}
 use Rattle.watch_commands.proofs.Going.{Watched-none}
 use Rattle.watch_commands.proofs.state.Watch.new.Goals as goal
 

@@ -1,10 +1,10 @@
 use Rattle.std.proofs.Common.{◌≡◌, ℕ, Bool, ◌++◌, List, length, sym, ap, ◌∙◌, arith, append_assoc}
 use Rattle.std.specs.List.{flat_map, range_with_len}
-use Rattle.watch_maps.specs.declared.options.WatchOptions.{WatchOptions}
+use Rattle.watch_commands.specs.declared.options.WatchOptions.{WatchOptions}
 use Rattle.watch_commands.specs.WatchTotals.{total_line_at, counts_text}
 use Rattle.watch_commands.specs.States.{WatchState, totals_in}
 use Rattle.watch_commands.specs.contracts.state.Watch.{the_view}
-use Rattle.watch_maps.proofs.CallerLemmas.{texts_more}
+use Rattle.can_logs.proofs.CallerLemmas.{texts_more}
 use Rattle.watch_commands.proofs.state.Watch.push_totals.Goals as goal
 
 pub loop-place-preserved : goal.loop-place-preserved

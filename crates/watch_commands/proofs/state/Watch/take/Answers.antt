@@ -1,7 +1,7 @@
 use Rattle.std.proofs.Common.{◌≡◌, ◌∙◌, subst}
-use Rattle.trace_audit.specs.Pieces.{PutsPiece}
+use Rattle.line_stream.specs.Pieces.{PutsPiece}
 use Rattle.watch_commands.specs.Watching.{found_text}
-use Rattle.watch_maps.proofs.CallerLemmas.{puts}
+use Rattle.line_stream.proofs.CallerLemmas.{puts}
 use Rattle.watch_commands.proofs.state.Watch.take.Goals as goal
 
 pub returns-clause-goes_on : goal.returns-clause-goes_on

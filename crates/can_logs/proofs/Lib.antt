@@ -1,0 +1,11 @@
+pub mod Digits
+pub mod LineFindings
+pub mod Rising
+pub mod Windows
+pub mod OneFinding
+pub mod Noting
+pub mod Places
+pub mod MapPhases
+pub mod MapWindows
+pub mod MapVectors
+pub mod CallerLemmas

@@ -1,0 +1,7 @@
+pub mod MapLines
+pub mod Frames
+pub mod Findings
+pub mod FindingSteps
+pub mod WatchMaps
+pub mod MapFaults
+pub mod LogRuns

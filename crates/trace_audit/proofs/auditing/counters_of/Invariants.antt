@@ -1,7 +1,0 @@
--- the counters so far
-use Rattle.std.proofs.Common.{◌≡◌, take, map}
-use Rattle.trace_audit.specs.declared.map_lines.MapLine.{MapLine}
-use Rattle.trace_audit.proofs.auditing.counters_of.Given as goal
-
-abbrev pub invariant-loop-line : goal.invariant-loop-line
-invariant-loop-line l = l.counters.items ≡ map (λ (line : MapLine). line.counter) (take l.line-index l.map)

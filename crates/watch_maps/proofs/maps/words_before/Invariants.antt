@@ -1,7 +1,0 @@
--- none of the words so far ends them
-use Rattle.std.proofs.Common.{◌≡◌, ℕ, ◌<◌, false, [], get_or}
-use Rattle.watch_maps.specs.WatchMaps.{ends_words}
-use Rattle.watch_maps.proofs.maps.words_before.Given as goal
-
-abbrev pub invariant-loop-place : goal.invariant-loop-place
-invariant-loop-place l = (k : ℕ) → k < l.place → ends_words l.marks (get_or l.words k []) ≡ false

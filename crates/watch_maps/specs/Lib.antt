@@ -1,4 +1,0 @@
-pub mod OptionWords
-pub mod MapFaults
-pub mod WatchMaps
-pub mod LogRuns
