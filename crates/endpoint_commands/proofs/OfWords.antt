@@ -59,10 +59,11 @@ disk_word words asks =
     (name.0, word_of_some words form.0 3 form.1 ∙ name.1)
 
 -- an argument that opens a disk makes its file
-pub makes_opened : (word : Option (List ℕ)) (before after made_before made_after : List (List ℕ)) → after ≡ with_opened word before → made_after ≡ with_opened word made_before
+pub makes_opened : (opens : List ℕ → DiskState → Type 0) (before after made_before made_after : List (List ℕ)) (word : Option (List ℕ)) (disks : List DiskState)
+    → DisksAreNamed opens before after word disks → made_after ≡ with_opened word made_before
     → (words : List (List ℕ)) × (after ≡ before ++ words) × (made_after ≡ made_before ++ words)
-makes_opened None before after made_before made_after opened made = ([], opened ∙ sym (append-nil before), made ∙ sym (append-nil made_before))
-makes_opened (Some word) before after made_before made_after opened made = (word ∷ [], opened, made)
+makes_opened opens before after made_before made_after None disks named made = ([], named.opened_once ∙ sym (append-nil before), made ∙ sym (append-nil made_before))
+makes_opened opens before after made_before made_after (Some word) disks named made = (word ∷ [], named.opened_once, made)
 
 -- ---- over the disk that is opened
 

@@ -2,7 +2,8 @@ use Rattle.std.proofs.Common.{◌≡◌, ◌∙◌, ◌<◌, ◌++◌, ℕ, List
 use Rattle.std.specs.Prelude.{Option, None, Some, string_bytes}
 use Rattle.std.proofs.lemmas.Bool.Decides.{nat_tests}
 use Rattle.std.proofs.lemmas.List.{length-map, append-nil}
-use Rattle.file_disk.specs.NamedDisks.{with_opened}
+use Rattle.cut_disk.specs.State.{DiskState}
+use Rattle.file_disk.specs.NamedDisks.{DisksAreNamed, with_opened}
 use Rattle.program_edge.specs.NamedSources.{word_source, missing_source}
 use Rattle.campaign_commands.specs.Files.{ran_example, ran_words, wanted_disk}
 use Rattle.campaign_commands.proofs.Known.{campaigns_known}
@@ -10,10 +11,11 @@ use Rattle.campaign_commands.proofs.WantsMemory.{are_two, wants_memory}
 use Rattle.campaign_commands.proofs.start.campaign_words.Goals as goal
 
 -- an argument that opens a disk makes its file
-makes_opened : (word : Option (List ℕ)) (before after made_before made_after : List (List ℕ)) → after ≡ with_opened word before → made_after ≡ with_opened word made_before
+makes_opened : (opens : List ℕ → DiskState → Type 0) (before after made_before made_after : List (List ℕ)) (word : Option (List ℕ)) (disks : List DiskState)
+    → DisksAreNamed opens before after word disks → made_after ≡ with_opened word made_before
     → (words : List (List ℕ)) × (after ≡ before ++ words) × (made_after ≡ made_before ++ words)
-makes_opened None before after made_before made_after opened made = ([], opened ∙ sym (append-nil before), made ∙ sym (append-nil made_before))
-makes_opened (Some word) before after made_before made_after opened made = (word ∷ [], opened, made)
+makes_opened opens before after made_before made_after None disks named made = ([], named.opened_once ∙ sym (append-nil before), made ∙ sym (append-nil made_before))
+makes_opened opens before after made_before made_after (Some word) disks named made = (word ∷ [], named.opened_once, made)
 
 pub returns-then-is_empty-clause-makes : goal.returns-then-is_empty-clause-makes
 returns-then-is_empty-clause-makes g c = ([], sym (append-nil _), sym (append-nil _))
@@ -22,7 +24,7 @@ pub returns-in_default-clause-makes : goal.returns-in_default-clause-makes
 returns-in_default-clause-makes g c = ([], c.in_default.ensures.unopened ∙ sym (append-nil _), c.in_default.ensures.unmade ∙ sym (append-nil _))
 
 pub returns-clause-makes : goal.returns-clause-makes
-returns-clause-makes g c = makes_opened _ _ _ _ _ c.in-Ok.ensures.named.opened_once (search rules)
+returns-clause-makes g c = makes_opened _ _ _ _ _ _ _ c.in-Ok.ensures.named (search rules)
 
 pub returns-then-is_empty-clause-promises : goal.returns-then-is_empty-clause-promises
 returns-then-is_empty-clause-promises g c =

@@ -15,7 +15,7 @@ returns-in-Ok-open_disks-clause-runs g c =
     c.do_endpoint-status.ensures
 
 pub returns-in-Ok-open_disks-clause-makes : goal.returns-in-Ok-open_disks-clause-makes
-returns-in-Ok-open_disks-clause-makes g c = makes_opened _ _ _ _ _ c.in-Ok-open_disks.ensures.named.opened_once (search rules)
+returns-in-Ok-open_disks-clause-makes g c = makes_opened _ _ _ _ _ _ _ c.in-Ok-open_disks.ensures.named (search rules)
 
 pub returns-in-Err-open_disks-clause-makes : goal.returns-in-Err-open_disks-clause-makes
 returns-in-Err-open_disks-clause-makes g c = ([], c.in-Err-open_disks.ensures.unopened ∙ sym (append-nil _), c.in-Err-open_disks.ensures.unmade ∙ sym (append-nil _))
