@@ -1,5 +1,5 @@
 -- What taking over entries promises, over the file and the disk that the arguments name
-use Rattle.std.specs.Prelude.{◌≡◌, ℕ, List, [], ◌∷◌, ◌++◌}
+use Rattle.std.specs.Prelude.{◌≡◌, ℕ, Bool, if◌then◌else◌, List, [], ◌∷◌, ◌++◌}
 use Rattle.bus_port.specs.Source.{SourceState}
 use Rattle.cut_disk.specs.State.{DiskState}
 use Rattle.file_disk.specs.NamedDisks.{IsOpenedBy, OpenedByWords}
@@ -25,3 +25,9 @@ pub record AdoptsOver (opens : List ℕ → SourceState → Type 0) (disk_opens 
   pub disk_named : OpensDisk disk_opens o.disks_before o.disks_after (ledger_word words) before
   pub over_files : OverAllNamed opens o.before o.after (adoption_files words) left
       (λ files. RunsAdoption (record { words = words; files = files; before = before; after = disks }) e)
+
+-- By these words disks were opened. If a file may be made, the file of each of them was, if it wasn't there; and no other
+-- file was made.
+abbrev pub MakesOpened : Bool → List (List ℕ) → List (List ℕ) → List (List ℕ) → List (List ℕ) → Type 0
+MakesOpened may before after made_before made_after =
+    (words : List (List ℕ)) × (after ≡ before ++ words) × (made_after ≡ made_before ++ (if may then words else []))

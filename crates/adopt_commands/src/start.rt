@@ -1,6 +1,6 @@
 //! The arguments after `ledger`: the ledger that they name takes over entries.
-ghost use Rattle.std.specs.Prelude.{◌≡◌, ◌+◌, ◌<◌, ◌^◌, [], ◌∷◌, ◌++◌, true, false, All, map as each, string_bytes};
-ghost use Rattle.std.specs.Prelude.{option_map, length, IfOk, OnOk, OnErr};
+ghost use Rattle.std.specs.Prelude.{◌≡◌, ◌+◌, ◌<◌, ◌^◌, [], ◌∷◌, ◌++◌, true, false, if◌then◌else◌, All};
+ghost use Rattle.std.specs.Prelude.{map as each, string_bytes, option_map, length, IfOk, OnOk, OnErr};
 ghost use Rattle.text_lines.specs.Readings.{nth_word};
 ghost use Rattle.ledger_commands.specs.Named.{OverAllNamed};
 ghost use Rattle.file_disk.specs.NamedDisks.{IsOpenedBy, OpenedByWords};
@@ -8,7 +8,7 @@ ghost use Rattle.program_edge.specs.NamedSources.{word_source, openings};
 ghost use Rattle.key_campaign.specs.Entries.{IsEntry};
 ghost use Rattle.adopt_commands.specs.AdoptTasks.{may_make, ledger_place};
 ghost use Rattle.adopt_commands.specs.AdoptFiles.{EndsAdoptWords, EndsAdoptTask, EndsInto, ledger_word};
-ghost use Rattle.adopt_commands.specs.AdoptsOver.{AdoptsOver};
+ghost use Rattle.adopt_commands.specs.AdoptsOver.{AdoptsOver, MakesOpened};
 
 use crate::adopting::adopt_over;
 use crate::entries::{entries_of, one_entry};
@@ -46,7 +46,11 @@ pub fn adopts_words<O: Opener, P: DiskOpener, I: Source + Drop, K: Sink>(
         (each string_bytes words.now)
         (each (word_source O.Opened.state I.state) result.1.items) (each P.Opened.state result.2.items)
         (record { before = K.state sink.old; after = K.state sink.new; status = result.0 }) }
-    ensures none_made { may_make (each string_bytes words.now) ≡ false → P.made disk_opener.new ≡ P.made disk_opener.old }
+    // With `--new` the file of the disk that was opened was made, if it wasn't there. No other file was made.
+    ensures makes { MakesOpened (may_make (each string_bytes words.now))
+        (P.opened disk_opener.old) (P.opened disk_opener.new) (P.made disk_opener.old) (P.made disk_opener.new) }
+    ensures none_made { may_make (each string_bytes words.now) ≡ false
+        → P.made disk_opener.new ≡ P.made disk_opener.old }
     ensures unmade { P.opened disk_opener.new ≡ P.opened disk_opener.old
         → P.made disk_opener.new ≡ P.made disk_opener.old }
 {
@@ -72,9 +76,8 @@ fn adopt_asked<O: Opener, P: DiskOpener, I: Source + Drop, K: Sink>(
         (each string_bytes words.now)
         (each (word_source O.Opened.state I.state) result.1.items) (each P.Opened.state result.2.items)
         (record { before = K.state sink.old; after = K.state sink.new; status = result.0 }) }
-    ensures none_made { may_make (each string_bytes words.now) ≡ false → P.made disk_opener.new ≡ P.made disk_opener.old }
-    ensures unmade { P.opened disk_opener.new ≡ P.opened disk_opener.old
-        → P.made disk_opener.new ≡ P.made disk_opener.old }
+    ensures makes { MakesOpened (may_make (each string_bytes words.now))
+        (P.opened disk_opener.old) (P.opened disk_opener.new) (P.made disk_opener.old) (P.made disk_opener.new) }
 {
     match task_in(words) {
         Ok(AdoptTask::One(entry)) => {
@@ -106,9 +109,8 @@ fn adopt_one<P: DiskOpener, K: Sink>(
         (ledger_word (each string_bytes words.now)) (may_make (each string_bytes words.now)) true
         (entry.now ∷ []) (each P.Opened.state result.1.items)
         (record { before = K.state sink.old; after = K.state sink.new; status = result.0 }) }
-    ensures none_made { may_make (each string_bytes words.now) ≡ false → P.made disk_opener.new ≡ P.made disk_opener.old }
-    ensures unmade { P.opened disk_opener.new ≡ P.opened disk_opener.old
-        → P.made disk_opener.new ≡ P.made disk_opener.old }
+    ensures makes { MakesOpened (may_make (each string_bytes words.now))
+        (P.opened disk_opener.old) (P.opened disk_opener.new) (P.made disk_opener.old) (P.made disk_opener.new) }
 {
     match one_entry(alloc, entry) {
         Ok(entries) => {
@@ -155,9 +157,8 @@ fn adopt_file<O: Opener, P: DiskOpener, I: Source + Drop, K: Sink>(
         })
         (each string_bytes words.now) (AdoptTask.All kind) (each P.Opened.state result.2.items)
         (record { before = K.state sink.old; after = K.state sink.new; status = result.0 })) }
-    ensures none_made { may_make (each string_bytes words.now) ≡ false → P.made disk_opener.new ≡ P.made disk_opener.old }
-    ensures unmade { P.opened disk_opener.new ≡ P.opened disk_opener.old
-        → P.made disk_opener.new ≡ P.made disk_opener.old }
+    ensures makes { MakesOpened (may_make (each string_bytes words.now))
+        (P.opened disk_opener.old) (P.opened disk_opener.new) (P.made disk_opener.old) (P.made disk_opener.new) }
 {
     let mut files = match Vec::with_capacity(alloc, 1) {
         Ok(files) => files,
@@ -203,9 +204,8 @@ fn adopt_into<P: DiskOpener, K: Sink>(
     ensures ends { EndsInto (P.opens disk_opener.old) (P.opened disk_opener.old) (P.opened disk_opener.new) word.now
         may strict entries.now (each P.Opened.state result.1.items)
         (record { before = K.state sink.old; after = K.state sink.new; status = result.0 }) }
-    ensures none_made { may ≡ false → P.made disk_opener.new ≡ P.made disk_opener.old }
-    ensures unmade { P.opened disk_opener.new ≡ P.opened disk_opener.old
-        → P.made disk_opener.new ≡ P.made disk_opener.old }
+    ensures makes { MakesOpened may (P.opened disk_opener.old) (P.opened disk_opener.new)
+        (P.made disk_opener.old) (P.made disk_opener.new) }
 {
     match ledger_disk(alloc, disk_opener, word, may) {
         Ok(opened) => {
@@ -232,7 +232,8 @@ fn ledger_disk<P: DiskOpener>(
         (each P.Opened.state disks.items)) }
     ensures noted { OnOk result (P.opened disk_opener.new ≡ P.opened disk_opener.old ++ word.now ∷ []) }
     ensures unopened { OnErr result (P.opened disk_opener.new ≡ P.opened disk_opener.old) }
-    ensures none_made { may ≡ false → P.made disk_opener.new ≡ P.made disk_opener.old }
+    ensures made { OnOk result (P.made disk_opener.new
+        ≡ P.made disk_opener.old ++ (if may then word.now ∷ [] else [])) }
     ensures unmade { OnErr result (P.made disk_opener.new ≡ P.made disk_opener.old) }
 {
     if may {

@@ -1,6 +1,6 @@
 //! The arguments of the command line, the program's name left out: what they name is read, and what they ask for is
 //! run.
-ghost use Rattle.std.specs.Prelude.{◌≡◌, ◌⊎◌, ◌≤◌, [], ℕ, List, map, string_bytes, option_map, IfOk, IfErr};
+ghost use Rattle.std.specs.Prelude.{◌≡◌, ◌⊎◌, ◌≤◌, ◌++◌, [], ℕ, List, map, string_bytes, option_map, IfOk, IfErr};
 ghost use Rattle.bus_world.specs.declared.start.Start.TheVariants.{Attach};
 ghost use Rattle.program_edge.specs.NamedSources.{word_source, missing_source, openings};
 ghost use Rattle.bus_commands.specs.declared.words.Command.TheVariants.{World};
@@ -64,6 +64,10 @@ pub fn bus_words<O: Opener, P: DiskOpener, I: Source + Drop, K: Sink>(
     ensures no_disk { (result.0 ≡ 2) ⊎ ((3 ≤ result.0) × (result.0 ≤ 5)) ⊎ (result.0 ≡ 8)
         → P.opened disk_opener.new ≡ P.opened disk_opener.old }
 
+    // The file of each disk that was opened was made, if it wasn't there. No other file was made.
+    ensures makes { (words : List (List ℕ)) × (P.opened disk_opener.new ≡ P.opened disk_opener.old ++ words)
+        × (P.made disk_opener.new ≡ P.made disk_opener.old ++ words) }
+
     // The disks that are made for a replay or a trial are enough, and don't fail as the bus starts: 9 and 10 come for
     // `node` alone.
     ensures starts { (result.0 ≡ 9) ⊎ (result.0 ≡ 10) → Asks (map string_bytes words.now) (World (Replay Attach)) }
@@ -100,7 +104,7 @@ fn run_node<O: Opener, P: DiskOpener, I: Source + Drop, K: Sink>(
     Vec<P::Opened>,
 )
     requires { (words : List (List ℕ)) × NamesDisk words path.now }
-    ensures { (words : List (List ℕ)) → NamesSources words (option_map (λ w. w.now) asked.now.config)
+    ensures runs { (words : List (List ℕ)) → NamesSources words (option_map (λ w. w.now) asked.now.config)
         (option_map (λ w. w.now) asked.now.script) → NamesDisk words path.now
         → RunsNamed P.Opened.state (O.opens opener.old) (P.opens disk_opener.old)
         (record {
@@ -115,6 +119,8 @@ fn run_node<O: Opener, P: DiskOpener, I: Source + Drop, K: Sink>(
         })
         result.3 words
         (record { before = K.state sink.old; after = K.state sink.new; status = result.0 }) }
+    ensures makes { (words : List (List ℕ)) × (P.opened disk_opener.new ≡ P.opened disk_opener.old ++ words)
+        × (P.made disk_opener.new ≡ P.made disk_opener.old ++ words) }
 {
     let (mut bus, mut events) = open_both(opener, input, asked.config, asked.script);
     let node = WorldCommand::Replay(Start::Attach);
@@ -136,9 +142,11 @@ fn do_on_disk<P: DiskOpener, K: Sink>(
     sink: &mut K,
 ) -> (u8, Vec<P::Opened>)
     requires { IsWholeWorld job.now }
-    ensures { DoesNamed P.Opened.state (P.opens disk_opener.old) (P.opened disk_opener.old)
+    ensures does { DoesNamed P.Opened.state (P.opens disk_opener.old) (P.opened disk_opener.old)
         (P.opened disk_opener.new) path.now job.now result.1
         (record { before = K.state sink.old; after = K.state sink.new; status = result.0 }) }
+    ensures makes { (words : List (List ℕ)) × (P.opened disk_opener.new ≡ P.opened disk_opener.old ++ words)
+        × (P.made disk_opener.new ≡ P.made disk_opener.old ++ words) }
 {
     match open_disk(alloc, disk_opener, path) {
         Ok(mut disks) => {

@@ -2,6 +2,7 @@
 ghost use Rattle.std.specs.Prelude.{◌≡◌, ◌≤◌, length, IfOk, IfErr, string_bytes, option_map, map as each};
 ghost use Rattle.std.specs.Prelude.{Option};
 ghost use Rattle.cut_disk.specs.State.{DiskState};
+ghost use Rattle.freshness_routes.specs.declared.config.TheConstants.{MOST_ROUTES};
 ghost use Rattle.program_edge.specs.Rows.{row_of};
 ghost use Rattle.program_edge.specs.Endings.{EndsInRow};
 ghost use Rattle.text_lines.specs.Written.{written};
@@ -55,7 +56,7 @@ pub fn grow_named<P: DiskOpener, K: Sink>(
     routes: &[Route],
     sink: &mut K,
 ) -> (u8, Option<P::Opened>)
-    requires { length routes.now ≤ 256 }
+    requires { length routes.now ≤ MOST_ROUTES }
     ensures grows { (was : Option DiskState) × EndsInRow (ComesNamed (P.opens disk_opener.old)
         (P.opened disk_opener.old) (P.opened disk_opener.new) word.now wanted routes.now was
         (option_map P.Opened.state result.1))
@@ -85,7 +86,7 @@ pub fn grow_over<D: Disk, K: Sink>(
     routes: &[Route],
     sink: &mut K,
 ) -> u8
-    requires { length routes.now ≤ 256 }
+    requires { length routes.now ≤ MOST_ROUTES }
     ensures { EndsInRow (GrowsOnDisk wanted routes.now (D.state disk.old) (D.state disk.new))
         (record { before = K.state sink.old; after = K.state sink.new; status = result }) }
 {
@@ -102,7 +103,7 @@ fn grown_text_over<D: Disk>(
     wanted: Layout,
     routes: &[Route],
 ) -> Result<Vec<u8>, Refusal>
-    requires { length routes.now ≤ 256 }
+    requires { length routes.now ≤ MOST_ROUTES }
     ensures done { IfOk result
         (λ text. GrowsOnDisk wanted routes.now (D.state disk.old) (D.state disk.new) (row_of 0 text.items)) }
     ensures refused { IfErr result (GrowsOnDisk wanted routes.now (D.state disk.old) (D.state disk.new)) }

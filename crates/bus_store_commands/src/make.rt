@@ -1,5 +1,6 @@
 //! `make FILE BUS`.
-ghost use Rattle.std.specs.Prelude.{◌≡◌, length, map as each, string_bytes, option_map, codes, Option, IfOk, IfErr};
+ghost use Rattle.std.specs.Prelude.{◌≡◌, ◌++◌, ℕ, List, length, map as each, string_bytes, option_map, codes, Option};
+ghost use Rattle.std.specs.Prelude.{IfOk, IfErr};
 ghost use Rattle.cut_disk.specs.State.{DiskState};
 ghost use Rattle.freshness_routes.specs.Config.{IsConfig};
 ghost use Rattle.program_edge.specs.NamedSources.{word_source, openings, OverNamed};
@@ -40,7 +41,7 @@ pub fn make_words<O: Opener, P: DiskOpener, I: Source + Drop, K: Sink>(
     sink: &mut K,
 ) -> (u8, WordSource<O::Opened, I>, Option<P::Opened>)
     // `MakesUnitStore` of specs/MakesUnitStore.antt has a member for each promise, in the order of the table.
-    ensures { OverNamed (O.opens opener.old)
+    ensures promises { OverNamed (O.opens opener.old)
         (openings (O.opened opener.old) (option_map I.state input.old))
         (openings (O.opened opener.new) (option_map I.state input.new))
         (file_over_bus (codes "make") (each string_bytes words.now) 2)
@@ -55,6 +56,9 @@ pub fn make_words<O: Opener, P: DiskOpener, I: Source + Drop, K: Sink>(
           left = option_map P.Opened.state result.2;
         })
         (record { before = K.state sink.old; after = K.state sink.new; status = result.0 })) }
+    // The file of each disk that was opened was made, if it wasn't there. No other file was made.
+    ensures makes { (words : List (List ℕ)) × (P.opened disk_opener.new ≡ P.opened disk_opener.old ++ words)
+        × (P.made disk_opener.new ≡ P.made disk_opener.old ++ words) }
 {
     let mut bus = open_word(opener, input, file_over_bus("make", words, 2));
     match prepare(alloc, words, &mut bus) {
@@ -123,9 +127,11 @@ fn make_named<P: DiskOpener, K: Sink>(
 ) -> (u8, Option<P::Opened>)
     requires one { length job.now.bus.nodes ≡ 1 }
     requires text { job.now.text.items ≡ made_text job.now.bus }
-    ensures { EndsMake (P.opens disk_opener.old) (P.opened disk_opener.old) (P.opened disk_opener.new) file.now
+    ensures ends { EndsMake (P.opens disk_opener.old) (P.opened disk_opener.old) (P.opened disk_opener.new) file.now
         job.now.bus (option_map P.Opened.state result.1)
         (record { before = K.state sink.old; after = K.state sink.new; status = result.0 }) }
+    ensures makes { (words : List (List ℕ)) × (P.opened disk_opener.new ≡ P.opened disk_opener.old ++ words)
+        × (P.made disk_opener.new ≡ P.made disk_opener.old ++ words) }
 {
     match disk_opener.open(alloc, file) {
         Ok(opened) => {

@@ -10,7 +10,6 @@ use Rattle.program_edge.specs.Rows.{Row, memory_row}
 use Rattle.program_edge.specs.Inputs.{Reading, IsUnread, ReadsWhole, CountsFault, CountsTooMuch}
 use Rattle.program_edge.proofs.CallerLemmas.{Offers-is, CountsFault-is, CountsTooMuch-is}
 use Rattle.program_edge.specs.Endings.{Ending, PrintsWhole}
-use Rattle.run_driver.specs.declared.printing.Unwritten.TheVariants as unwritten
 use Rattle.cut_disk.specs.State.{DiskState}
 use Rattle.key_campaign.specs.declared.commands.LedgerCommand.{LedgerCommand}
 use Rattle.campaign_commands.specs.declared.opening.NoLedgerCause.{NoLedgerCause}

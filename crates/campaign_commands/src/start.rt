@@ -1,5 +1,5 @@
 //! The arguments of the command line, without the program's name.
-ghost use Rattle.std.specs.Prelude.{map, string_bytes, option_map};
+ghost use Rattle.std.specs.Prelude.{◌≡◌, ◌++◌, ℕ, List, map, string_bytes, option_map};
 ghost use Rattle.program_edge.specs.NamedSources.{word_source, openings};
 ghost use Rattle.campaign_commands.specs.Files.{CampaignOfWords};
 
@@ -23,7 +23,7 @@ pub fn campaign_words<O: Opener, P: DiskOpener, I: Source + Drop, K: Sink>(
 ) -> (u8, WordSource<O::Opened, I>, Vec<P::Opened>)
     // All that a campaign promises, of these arguments, over the script and the disk that they name, which are those
     // handed back, or of the example; or there was no memory for the disk.
-    ensures { CampaignOfWords (O.opens opener.old) (P.opens disk_opener.old)
+    ensures promises { CampaignOfWords (O.opens opener.old) (P.opens disk_opener.old)
         (record {
           before = openings (O.opened opener.old) (option_map I.state input.old);
           after = openings (O.opened opener.new) (option_map I.state input.new);
@@ -33,6 +33,9 @@ pub fn campaign_words<O: Opener, P: DiskOpener, I: Source + Drop, K: Sink>(
         (map string_bytes words.now)
         (word_source O.Opened.state I.state result.1) (map P.Opened.state result.2.items)
         (record { before = K.state sink.old; after = K.state sink.new; status = result.0 }) }
+    // The file of each disk that was opened was made, if it wasn't there. No other file was made.
+    ensures makes { (words : List (List ℕ)) × (P.opened disk_opener.new ≡ P.opened disk_opener.old ++ words)
+        × (P.made disk_opener.new ≡ P.made disk_opener.old ++ words) }
 {
     if words.is_empty() {
         let status = run_example(alloc, sink);

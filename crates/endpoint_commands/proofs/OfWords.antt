@@ -1,11 +1,12 @@
 -- What comes of the words: over the disk that they name, which tells its bytes, what was done is one run
-use Rattle.std.specs.Prelude.{◌≡◌, ◌⊎◌, ◌≤◌, ℕ, Bool, true, false, ◌||◌, ◌==◌, if◌then◌else◌, Option, None, Some, List, [], ◌∷◌, length, map, slice_get, Vec}
+use Rattle.std.specs.Prelude.{◌≡◌, ◌⊎◌, ◌≤◌, ℕ, Bool, true, false, ◌||◌, ◌==◌, if◌then◌else◌, Option, None, Some, List, [], ◌∷◌, ◌++◌, length, map, slice_get, Vec}
 use Rattle.std.specs.declared.alloc.Global.{Global}
 use Rattle.std.proofs.Common.{refl, sym, ap, ◌∙◌, subst, arith, inl, inr}
 use Rattle.std.proofs.lemmas.Bool.Decides.{nat_tests}
+use Rattle.std.proofs.lemmas.List.{append-nil}
 use Rattle.bus_port.specs.Source.{SourceState}
 use Rattle.cut_disk.specs.State.{DiskState}
-use Rattle.file_disk.specs.NamedDisks.{TellsFirmBytes, IsOpenedBy, DisksAreNamed, OpenedByWords}
+use Rattle.file_disk.specs.NamedDisks.{TellsFirmBytes, IsOpenedBy, DisksAreNamed, OpenedByWords, with_opened}
 use Rattle.program_edge.specs.Inputs.{Reading}
 use Rattle.program_edge.specs.Endings.{EndsIn, EndsInRow}
 use Rattle.can_logs.specs.LogRuns.{IsUnwritten, WatchEnding, on_errors}
@@ -56,6 +57,13 @@ disk_word words asks =
     let form = form_is words asks in
     let name = fourth words (let many : 4 ≤ length words = omega (arith, asks) in many) in
     (name.0, word_of_some words form.0 3 form.1 ∙ name.1)
+
+-- an argument that opens a disk makes its file
+pub makes_opened : (opens : List ℕ → DiskState → Type 0) (before after made_before made_after : List (List ℕ)) (word : Option (List ℕ)) (disks : List DiskState)
+    → DisksAreNamed opens before after word disks → made_after ≡ with_opened word made_before
+    → (words : List (List ℕ)) × (after ≡ before ++ words) × (made_after ≡ made_before ++ words)
+makes_opened opens before after made_before made_after None disks named made = ([], named.opened_once ∙ sym (append-nil before), made ∙ sym (append-nil made_before))
+makes_opened opens before after made_before made_after (Some word) disks named made = (word ∷ [], named.opened_once, made)
 
 -- ---- over the disk that is opened
 

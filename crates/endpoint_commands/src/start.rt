@@ -1,5 +1,5 @@
 //! The arguments of the command line: what they name is opened, and an endpoint runs over it.
-ghost use Rattle.std.specs.Prelude.{◌≡◌, ◌⊎◌, map as each, string_bytes, option_map, slice_get};
+ghost use Rattle.std.specs.Prelude.{◌≡◌, ◌⊎◌, ◌++◌, ℕ, List, map as each, string_bytes, option_map, slice_get};
 ghost use Rattle.program_edge.specs.NamedSources.{word_source, openings};
 ghost use Rattle.endpoint_commands.specs.Rows.{AsksEndpoint, AsksForm};
 ghost use Rattle.endpoint_commands.specs.Named.{word_of_form, SourcesNamed, EndpointOverDisk, EndpointOfWords};
@@ -79,6 +79,9 @@ pub fn endpoint_words<O: Opener, P: DiskOpener, I: Source + Drop, K: Sink, E: Si
           errors = record { before = E.state errors.old; after = E.state errors.new };
           status = result.0;
         }) }
+    // The file of each disk that was opened was made, if it wasn't there. No other file was made.
+    ensures makes { (words : List (List ℕ)) × (P.opened disk_opener.new ≡ P.opened disk_opener.old ++ words)
+        × (P.made disk_opener.new ≡ P.made disk_opener.old ++ words) }
     ensures usage { result.0 ≡ 2 → ¬ AsksEndpoint (each string_bytes words.now) }
     ensures usage_only { ¬ AsksEndpoint (each string_bytes words.now) → (result.0 ≡ 2) ⊎ (result.0 ≡ 6) }
 {
@@ -140,7 +143,7 @@ fn run_named<P: DiskOpener, S: Source, M: Source, T: Source, I: Source, K: Sink,
     sink: &mut K,
     errors: &mut E,
 ) -> (u8, Vec<P::Opened>)
-    ensures { EndpointOverDisk P.Opened.state (P.opens disk_opener.old) (P.opened disk_opener.old)
+    ensures runs { EndpointOverDisk P.Opened.state (P.opens disk_opener.old) (P.opened disk_opener.old)
         (P.opened disk_opener.new)
         (record {
           words = each string_bytes words.now;
@@ -155,6 +158,8 @@ fn run_named<P: DiskOpener, S: Source, M: Source, T: Source, I: Source, K: Sink,
           errors = record { before = E.state errors.old; after = E.state errors.new };
           status = result.0;
         }) }
+    ensures makes { (words : List (List ℕ)) × (P.opened disk_opener.new ≡ P.opened disk_opener.old ++ words)
+        × (P.made disk_opener.new ≡ P.made disk_opener.old ++ words) }
 {
     let form = form_of(words);
     match prepare(alloc, form, config, map, image) {

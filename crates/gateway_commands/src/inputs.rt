@@ -1,5 +1,6 @@
 //! Whether a gateway over the bus of a bus file takes the pairs.
 ghost use Rattle.std.specs.Prelude.{◌≤◌, MatchOption};
+ghost use Rattle.freshness_routes.specs.declared.config.TheConstants.{MOST_ROUTES};
 ghost use Rattle.secoc_gateway.specs.Pairs.{AreGood, IsLowestBad};
 ghost use Rattle.gateway_commands.specs.Steps.{IsPairRow, ChecksPairs};
 
@@ -29,7 +30,7 @@ pub fn check_pairs(alloc: Global, bus: &BusConfig, pairs: &[(u16, u16)]) -> Resu
 fn bad_pair(config: &NodeConfig, pairs: &[(u16, u16)]) -> Option<u16>
     ensures lowest { MatchOption result (AreGood config.now.routes pairs.now)
         (IsLowestBad config.now.routes pairs.now) }
-    ensures within { MatchOption result (Unit {0}) (λ place. place ≤ 256) }
+    ensures within { MatchOption result (Unit {0}) (λ place. place ≤ MOST_ROUTES) }
 {
     lowest_bad(config.routes.as_slice(), pairs)
 }

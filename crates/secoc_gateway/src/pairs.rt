@@ -1,5 +1,6 @@
 //! Pairs of Data IDs: what arrives under the first departs under the second.
 ghost use Rattle.std.specs.Prelude.{◌≡◌, ◌≢◌, ◌↔◌, ◌<◌, ◌≤◌, IsTrue, All, MatchOption, length, take};
+ghost use Rattle.freshness_routes.specs.declared.config.TheConstants.{MOST_ROUTES};
 ghost use Rattle.secoc_gateway.specs.Gateway.{second_of as second_in};
 ghost use Rattle.secoc_gateway.specs.Pairs.{pair_in, IsGoodAfter, AreGood, IsLowestBad};
 
@@ -40,9 +41,9 @@ fn is_good_after(routes: &[Route], earlier: &[(u16, u16)], pair: (u16, u16)) -> 
 
 /// The place of the lowest pair that a gateway over a node with these routes doesn't take, counted from 0.
 pub fn lowest_bad(routes: &[Route], pairs: &[(u16, u16)]) -> Option<u16>
-    requires { length routes.now ≤ 256 }
+    requires { length routes.now ≤ MOST_ROUTES }
     ensures lowest { MatchOption result (AreGood routes.now pairs.now) (IsLowestBad routes.now pairs.now) }
-    ensures within { MatchOption result (Unit {0}) (λ place. place ≤ 256) }
+    ensures within { MatchOption result (Unit {0}) (λ place. place ≤ MOST_ROUTES) }
 {
     for (place, pair) in pairs.iter().enumerate() {
         if !is_good_after(routes, &pairs[..place], *pair) {

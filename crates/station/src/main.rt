@@ -10,8 +10,8 @@ mod modes;
 
 use file_disk::DiskPaths;
 use modes::tell_open_mode;
-use program_edge::{NO_MEMORY, Paths, StdSink, StdSource, arguments};
-use station_commands::station_words;
+use program_edge::{NO_MEMORY, Paths, StdSink, StdSource, WordSource, arguments};
+use station_commands::{StationFiles, station_words};
 use std::alloc::AllocError;
 use std::process::ExitCode;
 
@@ -22,7 +22,7 @@ fn main(rt: HostRuntime) -> ExitCode {
     let mut input = Some(StdSource::new(rt.stdin()));
     let status = match arguments(&rt) {
         Ok(words) => {
-            let (status, _files) = station_words(
+            let (status, files) = station_words(
                 rt.alloc(),
                 &mut opener,
                 &mut disk_opener,
@@ -30,7 +30,16 @@ fn main(rt: HostRuntime) -> ExitCode {
                 words.as_slice(),
                 &mut sink,
             );
-            tell_open_mode(&rt, words.as_slice(), status);
+            let is_opened = matches!(
+                files,
+                StationFiles::Store(WordSource::Opened(_))
+                    | StationFiles::StoreAndBus(WordSource::Opened(_), _)
+                    | StationFiles::Made(_, Some(_))
+                    | StationFiles::Grown(_, Some(_))
+            );
+            if is_opened {
+                tell_open_mode(&rt, words.as_slice());
+            }
             status
         }
         Err(AllocError) => NO_MEMORY,

@@ -1,5 +1,5 @@
 //! The arguments of the command line.
-ghost use Rattle.std.specs.Prelude.{◌≡◌, drop, map as each, string_bytes, option_map};
+ghost use Rattle.std.specs.Prelude.{◌≡◌, ◌++◌, ℕ, List, drop, map as each, string_bytes, option_map};
 ghost use Rattle.program_edge.specs.NamedSources.{word_source, openings};
 ghost use Rattle.program_edge.specs.Told.{EndingTold};
 ghost use Rattle.station_commands.specs.Station.{part_named, part_of, slot_part, ledger_part, RunsStation};
@@ -77,6 +77,10 @@ pub fn station_words<O: Opener, P: DiskOpener, I: Source + Drop, K: Sink>(
           disks_after = P.opened disk_opener.new;
         })
         result.1 (record { before = K.state sink.old; after = K.state sink.new; status = result.0 }) }
+    // With such arguments the file of the disk that was opened was made, if it wasn't there. No other file was made.
+    ensures makes { MayMakeFile (each string_bytes words.now)
+        → (opened : List (List ℕ)) × (P.opened disk_opener.new ≡ P.opened disk_opener.old ++ opened)
+        × (P.made disk_opener.new ≡ P.made disk_opener.old ++ opened) }
     ensures none_made { ¬ MayMakeFile (each string_bytes words.now) → P.made disk_opener.new ≡ P.made disk_opener.old }
 {
     let rest = after_part(words);

@@ -2,7 +2,7 @@ use Rattle.std.proofs.Common.{refl, map, ap}
 use Rattle.program_edge.specs.NamedSources.{word_source}
 use Rattle.adopt_commands.specs.declared.tasks.AdoptTask.TheVariants.{One, All}
 use Rattle.adopt_commands.specs.AdoptFiles.{asks_nothing, asks_it, with_entries}
-use Rattle.adopt_commands.proofs.Naming.{over_none_named}
+use Rattle.adopt_commands.proofs.Naming.{over_none_named, makes_nothing}
 use Rattle.adopt_commands.proofs.start.adopt_asked.Goals as goal
 
 pub returns-in-Ok-One-clause-ends : goal.returns-in-Ok-One-clause-ends
@@ -19,3 +19,6 @@ returns-in-Err-clause-ends g c =
     asks_nothing (record { row = c.in-Err.refusal; comes = c.in-Err.ensures.refused; told = c.tell_refusal.ensures }) refl
     (ap (map (word_source g.O.Opened.Source.state g.I.Source.state)) c.new-unopened-in-Err.ensures.items) refl
     (ap (map g.P.Opened.Disk.state) c.new-no_disk.ensures.items)
+
+pub returns-in-Err-clause-makes : goal.returns-in-Err-clause-makes
+returns-in-Err-clause-makes g c = makes_nothing _ _ _

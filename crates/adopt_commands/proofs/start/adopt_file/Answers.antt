@@ -6,7 +6,7 @@ use Rattle.program_edge.specs.NamedSources.{word_source}
 use Rattle.adopt_commands.specs.declared.tasks.AdoptTask.TheVariants.{All}
 use Rattle.adopt_commands.specs.AdoptRows.{LacksEntries, unroomed, no_other}
 use Rattle.adopt_commands.specs.AdoptFiles.{in_row, with_entries}
-use Rattle.adopt_commands.proofs.Naming.{over_none_named, over_one_named}
+use Rattle.adopt_commands.proofs.Naming.{over_none_named, over_one_named, makes_nothing}
 use Rattle.adopt_commands.proofs.start.adopt_file.Goals as goal
 
 pub returns-in-Err-clause-ends : goal.returns-in-Err-clause-ends
@@ -38,3 +38,12 @@ returns-in-Err-entries-clause-ends g c =
     (ap (map state) (c.push_reserved.ensures.items ∙ ap (λ l. l ++ c.entries_of-entries.new.file ∷ []) c.in-Ok.ensures.items))
     (in_row (record { row = c.in-Err-entries.refusal; comes = no_other c.args.kind r c.in-Err-entries.refusal refl refl c.in-Err-entries.ensures.refused; told = c.tell_refusal-in-Err-entries.ensures })
     refl (ap (map g.P.Opened.Disk.state) c.new-no_disk-in-Err-entries.ensures.items))
+
+pub returns-in-Err-clause-makes : goal.returns-in-Err-clause-makes
+returns-in-Err-clause-makes g c = makes_nothing _ _ _
+
+pub returns-in-Ok-entries-clause-makes : goal.returns-in-Ok-entries-clause-makes
+returns-in-Ok-entries-clause-makes g c = rw c.may_make-may.ensures at c.adopt_into-status.ensures.makes
+
+pub returns-in-Err-entries-clause-makes : goal.returns-in-Err-entries-clause-makes
+returns-in-Err-entries-clause-makes g c = makes_nothing _ _ _

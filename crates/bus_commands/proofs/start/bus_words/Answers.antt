@@ -1,4 +1,5 @@
-use Rattle.std.proofs.Common.{map, refl}
+use Rattle.std.proofs.Common.{[], map, refl, sym}
+use Rattle.std.proofs.lemmas.List.{append-nil}
 use Rattle.std.specs.Prelude.{string_bytes}
 use Rattle.bus_commands.specs.Named.{ran_in_memory, wanted_disks}
 use Rattle.bus_commands.proofs.OfWords.{words_usage, words_usage_only, words_no_disk, words_start}
@@ -12,7 +13,7 @@ run_node-requires g c = (map string_bytes c.args.words.now, rw c.in-Some.is at c
 pub returns-in-Some-clause-words : goal.returns-in-Some-clause-words
 returns-in-Some-clause-words g c =
     let asked = c.command_line-asked.ensures in
-    c.run_node.ensures (map string_bytes c.args.words.now) (asked.names_config, asked.names_script)
+    c.run_node.ensures.runs (map string_bytes c.args.words.now) (asked.names_config, asked.names_script)
     (rw c.in-Some.is at asked.names_disk)
 
 pub returns-in-Some-clause-usage : goal.returns-in-Some-clause-usage
@@ -38,6 +39,9 @@ returns-in-Ok-clause-words g c = ran_in_memory refl c.new.ensures.items (record 
   over = c.run_over-status.ensures (map string_bytes c.args.words.now) c.command_line-asked.ensures;
 })
 
+pub returns-in-Ok-clause-makes : goal.returns-in-Ok-clause-makes
+returns-in-Ok-clause-makes g c = ([], sym (append-nil _), sym (append-nil _))
+
 pub returns-in-Ok-clause-usage : goal.returns-in-Ok-clause-usage
 returns-in-Ok-clause-usage g c = words_usage _ _ _ _ _ _ _ _ (returns-in-Ok-clause-words g c)
 
@@ -59,6 +63,9 @@ returns-in-Err-clause-words g c =
         script_missing = c.without_memory.ensures.script;
       };
     })
+
+pub returns-in-Err-clause-makes : goal.returns-in-Err-clause-makes
+returns-in-Err-clause-makes g c = ([], sym (append-nil _), sym (append-nil _))
 
 pub returns-in-Err-clause-usage_only : goal.returns-in-Err-clause-usage_only
 returns-in-Err-clause-usage_only g c = words_usage_only _ _ _ _ _ _ _ _ (returns-in-Err-clause-words g c)

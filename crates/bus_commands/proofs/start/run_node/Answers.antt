@@ -1,4 +1,5 @@
-use Rattle.std.proofs.Common.{refl}
+use Rattle.std.proofs.Common.{[], refl, sym}
+use Rattle.std.proofs.lemmas.List.{append-nil}
 use Rattle.program_edge.specs.NamedSources.{word_source}
 use Rattle.bus_commands.proofs.AskedWords.{names_node}
 use Rattle.bus_commands.proofs.NodeEnds.{node_refused, node_done}
@@ -8,8 +9,8 @@ pub do_on_disk-status-requires : goal.do_on_disk-status-requires
 do_on_disk-status-requires g c =
     (c.in-Ok.ensures c.requires.0 (names_node c.requires.0 c.args.path.now c.requires.1)).0
 
-pub returns-in-Ok : goal.returns-in-Ok
-returns-in-Ok g c words names disk =
+pub returns-in-Ok-clause-runs : goal.returns-in-Ok-clause-runs
+returns-in-Ok-clause-runs g c words names disk =
     let state = word_source g.O.Opened.Source.state g.I.Source.state in
     node_done g.P.Opened.Disk.state _ _ _ _ _ words _ c.args.path.now disk c.in-Ok.job (record {
       config = _;
@@ -24,10 +25,13 @@ returns-in-Ok g c words names disk =
         other_left = refl;
         has = c.in-Ok.ensures words (names_node words c.args.path.now disk);
       };
-    }) c.do_on_disk-status.ensures
+    }) c.do_on_disk-status.ensures.does
 
-pub returns-in-Err : goal.returns-in-Err
-returns-in-Err g c words names disk =
+pub returns-in-Err-clause-makes : goal.returns-in-Err-clause-makes
+returns-in-Err-clause-makes g c = ([], sym (append-nil _), sym (append-nil _))
+
+pub returns-in-Err-clause-runs : goal.returns-in-Err-clause-runs
+returns-in-Err-clause-runs g c words names disk =
     let state = word_source g.O.Opened.Source.state g.I.Source.state in
     node_refused g.P.Opened.Disk.state _ _ _ _ _ words _ c.args.path.now disk refl c.new.ensures.items (record {
       config = _;

@@ -18,7 +18,7 @@ returns-clause-named g c =
       words_are = refl;
       named = c.open_sources-sources.ensures;
       left_are = refl;
-      over = c.run_named-status.ensures;
+      over = c.run_named-status.ensures.runs;
     }
 
 pub returns-clause-usage : goal.returns-clause-usage
