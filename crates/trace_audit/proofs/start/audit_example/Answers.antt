@@ -1,4 +1,4 @@
-use Rattle.std.proofs.Common.{◌≡◌, length, map, ap, refl, arith}
+use Rattle.std.proofs.Common.{◌≡◌, length, ap, refl, arith}
 use Rattle.std.specs.Prelude.{Some}
 use Rattle.bus_port.specs.MemSource.{CleanSourceState, clean_source}
 use Rattle.program_edge.specs.Inputs.{Reading}
