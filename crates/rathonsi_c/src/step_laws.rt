@@ -1,5 +1,5 @@
 //! What ties calls together: each function has an empty body, and its contract is the law.
-ghost use Rattle.std.specs.Prelude.{◌≡◌, ◌+◌, ℕ, List, length, take, pos};
+ghost use Rattle.std.specs.Prelude.{◌≡◌, ◌+◌, ◌*◌, ◌^◌, ℕ, List, length, take, pos};
 ghost use Rattle.she_cmac.specs.Cmac.{cmac};
 ghost use Rattle.freshness_routes.specs.declared.routes.Direction.TheVariants.{Receives};
 ghost use Rattle.secured_pdu.specs.Frame.{IsPayload};
@@ -13,6 +13,7 @@ ghost use Rattle.rathonsi_c.specs.declared.TheConstants.{OK, BAD_LENGTH, BAD_VAL
 ghost use Rattle.rathonsi_c.specs.declared.TheConstants.{VERIFICATION_FAILURE, BAD_ID, BAD_MAC, NO_STORE, DAMAGED};
 ghost use Rattle.rathonsi_c.specs.declared.TheConstants.{BUSY, RESERVE, EXHAUSTED, KEY_EMPTY, KEY_INVALID, KEY_NOT_AVAILABLE};
 ghost use Rattle.rathonsi_c.specs.declared.TheConstants.{KEY_WRITE_PROTECTED, KEY_UPDATE_ERROR, WRONG_CELL, FAILED};
+ghost use Rattle.rathonsi_c.specs.declared.states.TheConstants.{VERSION};
 ghost use Rattle.rathonsi_c.specs.declared.route.RathonsiRoute.{RathonsiRoute};
 ghost use Rattle.rathonsi_c.specs.declared.secoc.RathonsiVerdict.{RathonsiVerdict};
 ghost use Rattle.rathonsi_c.specs.declared.steps.RathonsiInput.{RathonsiInput};
@@ -60,4 +61,9 @@ pub fn each_status_has_its_number()
     ensures key_update_error { KEY_UPDATE_ERROR ≡ pos 16 }
     ensures wrong_cell { WRONG_CELL ≡ pos 17 }
     ensures failed { FAILED ≡ pos 18 }
+{}
+
+/// The number of the version, as `rathonsi.h` has it: major, minor and patch, a byte each.
+pub fn the_version_has_its_number()
+    ensures { VERSION ≡ 0 * 2 ^ 16 + 18 * 2 ^ 8 + 0 }
 {}
