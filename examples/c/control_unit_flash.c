@@ -70,7 +70,7 @@ static uint32_t draw(uint32_t below) {
 
 static enum duty broken;
 static const char *harm;
-static long sent, accepted, done, loaded, cuts, failures, starts, puts, erases, programs, reads;
+static long sent, accepted, done, loaded, cuts, failures, starts, puts_begun, erases, programs, reads;
 
 static void expect(int holds, const char *what) {
     if (!holds && harm == NULL)
@@ -437,7 +437,7 @@ static int do_plan(void) {
         is_loading = 0;
     }
     expect(rathonsi_flash_put(&flash, &plan, cells, CELLS) == RATHONSI_OK, "a put is refused");
-    puts++;
+    puts_begun++;
     if (work() != RATHONSI_OK) {
         power_up();
         return 0;
@@ -564,8 +564,8 @@ static void one_event(void) {
  * as a bank takes; a copy for each erase, and a line for each put. */
 static void judge_wear(void) {
     long bank_puts = (long)part.lines - CELLS - 1;
-    expect(erases * bank_puts <= starts * bank_puts + puts, "banks are erased too often");
-    expect(programs <= erases * (CELLS + 1) + puts, "too many lines are programmed");
+    expect(erases * bank_puts <= starts * bank_puts + puts_begun, "banks are erased too often");
+    expect(programs <= erases * (CELLS + 1) + puts_begun, "too many lines are programmed");
 }
 
 int main(int count, char **words) {
