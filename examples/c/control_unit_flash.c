@@ -596,7 +596,8 @@ int main(int count, char **words) {
         one_event();
         n++;
     }
-    judge_wear();
+    if (broken == KEEPS_ALL)
+        judge_wear();
     if (views != NULL)
         fclose(views);
     printf("%ld events: sent %ld, accepted %ld, plans done %ld, keys loaded %ld; starts %ld, power cuts %ld, failures "

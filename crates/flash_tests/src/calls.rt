@@ -250,7 +250,7 @@ fn cost(row: &CostRow) -> Result<Done, FlashRefusal> {
         work(&mut flash, &mut cells, &mut scratch, &mut banks)?;
     }
     for k in 0..row.puts {
-        put(&mut flash, &cells, 0, &[k as u8; 32])?;
+        put(&mut flash, &cells, 0, &[(k % 256) as u8; 32])?;
         work(&mut flash, &mut cells, &mut scratch, &mut banks)?;
     }
     Ok(banks.done)

@@ -1,6 +1,7 @@
 //! Starts of a store, and what it refuses.
-ghost use Rattle.std.specs.Prelude.{◌≡◌, ◌<◌, IfOk};
+ghost use Rattle.std.specs.Prelude.{◌≡◌, ◌<◌, length, IfOk};
 ghost use Rattle.flash_places.specs.MemFlash.{memory_state};
+ghost use Rattle.flash_log.specs.Stores.{IsStoreOf};
 
 use flash_log::{AttachFault, FlashLog, PutFault, attach, format};
 use flash_places::{Answer, FlashDevice, FlashLine, MemFlash};
@@ -75,21 +76,35 @@ fn a_store_waits_for_a_start_after_a_failed_put(rt: HostRuntime) -> Result<(), F
     Ok(())
 }
 
-/// Puts six times, each time a second call failing: five places stand behind a copy of two cells.
-fn put_while_second_calls_fail(
+/// Puts while a second call fails.
+fn put_alone(
     flash: &mut MemFlash,
-) -> Result<[Result<(), PutFault>; 6], AttachFault>
+    store: &mut FlashLog,
+    cells: &mut [[u8; 32]],
+) -> Result<(), PutFault>
+    requires two { length cells.old ≡ 2 }
+    requires store { IsStoreOf store.old (length cells.old) (memory_state flash.old) }
+    ensures store { IsStoreOf store.new (length cells.old) (memory_state flash.new) }
+{
+    flash.fail_at(2);
+    store.put(flash, cells, 1, &[7; 32])
+}
+
+/// Puts so six times: five places stand behind a copy of two cells.
+fn put_six(flash: &mut MemFlash) -> Result<[Result<(), PutFault>; 6], AttachFault>
     requires { 3 < (memory_state flash.old).places }
 {
     let mut cells = [[0; 32]; 2];
     let mut scratch = [[0; 32]; 2];
-    let mut answers = [Ok(()); 6];
     let mut store = attach(flash, &mut cells, &mut scratch)?;
-    for k in 0..6usize {
-        flash.fail_at(2);
-        answers[k] = store.put(flash, &mut cells, 1, &[7; 32]);
-    }
-    Ok(answers)
+    Ok([
+        put_alone(flash, &mut store, &mut cells),
+        put_alone(flash, &mut store, &mut cells),
+        put_alone(flash, &mut store, &mut cells),
+        put_alone(flash, &mut store, &mut cells),
+        put_alone(flash, &mut store, &mut cells),
+        put_alone(flash, &mut store, &mut cells),
+    ])
 }
 
 #[test]
@@ -97,7 +112,7 @@ fn a_put_is_one_call_unless_the_bank_is_full(rt: HostRuntime) -> Result<(), Fail
     let mut flash = fresh_flash(rt.alloc())?;
     let one = Ok(());
     let ends = [one, one, one, one, one, Err(PutFault::Failed)];
-    assert_eq!(rt; put_while_second_calls_fail(&mut flash), Ok(ends));
+    assert_eq!(rt; put_six(&mut flash), Ok(ends));
     Ok(())
 }
 
