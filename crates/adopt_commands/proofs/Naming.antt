@@ -47,8 +47,8 @@ makes_nothing may opened made = makes_none may opened opened made made refl refl
 
 pub none_without : (may : Bool) (before after made_before made_after : List (List ℕ)) → MakesOpened may before after made_before made_after → may ≡ false
     → made_after ≡ made_before
-none_without true before after made_before made_after (words, opened, made) no = absurd (cc)
-none_without false before after made_before made_after (words, opened, made) no = made ∙ append-nil made_before
+none_without true before after made_before made_after (words, opened, made) none = absurd (cc)
+none_without false before after made_before made_after (words, opened, made) none = made ∙ append-nil made_before
 
 pub none_unopened : (may : Bool) (before after made_before made_after : List (List ℕ)) → MakesOpened may before after made_before made_after → after ≡ before
     → made_after ≡ made_before
