@@ -1,5 +1,5 @@
 -- What is kept by each line and each pause holds of a stream
-use Rattle.std.proofs.Common.{◌≡◌, ℕ, ◌+◌, ◌≤◌, List, [], ◌∷◌, ◌++◌, length, sym, subst, append-nil, append_assoc, length-append}
+use Rattle.std.proofs.Common.{◌≡◌, ℕ, ◌≤◌, List, [], ◌∷◌, ◌++◌, length, sym, subst, append-nil, append_assoc, length-append}
 use Rattle.std.specs.Prelude.{Result, Ok}
 use Rattle.line_stream.specs.Pieces.{log_lines}
 use Rattle.line_stream.specs.Streams.{TakesNext, TakesLines, Paused, before_log, after_piece}

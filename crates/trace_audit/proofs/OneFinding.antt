@@ -1,5 +1,5 @@
 -- At most one list of findings is found of the lines of a log
-use Rattle.std.proofs.Common.{◌≡◌, ◌+◌, List, [], ◌∷◌, ◌++◌, length, refl, sym, ap, ◌∙◌, subst, arith}
+use Rattle.std.proofs.Common.{◌≡◌, List, [], ◌∷◌, ◌++◌, length, refl, sym, ap, ◌∙◌, subst, arith}
 use Rattle.std.proofs.lemmas.List.{same_from_push, length_push}
 use Rattle.text_lines.specs.Lines.{TextLine}
 use Rattle.can_logs.specs.declared.map_lines.MapLine.{MapLine}

@@ -1,5 +1,5 @@
-use Rattle.std.proofs.Common.{◌≡◌, length, map, ap, refl, arith}
-use Rattle.std.specs.Prelude.{string_bytes, Some}
+use Rattle.std.proofs.Common.{◌≡◌, length, ap, refl, arith}
+use Rattle.std.specs.Prelude.{Some}
 use Rattle.bus_port.specs.MemSource.{CleanSourceState, clean_source}
 use Rattle.program_edge.specs.Inputs.{Reading}
 use Rattle.program_edge.proofs.CallerLemmas.{Offers-clean}
