@@ -19,3 +19,4 @@ pub mod BoundLaws
 pub mod InputLaws
 pub mod FlashLaws
 pub mod FreshnessLaws
+pub mod CandidateLaws

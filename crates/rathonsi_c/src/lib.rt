@@ -11,6 +11,7 @@ mod aes;
 mod boot;
 mod flash;
 mod freshness;
+pub mod freshness_laws;
 mod growing;
 pub mod growth_laws;
 mod images;
