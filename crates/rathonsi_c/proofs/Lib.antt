@@ -20,3 +20,4 @@ pub mod InputLaws
 pub mod FlashLaws
 pub mod FreshnessLaws
 pub mod CandidateLaws
+pub mod SlotMacLaws
