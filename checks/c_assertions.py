@@ -141,7 +141,7 @@ def parameters(params, known):
 
 def headers():
     """The prototypes of the headers: name, the names of its parameters."""
-    whole = "".join(read(os.path.join(TOP, "include", name)) for name in ("rathonsi.h", "rathonsi_store.h", "rathonsi_flash.h"))
+    whole = "".join(read(os.path.join(TOP, "include", name)) for name in ("rathonsi.h", "rathonsi_store.h", "rathonsi_freshness.h", "rathonsi_flash.h"))
     whole = re.sub(r"^#.*?[^\\]$", "", re.sub(r"/\*.*?\*/", " ", whole, flags=re.S), flags=re.M | re.S)
     return {name: [re.sub(r"\[.*\]", "", it).split()[-1].lstrip("*") for it in params.split(",") if it.strip() != "void"]
             for name, params in re.findall(r"\w+\s+(rathonsi_\w+)\(([^)]*)\)\s*;", whole)}
@@ -168,7 +168,7 @@ def main():
         print(line, file=sys.stderr)
     if wrong:
         sys.exit(1)
-    lines = ["/* checks/c_assertions.py wrote this from the crate rathonsi_c. */", "#include <stddef.h>", '#include "rathonsi_flash.h"', ""]
+    lines = ["/* checks/c_assertions.py wrote this from the crate rathonsi_c. */", "#include <stddef.h>", '#include "rathonsi_flash.h"', '#include "rathonsi_freshness.h"', ""]
     lines += [f'_Static_assert(RATHONSI_{name} == {number}, "{name}");' for name, number in constants().items()]
     lines += ["#define COUNTED(name, number) + (RATHONSI_##name == (number))",
               f'_Static_assert(0 RATHONSI_STATUSES(COUNTED) == {len(constants())}, "RATHONSI_STATUSES");']

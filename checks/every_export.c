@@ -8,6 +8,7 @@
 #include <string.h>
 
 #include "rathonsi_flash.h"
+#include "rathonsi_freshness.h"
 
 enum { ROUTES = 3, SIZE = RATHONSI_STORE_SIZE(ROUTES), MORE = 68, SLOTS = 14, STATUSES = 20 };
 enum { CELLS = RATHONSI_FLASH_CELLS(ROUTES), LINES = CELLS + 6, BANKS = 3 };
@@ -92,8 +93,9 @@ static void add_plan(void) {
 }
 
 static void add_route(const RathonsiRoute *it) {
-    const uint64_t numbers[9] = {it->counter, it->data_id, it->cell, it->reserve, it->window, it->slot, it->direction, it->booted, it->opened};
-    for (int i = 0; i < 9; i++) add_number(numbers[i]);
+    const uint64_t numbers[10] = {it->counter,   it->data_id, it->cell,   it->reserve, it->window, it->slot,
+                                  it->direction, it->booted,  it->opened, it->freshness_only};
+    for (int i = 0; i < 10; i++) add_number(numbers[i]);
     add(it->unused, sizeof it->unused);
 }
 
@@ -347,6 +349,26 @@ static void step(RathonsiRoute *it, size_t n, size_t size) {
     add_verdict(rathonsi_receive_mac(it, image, size, pdu, n + RATHONSI_TRAILER, &input, mac));
 }
 
+/* The calls for another SecOC module, mostly on a route that is for these alone. */
+static void manage(RathonsiRoute *it, size_t size) {
+    uint64_t told = 7, sent = it->counter + 1 + below(300);
+    const uint8_t bits = (uint8_t)(one_in(8) ? below(256) : 1 + below(64));
+    if (bits != 0 && bits < 64 && !one_in(9)) sent &= (UINT64_C(1) << bits) - 1;
+    it->freshness_only = (uint8_t)(one_in(30) ? below(256) : !one_in(5));
+    if (status(rathonsi_freshness_next(it, image, size, &told)) == RATHONSI_RESERVE) reserve(it, it->counter + 1, SIZE);
+    add_number(told);
+    if (status(rathonsi_freshness_candidate(it, image, size, sent, bits, &told)) == RATHONSI_RESERVE) reserve(it, told, SIZE);
+    add_number(told);
+    if (one_in(3)) told = freshness();
+    status(rathonsi_freshness_accept(it, image, size, told));
+    it->freshness_only = 0;
+    const uint8_t slot = (uint8_t)(one_in(6) ? below(20) : 4 + below(3)), booted = (uint8_t)below(one_in(9) ? 4 : 2);
+    const size_t n = below(100);
+    fill(text, n);
+    status(rathonsi_slot_mac(slot, booted, image, size, text, n, mac));
+    add(mac, 16);
+}
+
 static void boot(size_t size) {
     RathonsiBoot booting;
     RathonsiMac of;
@@ -372,7 +394,8 @@ static void call_store(void) {
     size_t n = one_in(12) ? below(70) : 1 + below(60), size = one_in(60) ? below(SIZE + MORE + 1) : SIZE;
     if (one_in(60)) damage_route(it);
     if (plan.writes[1].length != 0 && one_in(2)) finish();
-    switch (below(13)) {
+    switch (below(14)) {
+    case 13: manage(it, size); break;
     case 0: status(rathonsi_route_open(it, image, size)); break;
     case 8: tell(it, size); break;
     case 9: grow(); break;

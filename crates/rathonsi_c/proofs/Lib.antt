@@ -19,3 +19,5 @@ pub mod BoundLaws
 pub mod InputLaws
 pub mod FlashLaws
 pub mod FreshnessLaws
+pub mod CandidateLaws
+pub mod SlotMacLaws

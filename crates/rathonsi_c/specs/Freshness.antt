@@ -1,12 +1,15 @@
 -- A freshness manager: freshness is given and taken, and another module makes and checks the authenticators (AUTOSAR
 -- SecOC, interface to the freshness manager).
-use Rattle.std.specs.Prelude.{ℤ, ◌≡◌, ℕ, ◌+◌, ◌%◌, ◌^◌, ◌<◌, ◌≤◌, List}
+use Rattle.std.specs.Prelude.{ℤ, ◌≡◌, ℕ, zero, suc, ◌+◌, ◌%◌, ◌^◌, ◌<◌, ◌≤◌, List}
 use Rattle.freshness_routes.specs.declared.routes.Direction.TheVariants.{Receives}
+use Rattle.store_plan.specs.declared.planning.Plan.{Plan}
 use Rattle.rathonsi_c.specs.declared.TheConstants.{BAD_VALUE, FRESHNESS_FAILURE, RESERVE}
 use Rattle.rathonsi_c.specs.declared.route.RathonsiRoute.{RathonsiRoute}
 use Rattle.rathonsi_c.specs.Causes.{IfCause, IsDone}
-use Rattle.rathonsi_c.specs.Routes.{IsFreshnessOnly, BoundBelow, status_alone}
+use Rattle.rathonsi_c.specs.Images.{ImageBound}
+use Rattle.rathonsi_c.specs.Routes.{IsFreshnessOnly, BoundBelow, BoundCovers, Reserves, status_alone}
 use Rattle.rathonsi_c.specs.Steps.{BoundAnswers, NextFreshness}
+use Rattle.rathonsi_c.specs.Lives.{PlanDone}
 
 -- the freshness is one to the window above the counter
 pub record WithinWindow (counter window freshness : ℕ) : Type 0 where
@@ -52,3 +55,30 @@ AcceptAnswers r image freshness status =
     (BoundAnswers status_alone r Receives image
     (IfCause (¬ WithinWindow r.counter r.window freshness) FRESHNESS_FAILURE
     (IfCause (BoundBelow r image Receives freshness) RESERVE IsDone))) status
+
+-- ---- what candidates make a device write
+
+-- a candidate is told that the bound doesn't cover; the caller reserves it, and does the plan
+pub record WritesForCandidate (r : RathonsiRoute) (image next : List ℕ) : Type 0 where
+  pub truncated : ℕ
+  pub bits : ℕ
+  pub freshness : ℕ
+  pub old : Plan
+  pub plan : Plan
+  pub emptied : Plan
+  pub answer : CandidateAnswers r image truncated bits RESERVE
+  pub ahead : AheadWithBits r.counter r.window bits truncated freshness
+  pub reserved : Reserves r image freshness old plan
+  pub done : PlanDone image plan next emptied
+
+-- every bound of the route in the first image is covered in the second
+abbrev pub KeepsBound : RathonsiRoute → List ℕ → List ℕ → Type 0
+KeepsBound r image later =
+    (bound : ℕ) → ImageBound image r.cell r.data_id Receives bound → BoundCovers r later Receives bound
+
+-- so many times, one after the other; whatever happens in between lowers no bound
+abbrev pub CandidateWrites : ℕ → RathonsiRoute → List ℕ → Type 0
+CandidateWrites zero r image = Unit {0}
+CandidateWrites (suc n) r image =
+    (next : List ℕ) × (WritesForCandidate r image next
+    × ((later : List ℕ) × (KeepsBound r next later × CandidateWrites n r later)))

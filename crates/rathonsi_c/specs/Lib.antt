@@ -17,3 +17,4 @@ pub mod Pieces
 pub mod Booting
 pub mod Flash
 pub mod Freshness
+pub mod SlotMacs

@@ -19,7 +19,8 @@ blank_route = record {
   direction = 0;
   booted = 0;
   opened = 0;
-  unused = replicate 4 0;
+  freshness_only = 0;
+  unused = replicate 3 0;
 }
 
 -- the routes of a list by their numbers

@@ -11,6 +11,7 @@ mod aes;
 mod boot;
 mod flash;
 mod freshness;
+pub mod freshness_laws;
 mod growing;
 pub mod growth_laws;
 mod images;
@@ -23,6 +24,7 @@ mod refusals;
 mod route;
 mod secoc;
 mod she;
+mod slot_macs;
 mod slots;
 mod states;
 pub mod step_laws;
@@ -60,6 +62,7 @@ pub use she::{
     RathonsiReply, RathonsiRequest, RathonsiUpdate, rathonsi_she_confirm, rathonsi_she_derive,
     rathonsi_she_make_update, rathonsi_she_read_update,
 };
+pub use slot_macs::rathonsi_slot_mac;
 pub use slots::{rathonsi_slot_confirm, rathonsi_slot_load};
 pub use states::{
     RathonsiRouteState, RathonsiSlotState, VERSION, rathonsi_route_state, rathonsi_slot_state,

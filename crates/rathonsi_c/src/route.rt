@@ -103,8 +103,8 @@ pub fn bound_of(route: &RathonsiRoute, direction: Direction, image: &[u8]) -> Re
     }
 }
 
-// The key of this slot, if it may be used for a MAC.
-fn key_of(image: &[u8], slot: u8, booted: bool) -> Result<Block, Refusal>
+/// The key of this slot, if it may be used for a MAC.
+pub fn key_of(image: &[u8], slot: u8, booted: bool) -> Result<Block, Refusal>
     ensures key { IfOk result (ImageKey image.now slot booted) }
     ensures refused { IfErr result (KeyRefused image.now slot booted) }
 {
