@@ -9,7 +9,7 @@
 
 #include "rathonsi_flash.h"
 
-enum { ROUTES = 3, SIZE = RATHONSI_STORE_SIZE(ROUTES), MORE = 68, SLOTS = 14, STATUSES = 20 };
+enum { ROUTES = 3, SIZE = RATHONSI_STORE_SIZE(ROUTES), MORE = 68, SLOTS = 14, STATUSES = 21 };
 enum { CELLS = RATHONSI_FLASH_CELLS(ROUTES), LINES = CELLS + 6, BANKS = 3 };
 
 static uint8_t image[SIZE + 2 * MORE], key[16], uid[15], text[320], pdu[80], payload[80], mac[16], iv[16], keys[SLOTS][16];

@@ -197,6 +197,9 @@ extern "C" {
 /* A fault of the configuration: another cell has this Data ID and direction already. In a second
  * cell its freshness would begin again. */
 #define RATHONSI_DUPLICATE_ID 19
+/* The plan is an old copy: once done, it would lower a bound, or change a slot that holds a key
+ * without raising its counter. */
+#define RATHONSI_STALE_PLAN 20
 
 /* All statuses of all headers, for a table of names: RATHONSI_STATUSES(X) is X(name, number) for
  * each of them. Of X(name, number) as `case number: return #name;` comes a function that names
@@ -206,7 +209,7 @@ extern "C" {
     X(BAD_ID, 5) X(BAD_MAC, 6) X(NO_STORE, 7) X(DAMAGED, 8) X(BUSY, 9) X(RESERVE, 10) \
     X(EXHAUSTED, 11) X(KEY_EMPTY, 12) X(KEY_INVALID, 13) X(KEY_NOT_AVAILABLE, 14) \
     X(KEY_WRITE_PROTECTED, 15) X(KEY_UPDATE_ERROR, 16) X(WRONG_CELL, 17) X(FAILED, 18) \
-    X(DUPLICATE_ID, 19)
+    X(DUPLICATE_ID, 19) X(STALE_PLAN, 20)
 
 /* A store is a twin store of version 1. It has a header, fourteen cells of key slots, and after
  * them a cell for each route, up to 256. */
@@ -380,7 +383,10 @@ int32_t rathonsi_store_grow(const RathonsiRoute *route, uint64_t bound, const ui
 /* By this call the caller says that all writes of the plan are durable. The call brings the image
  * up to date, and empties the plan. The image stays as it is if the plan is empty.
  * RATHONSI_BAD_VALUE: a write with a length above 0 reaches beyond the image, or a write has more
- * than 40 bytes. */
+ * than 40 bytes.
+ * RATHONSI_STALE_PLAN: of a cell that the header counts. A plan that a call made for this image is
+ * never stale. This is proved. If the writes of a stale plan are on the device, all begins again as
+ * at power-up: what the plan took back is lost. */
 RATHONSI_CHECKED
 int32_t rathonsi_store_done(uint8_t *image, size_t image_length, RathonsiPlan *plan);
 

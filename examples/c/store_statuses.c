@@ -240,6 +240,48 @@ static void beyond(struct unit *unit) {
 }
 static void too_many(struct unit *unit) { unit->plan.writes[0].length = 41; }
 
+/* The first plan of several, each done but perhaps the first. */
+static RathonsiPlan first_plan(struct unit *unit, enum call call, int plans, int first_is_done) {
+    RathonsiPlan first = unit->plan;
+    for (int i = 0; i < plans; i++) {
+        unit->freshness = 6 + 20u * (unsigned)i;
+        if (call == LOAD)
+            request_of(unit, SLOT, 1, master, 2 + (uint32_t)i);
+        expect(call_on(unit, call), RATHONSI_OK, "a plan before an old one");
+        if (i == 0)
+            first = unit->plan;
+        if (i == 0 && !first_is_done)
+            memset(&unit->plan, 0, sizeof unit->plan);
+        else
+            expect(call_on(unit, DONE), RATHONSI_OK, "done before an old one");
+    }
+    return first;
+}
+
+static void same_bound(struct unit *unit) { unit->plan = first_plan(unit, RESERVE, 1, 1); }
+static void old_bound(struct unit *unit) { unit->plan = first_plan(unit, RESERVE, 3, 1); }
+static void dropped_bound(struct unit *unit) { unit->plan = first_plan(unit, RESERVE, 2, 0); }
+static void same_key(struct unit *unit) { unit->plan = first_plan(unit, LOAD, 1, 1); }
+static void old_key(struct unit *unit) { unit->plan = first_plan(unit, LOAD, 3, 1); }
+static void dropped_key(struct unit *unit) { unit->plan = first_plan(unit, LOAD, 2, 0); }
+static void gate_of(struct unit *unit, uint32_t offset) { /* of a cell whose second copy has the bound that was put last */
+    first_plan(unit, RESERVE, 1, 1);
+    unit->plan.writes[2].offset = offset + 68 * 14;
+    unit->plan.writes[2].length = 1;
+}
+static void closed_gate(struct unit *unit) { gate_of(unit, 66); }
+static void other_gate(struct unit *unit) { gate_of(unit, 32); }
+static void no_header(struct unit *unit) {
+    closed_gate(unit);
+    unit->image[0] ^= 1;
+}
+static void over_two_cells(struct unit *unit) {
+    first_plan(unit, RESERVE, 1, 1);
+    unit->plan.writes[0].offset = 70 + 68 * 14;
+    unit->plan.writes[0].length = 40;
+}
+static void over_the_header(struct unit *unit) { unit->plan.writes[0].length = 32; }
+
 static const struct {
     enum call call;
     int route;
@@ -334,6 +376,17 @@ static const struct {
     {DONE, 0, nothing, RATHONSI_OK, "an empty plan"},
     {DONE, 0, beyond, RATHONSI_BAD_VALUE, "a write beyond the image"},
     {DONE, 0, too_many, RATHONSI_BAD_VALUE, "a write of 41 bytes"},
+    {DONE, 0, same_bound, RATHONSI_OK, "the plan of a bound again"},
+    {DONE, 0, old_bound, RATHONSI_STALE_PLAN, "the plan of a lower bound"},
+    {DONE, 0, dropped_bound, RATHONSI_STALE_PLAN, "a plan that was dropped, of a lower bound"},
+    {DONE, 0, same_key, RATHONSI_OK, "the plan of a key again"},
+    {DONE, 0, old_key, RATHONSI_STALE_PLAN, "the plan of an older key"},
+    {DONE, 0, dropped_key, RATHONSI_STALE_PLAN, "a plan that was dropped, of an older key"},
+    {DONE, 0, closed_gate, RATHONSI_STALE_PLAN, "a plan that closes the gate of the copy that counts"},
+    {DONE, 0, other_gate, RATHONSI_OK, "a plan that closes the other gate"},
+    {DONE, 0, no_header, RATHONSI_OK, "the first without a header"},
+    {DONE, 0, over_two_cells, RATHONSI_STALE_PLAN, "a plan over the end of a cell"},
+    {DONE, 0, over_the_header, RATHONSI_OK, "a plan over the header alone"},
     {CHECK, 0, nothing, RATHONSI_OK, "a store"},
     {CHECK, 0, odd_image, RATHONSI_BAD_LENGTH, "a byte less"},
     {CHECK, 0, other_header, RATHONSI_NO_STORE, "another header"},

@@ -16,3 +16,4 @@ pub mod Growing
 pub mod Pieces
 pub mod Booting
 pub mod Flash
+pub mod Stale

@@ -24,6 +24,7 @@ mod secoc;
 mod she;
 mod slots;
 mod states;
+mod stale;
 pub mod step_laws;
 mod steps;
 mod store;
@@ -129,3 +130,6 @@ pub const FAILED: i32 = 18;
 
 /// Another cell has this Data ID and direction already.
 pub const DUPLICATE_ID: i32 = 19;
+
+/// The plan would take back what the store has counted: it is an old copy.
+pub const STALE_PLAN: i32 = 20;
