@@ -18,3 +18,5 @@ pub mod SlotLaws
 pub mod BoundLaws
 pub mod InputLaws
 pub mod FlashLaws
+pub mod StaleLaws
+pub mod StalePlans

@@ -1,15 +1,26 @@
 -- What the writes of a plan make of a cell.
-use Rattle.std.proofs.Common.{◌≡◌, ℕ, ◌+◌, ◌-◌, ◌<◌, ◌≤◌, ◌⊎◌, inl, inr, Some, None, List, length, take, drop, get_or, refl, sym, ap, subst, ◌∙◌, arith, length-take, length-drop}
-use Rattle.std.proofs.lemmas.Bool.{cases_lt}
-use Rattle.std.proofs.lemmas.List.{ext_get_or, get_or-take, get_or-drop}
+use Rattle.std.proofs.Common.{◌≡◌, ℕ, ◌+◌, ◌-◌, ◌<◌, ◌≤◌, ◌⊎◌, inl, inr, Some, None, List, length, take, drop, get_or, Bool, true, false, refl, sym, ap, subst, ◌∙◌, arith, rules, length-take, length-drop}
+use Rattle.std.proofs.lemmas.Bool.{cases_lt, false≢true}
+use Rattle.std.proofs.lemmas.List.{ext_get_or, get_or-take, get_or-drop, places, same_lists}
+use Rattle.std.proofs.lemmas.Option.{none-some, same_Some}
+use borrow.Rule.Slice.PartMut.{put_mid}
 use Rattle.cut_disk.specs.Images.{splice}
 use Rattle.cut_disk.proofs.CallerLemmas.{length-splice, get_or-splice_before, get_or-splice_in, get_or-splice_behind}
 use Rattle.cell_store.specs.Layout.{part}
 use Rattle.cell_store.specs.Twin.{twin_size, first_at, second_at, cell_of, cell_at}
 use Rattle.cell_store.proofs.CallerLemmas.{part-part, part-same, SameOutside-splice, splice-none}
+use Rattle.key_slots.specs.declared.memory.Slot.{Slot}
+use Rattle.key_slots.specs.declared.memory.Flags.{Flags}
+use Rattle.key_slots.specs.declared.memory.Slot.TheVariants.{Empty, Filled}
+use Rattle.slot_disk.specs.Cell.{HoldsSlot}
+use Rattle.slot_disk.proofs.CallerLemmas.{one_slot}
+use Rattle.freshness_routes.specs.declared.routes.Direction.{Direction}
+use Rattle.freshness_store.specs.Bound.{HoldsBound, HoldsNoBound}
+use Rattle.freshness_store.proofs.CallerLemmas.{one_bound}
 use Rattle.store_plan.specs.declared.planning.Plan.{Plan}
 use Rattle.store_plan.specs.declared.planning.Write.{Write}
 use Rattle.store_plan.specs.Plans.{WriteFits, PlanFits, bytes_written, applied, applied_write}
+use Rattle.rathonsi_c.specs.Stale.{BoundFalls, HoldsKey, KeyFalls}
 
 -- ---- one write
 
@@ -94,6 +105,20 @@ module _ (w : Write) (x : List ℕ) (at first last : ℕ) (f : WriteFits (length
       let one = length-splice (first - at) new (part at 68 x) inside in
       ext_get_or 0 _ _ (omega (arith, one, whole, length-take 68 (drop at (applied_write w x)), length-drop at (applied_write w x), write-length w x f)) (λ k h. each k (omega (arith, one, whole)))
 
+-- a copy into the middle of 68 bytes is what they are with the write
+put_mid-splice : (at k : ℕ) (x new : List ℕ) → k ≡ length new → at + length new ≤ length x → put_mid at k x new ≡ splice at new x
+unfolding splice
+put_mid-splice at k x new same inside = same_lists _ _ (search (rules, places)) (λ i d h. grind (arith, places))
+
+pub put_mid-is : (first last at from : ℕ) (bytes x pair copied : List ℕ) → at ≤ first → from ≤ first → first < last → length bytes ≡ 40 → last ≤ from + 40 → last ≤ at + 68 → at + 68 ≤ length x → pair ≡ part at 68 x
+    → copied ≡ take (last - from - (first - from)) (drop (first - from) bytes)
+    → put_mid (first - at) (last - at - (first - at)) pair copied ≡ splice (first - at) (take (last - from - (first - from)) (drop (first - from) bytes)) (part at 68 x)
+put_mid-is first last at from bytes x pair copied after since some forty upto within-part room e is =
+    let many : length copied ≡ last - first = ap length is ∙ omega (arith, length-take (last - from - (first - from)) (drop (first - from) bytes), length-drop (first - from) bytes) in
+    let whole : length pair ≡ 68 = ap length e ∙ omega (arith, length-take 68 (drop at x), length-drop at x) in
+    put_mid-splice (first - at) (last - at - (first - at)) pair copied (omega arith) (omega arith)
+    ∙ (ap (λ (b : List ℕ). splice (first - at) b pair) is ∙ ap (λ (y : List ℕ). splice (first - at) (take (last - from - (first - from)) (drop (first - from) bytes)) y) e)
+
 -- ---- a plan
 
 -- the same 68 bytes are the same cell
@@ -130,3 +155,82 @@ module _ (plan : Plan) (x : List ℕ) (f : PlanFits (length x) plan) where
 
   pub plan-long : length (applied plan x) ≡ length x
   plan-long = write-length plan.third twice fits-third ∙ twice-long
+
+  -- what leaves 68 bytes of each image on the way, leaves a cell
+  pub plan-beside : (i : ℕ) → twin_size (i + 1) ≤ length x → part (first_at i) 68 once ≡ part (first_at i) 68 x → part (first_at i) 68 twice ≡ part (first_at i) 68 once
+      → part (first_at i) 68 (applied plan x) ≡ part (first_at i) 68 twice → cell_at (applied plan x) i ≡ cell_at x i
+  plan-beside i room first second third = cell-same x (applied plan x) i room plan-long (third ∙ (second ∙ first))
+
+-- ---- what falls
+
+module _ (before bytes : List ℕ) (id : ℕ) (d : Direction) (bound : ℕ) (held : HoldsBound before id d bound) where
+  pub bound-gone : BoundFalls before None
+  bound-gone = record { id = id; direction = d; bound = bound; held = held; lower = λ after next e h. absurd (none-some after e) }
+
+  pub bound-other : HoldsNoBound bytes id d → BoundFalls before (Some bytes)
+  bound-other none = record { id = id; direction = d; bound = bound; held = held; lower = λ after next e h. absurd (none next (subst (λ (c : List ℕ). HoldsBound c id d next) (sym (same_Some _ _ e)) h)) }
+
+  pub bound-lower : (next : ℕ) → HoldsBound bytes id d next → next < bound → BoundFalls before (Some bytes)
+  bound-lower next new below = record {
+    id = id;
+    direction = d;
+    bound = bound;
+    held = held;
+    lower = λ after other e h.
+        let same : next ≡ other = (one_bound bytes id id d d next other new (subst (λ (c : List ℕ). HoldsBound c id d other) (sym (same_Some _ _ e)) h)).2 in
+        omega arith;
+  }
+
+  pub bound-stays : (next : ℕ) → HoldsBound bytes id d next → bound ≤ next → BoundFalls before (Some bytes) → ⊥
+  bound-stays next new upto falls =
+      let one = one_bound before id falls.id d falls.direction bound falls.bound held falls.held in
+      let there = subst (λ i. HoldsBound bytes i falls.direction next) one.0 (subst (λ (e : Direction). HoldsBound bytes id e next) one.1 new) in
+      let below = falls.lower bytes next refl there in
+      let same = one.2 in
+      omega arith
+
+is-filled : Slot → Bool
+is-filled Empty = false
+is-filled (Filled key counter flags) = true
+
+counter-of : Slot → ℕ
+counter-of Empty = 0
+counter-of (Filled key counter flags) = counter
+
+pub empty-filled : (key : List ℕ) (counter : ℕ) (flags : Flags) → Empty ≡ Filled key counter flags → ⊥
+empty-filled key counter flags e = absurd (false≢true (ap is-filled e))
+
+-- a cell holds one key
+pub one_key : (cell : List ℕ) (a b : ℕ) → HoldsKey cell a → HoldsKey cell b → a ≡ b
+one_key cell a b h k = ap counter-of (one_slot cell (Filled h.key a h.flags) (Filled k.key b k.flags) h.held k.held)
+
+module _ (before bytes : List ℕ) (counter : ℕ) (held : HoldsKey before counter) where
+  pub key-gone : KeyFalls before None
+  key-gone = record { counter = counter; held = held; changed = λ e. none-some before e; lower = λ after next e h. absurd (none-some after e) }
+
+  pub key-same : KeyFalls before (Some before) → ⊥
+  key-same falls = falls.changed refl
+
+  pub key-none : ((next : ℕ) → ¬ HoldsKey bytes next) → (bytes ≡ before → ⊥) → KeyFalls before (Some bytes)
+  key-none none other = record {
+    counter = counter;
+    held = held;
+    changed = λ e. other (same_Some _ _ e);
+    lower = λ after next e h. absurd (none next (subst (λ (c : List ℕ). HoldsKey c next) (sym (same_Some _ _ e)) h));
+  }
+
+  pub key-lower : (next : ℕ) → HoldsKey bytes next → next ≤ counter → (bytes ≡ before → ⊥) → KeyFalls before (Some bytes)
+  key-lower next new upto other = record {
+    counter = counter;
+    held = held;
+    changed = λ e. other (same_Some _ _ e);
+    lower = λ after n e h.
+        let same = one_key bytes next n new (subst (λ (c : List ℕ). HoldsKey c n) (sym (same_Some _ _ e)) h) in
+        omega arith;
+  }
+
+  pub key-higher : (next : ℕ) → HoldsKey bytes next → counter < next → KeyFalls before (Some bytes) → ⊥
+  key-higher next new above falls =
+      let below = falls.lower bytes next refl new in
+      let same = one_key before counter falls.counter held falls.held in
+      omega arith

@@ -25,6 +25,7 @@ mod she;
 mod slots;
 mod states;
 mod stale;
+pub mod stale_laws;
 pub mod step_laws;
 mod steps;
 mod store;

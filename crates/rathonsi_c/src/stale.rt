@@ -1,7 +1,7 @@
 // Whether a plan would take back what the store has counted, as an old copy of a plan does.
 ghost use Rattle.std.specs.Prelude.{◌≡◌, ◌↔◌, ◌+◌, ◌<◌, ◌≤◌, ℕ, List, length, false, IsTrue, IfSome, IfNone};
 ghost use Rattle.cell_store.specs.Layout.{part};
-ghost use Rattle.cell_store.specs.Twin.{twin_size, cell_at};
+ghost use Rattle.cell_store.specs.Twin.{twin_size, first_at, cell_at};
 ghost use Rattle.store_plan.specs.Plans.{WriteFits, PlanFits, applied, applied_write};
 ghost use Rattle.rathonsi_c.specs.Stale.{IsCounted, HoldsKey, BoundFalls, KeyFalls, CellFalls, IsStale};
 
@@ -12,11 +12,12 @@ use key_slots::Slot;
 use slot_disk::slot_in;
 use store_plan::{Plan, Write, cell_in, count_in};
 
-// Writes over these bytes, which an image has from `at` on, what a write of a plan has there.
-fn overlay(pair: &mut [u8; 68], at: usize, write: &Write)
-    ensures { (x : List ℕ) → at + 68 ≤ length x → WriteFits (length x) write.now → pair.old ≡ part at 68 x
-        → pair.new ≡ part at 68 (applied_write write.now x) }
+// Writes over the bytes of a cell what a write of a plan has there.
+fn overlay(pair: &mut [u8; 68], cell: u16, write: &Write)
+    ensures { (x : List ℕ) → first_at cell + 68 ≤ length x → WriteFits (length x) write.now
+        → pair.old ≡ part (first_at cell) 68 x → pair.new ≡ part (first_at cell) 68 (applied_write write.now x) }
 {
+    let at = 32 + 68 * cell as usize;
     let from = write.offset as usize;
     let end = from + write.size as usize;
     let first = if from < at { at } else { from };
@@ -34,22 +35,29 @@ fn cell_after(image: &[u8], plan: &Plan, cell: u16) -> Option<[u8; 32]>
     let at = 32 + 68 * cell as usize;
     let mut pair = [0; 68];
     pair.copy_from_slice(&image[at..at + 68]);
-    overlay(&mut pair, at, &plan.first);
-    overlay(&mut pair, at, &plan.second);
-    overlay(&mut pair, at, &plan.third);
+    overlay(&mut pair, cell, &plan.first);
+    overlay(&mut pair, cell, &plan.second);
+    overlay(&mut pair, cell, &plan.third);
     match held_in(&pair) {
         Some(held) => Some(held.payload),
         None => None,
     }
 }
 
-// Whether a write has a byte from `at` on, among 68.
-fn reaches(write: &Write, at: usize) -> bool
-    ensures { result ≡ false → (x : List ℕ) → at + 68 ≤ length x → WriteFits (length x) write.now
-        → part at 68 (applied_write write.now x) ≡ part at 68 x }
+// Whether a write has a byte in this cell. If it has none, it leaves the bytes of the cell.
+fn reaches(write: &Write, cell: u16) -> bool
+    ensures { result ≡ false → (x : List ℕ) → first_at cell + 68 ≤ length x → WriteFits (length x) write.now
+        → part (first_at cell) 68 (applied_write write.now x) ≡ part (first_at cell) 68 x }
 {
+    let at = 32 + 68 * cell as usize;
     let from = write.offset as usize;
-    write.size != 0 && from < at + 68 && at < from + write.size as usize
+    if write.size == 0 {
+        return false;
+    }
+    if from >= at + 68 {
+        return false;
+    }
+    at < from + write.size as usize
 }
 
 // Whether a write of the plan has a byte in this cell. If none has, the plan leaves the cell as it is.
@@ -57,8 +65,13 @@ fn is_touched(plan: &Plan, cell: u16) -> bool
     ensures { result ≡ false → (x : List ℕ) → PlanFits (length x) plan.now → twin_size (cell + 1) ≤ length x
         → cell_at (applied plan.now x) cell ≡ cell_at x cell }
 {
-    let at = 32 + 68 * cell as usize;
-    reaches(&plan.first, at) || reaches(&plan.second, at) || reaches(&plan.third, at)
+    if reaches(&plan.first, cell) {
+        return true;
+    }
+    if reaches(&plan.second, cell) {
+        return true;
+    }
+    reaches(&plan.third, cell)
 }
 
 // Whether a bound falls.
