@@ -12,7 +12,7 @@ use Rattle.cell_store.proofs.CallerLemmas.{part-part, part-same, SameOutside-spl
 use Rattle.key_slots.specs.declared.memory.Slot.{Slot}
 use Rattle.key_slots.specs.declared.memory.Flags.{Flags}
 use Rattle.key_slots.specs.declared.memory.Slot.TheVariants.{Empty, Filled}
-use Rattle.slot_disk.specs.Cell.{HoldsSlot}
+
 use Rattle.slot_disk.proofs.CallerLemmas.{one_slot}
 use Rattle.freshness_routes.specs.declared.routes.Direction.{Direction}
 use Rattle.freshness_store.specs.Bound.{HoldsBound, HoldsNoBound}

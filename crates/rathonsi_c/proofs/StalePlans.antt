@@ -1,12 +1,12 @@
 -- The plans that the calls make for an image take nothing back of it.
-use Rattle.std.proofs.Common.{ℤ, ◌≡◌, ◌≢◌, ℕ, ◌+◌, ◌<◌, ◌≤◌, ◌⊎◌, inl, inr, Some, Option, List, length, take, drop, refl, sym, ap, subst, ◌∙◌, arith, length-take, length-drop}
+use Rattle.std.proofs.Common.{ℤ, ◌≡◌, ℕ, ◌+◌, ◌<◌, ◌≤◌, ◌⊎◌, inl, inr, Some, Option, List, length, drop, refl, sym, ap, subst, ◌∙◌, arith, length-take, length-drop}
 use Rattle.std.proofs.lemmas.Bool.{cases_lt}
 use Rattle.std.proofs.lemmas.Option.{same_Some}
 use Rattle.cell_store.specs.declared.kinds.Version.TheVariants.{One}
 use Rattle.cell_store.specs.Layout.{twin_layout}
 use Rattle.cell_store.specs.Twin.{twin_size, first_at, cell_at}
 use Rattle.cell_store.proofs.CallerLemmas.{header-number, length-fresh_cell}
-use Rattle.key_slots.specs.declared.memory.Slot.{Slot}
+
 use Rattle.key_slots.specs.declared.memory.Slot.TheVariants.{Filled}
 use Rattle.key_slots.specs.Slots.{slot_at, counter_of}
 use Rattle.memory_update.specs.declared.messages.Request.{Request}

@@ -1,6 +1,6 @@
-use Rattle.std.proofs.Common.{◌≡◌, sym, ◌∙◌}
+use Rattle.std.proofs.Common.{sym, ◌∙◌}
 use Rattle.slot_disk.proofs.CallerLemmas.{one_slot}
-use Rattle.key_slots.specs.declared.memory.Slot.TheVariants.{Empty, Filled}
+use Rattle.key_slots.specs.declared.memory.Slot.TheVariants.{Filled}
 use Rattle.rathonsi_c.proofs.StaleLaws.{empty-filled}
 use Rattle.rathonsi_c.proofs.stale.counter_held.Goals as goal
 
