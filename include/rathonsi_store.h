@@ -224,7 +224,8 @@ typedef struct RathonsiWrite {
     uint8_t bytes[40];
 } RathonsiWrite;
 
-/* A plan is empty if the lengths of its three writes are 0, as they are once it is zeroed. */
+/* A plan is empty if the lengths of its three writes are 0, as they are once it is zeroed. Offsets
+ * and bytes play no part then, in any call. rathonsi_store_done zeroes all of it. */
 typedef struct RathonsiPlan {
     RathonsiWrite writes[3];
 } RathonsiPlan;

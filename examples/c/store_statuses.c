@@ -280,6 +280,12 @@ static void over_two_cells(struct unit *unit) {
     unit->plan.writes[0].offset = 70 + 68 * 14;
     unit->plan.writes[0].length = 40;
 }
+static void bytes_alone(struct unit *unit) { /* a plan is empty by its lengths */
+    for (int i = 0; i < 3; i++) {
+        unit->plan.writes[i].offset = 77;
+        unit->plan.writes[i].bytes[39 - i] = 7;
+    }
+}
 static void over_the_header(struct unit *unit) { unit->plan.writes[0].length = 32; }
 
 static const struct {
@@ -376,6 +382,10 @@ static const struct {
     {DONE, 0, nothing, RATHONSI_OK, "an empty plan"},
     {DONE, 0, beyond, RATHONSI_BAD_VALUE, "a write beyond the image"},
     {DONE, 0, too_many, RATHONSI_BAD_VALUE, "a write of 41 bytes"},
+    {RESERVE, 0, bytes_alone, RATHONSI_OK, "an empty plan with bytes"},
+    {ADVANCE, 0, bytes_alone, RATHONSI_OK, "an empty plan with bytes"},
+    {LOAD, 0, bytes_alone, RATHONSI_OK, "an empty plan with bytes"},
+    {DONE, 0, bytes_alone, RATHONSI_OK, "an empty plan with bytes"},
     {DONE, 0, same_bound, RATHONSI_OK, "the plan of a bound again"},
     {DONE, 0, old_bound, RATHONSI_STALE_PLAN, "the plan of a lower bound"},
     {DONE, 0, dropped_bound, RATHONSI_STALE_PLAN, "a plan that was dropped, of a lower bound"},
