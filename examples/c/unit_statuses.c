@@ -208,6 +208,31 @@ static void grow(void) {
     expect((long)size, SIZE, "size: nothing is told");
 }
 
+/* An old copy of the plan of a growth, once the cell has counted, is stale. So is that of a cell that isn't the last. */
+static void old_growth(void) {
+    RathonsiRoute route = route_of(ROUTES), next = route_of(ROUTES + 1);
+    begin();
+    grows(&route, ROOM, RATHONSI_OK, "old: a cell");
+    RathonsiPlan old = plan;
+    expect(rathonsi_store_done(image, ROOM, &plan), RATHONSI_OK, "old: done");
+    plan = old;
+    expect(rathonsi_store_done(image, ROOM, &plan), RATHONSI_OK, "old: the same again");
+    expect(rathonsi_route_open(&route, image, GROWN), RATHONSI_OK, "old: it opens");
+    expect(rathonsi_route_reserve(&route, 7, image, GROWN, &plan), RATHONSI_OK, "old: it counts");
+    expect(rathonsi_store_done(image, GROWN, &plan), RATHONSI_OK, "old: its bound is there");
+    for (int i = 0; i < 2; i++) {
+        uint8_t before[ROOM];
+        memcpy(before, image, sizeof before);
+        plan = old;
+        expect(rathonsi_store_done(image, ROOM, &plan), RATHONSI_STALE_PLAN, "old: the growth again");
+        same(before, image, sizeof before, "old: the image stays");
+        same(&old, &plan, sizeof plan, "old: the plan stays");
+        plan = no_plan;
+        grows(&next, ROOM, RATHONSI_OK, "old: another cell");
+        expect(rathonsi_store_done(image, ROOM, &plan), RATHONSI_OK, "old: done");
+    }
+}
+
 /* Each of the 65,536 numbers of cells that a cut may leave is put right by the same call. */
 static void torn_counts(void) {
     RathonsiRoute route = route_of(ROUTES);
@@ -481,6 +506,7 @@ int main(void) {
     open_all();
     look();
     grow();
+    old_growth();
     torn_counts();
     torn_counts_of_two();
     damaged_after_it();

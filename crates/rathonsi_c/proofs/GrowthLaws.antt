@@ -20,7 +20,7 @@ use Rattle.rathonsi_c.specs.Lives.{Memory, Deed, PoweredUp, Lives, RisesTo, give
 use Rattle.rathonsi_c.proofs.DiskLaws.{front-cell, front-part}
 use Rattle.rathonsi_c.proofs.LivesLaws.{Holds, after-cut, first_sound, lives-sound, rises_over_lives, opened_anew}
 
-long_cell : (id : ℕ) (direction : Direction) (bound : ℕ) → length (bound_cell id direction bound) ≡ 32
+pub long_cell : (id : ℕ) (direction : Direction) (bound : ℕ) → length (bound_cell id direction bound) ≡ 32
 unfolding bound_cell bytes_of
 long_cell id direction bound = refl
 

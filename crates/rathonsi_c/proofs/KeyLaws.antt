@@ -65,7 +65,7 @@ bound-none n k place a b few d = elim (cases_lt d.reserved.bound (bound_ahead (a
 ]
 
 -- an update has the slot of a cell
-update-holds : (u : Update) → IsUpdate u → HoldsSlot (slot_cell (slot_of u)) (slot_of u)
+pub update-holds : (u : Update) → IsUpdate u → HoldsSlot (slot_cell (slot_of u)) (slot_of u)
 update-holds u is = record { is_slot = (is.is_key, is.counter_fits); cell_is = refl }
 
 -- what is planned, as it is told

@@ -21,3 +21,6 @@ pub mod FlashLaws
 pub mod FreshnessLaws
 pub mod CandidateLaws
 pub mod SlotMacLaws
+pub mod StaleLaws
+pub mod StalePlans
+pub mod ReservingLaws

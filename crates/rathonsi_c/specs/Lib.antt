@@ -18,3 +18,5 @@ pub mod Booting
 pub mod Flash
 pub mod Freshness
 pub mod SlotMacs
+pub mod Stale
+pub mod Reserving

@@ -9,11 +9,12 @@ use Rattle.freshness_routes.specs.declared.routes.Direction.{Direction}
 use Rattle.freshness_store.specs.Bound.{bound_cell}
 use Rattle.store_plan.specs.declared.planning.Plan.{Plan}
 use Rattle.store_plan.specs.Plans.{PlanFits}
-use Rattle.rathonsi_c.specs.declared.TheConstants.{BAD_LENGTH, BAD_VALUE, NO_STORE, DAMAGED, DUPLICATE_ID}
+use Rattle.rathonsi_c.specs.declared.TheConstants.{BAD_LENGTH, BAD_VALUE, NO_STORE, DAMAGED, DUPLICATE_ID, STALE_PLAN}
 use Rattle.rathonsi_c.specs.declared.route.RathonsiRoute.{RathonsiRoute}
 use Rattle.rathonsi_c.specs.Causes.{IfCause, IsDone}
 use Rattle.rathonsi_c.specs.Images.{ImageBound, IdIsHeld}
 use Rattle.rathonsi_c.specs.Routes.{InRanges, OutOfRanges}
+use Rattle.rathonsi_c.specs.Stale.{IsStale}
 
 -- a store of n cells has so many bytes: fourteen slots and at most 256 routes
 pub record IsSize (n size : ℕ) : Type 0 where
@@ -71,4 +72,5 @@ pub record RouteMade (r : RathonsiRoute) (bound : ℕ) (image new : List ℕ) : 
 
 -- what `rathonsi_store_done` answers
 abbrev pub DoneAnswers : List ℕ → Plan → ℤ → Type 0
-DoneAnswers image plan status = IfCause (¬ PlanFits (length image) plan) BAD_VALUE IsDone status
+DoneAnswers image plan status =
+    IfCause (¬ PlanFits (length image) plan) BAD_VALUE (IfCause (IsStale image plan) STALE_PLAN IsDone) status

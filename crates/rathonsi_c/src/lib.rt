@@ -21,11 +21,14 @@ mod looking;
 mod macs;
 mod opening;
 mod refusals;
+mod reserving;
 mod route;
 mod secoc;
 mod she;
 mod slot_macs;
 mod slots;
+mod stale;
+pub mod stale_laws;
 mod states;
 pub mod step_laws;
 mod steps;
@@ -51,6 +54,9 @@ pub use growing::{rathonsi_store_grow, rathonsi_store_size};
 pub use looking::rathonsi_store_look;
 pub use macs::{RathonsiMac, rathonsi_mac_begin, rathonsi_mac_finish, rathonsi_mac_update};
 pub use opening::rathonsi_routes_open;
+pub use reserving::{
+    rathonsi_route_reserve_ahead, rathonsi_route_reserve_for, rathonsi_route_reserve_next,
+};
 pub use route::{
     RathonsiRoute, rathonsi_route_advance, rathonsi_route_open, rathonsi_route_receive,
     rathonsi_route_reserve, rathonsi_route_send,
@@ -136,3 +142,9 @@ pub const FAILED: i32 = 18;
 
 /// Another cell has this Data ID and direction already.
 pub const DUPLICATE_ID: i32 = 19;
+
+/// The plan would take back what the store has counted: it is an old copy.
+pub const STALE_PLAN: i32 = 20;
+
+/// Nothing is to be reserved: the bound in the image is as high already.
+pub const COVERED: i32 = 21;

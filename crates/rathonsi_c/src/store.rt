@@ -11,7 +11,8 @@ ghost use Rattle.rathonsi_c.specs.Lives.{PlanDone};
 
 use crate::images::id_is_held;
 use crate::route::{RathonsiRoute, direction_of};
-use crate::{BAD_LENGTH, BAD_VALUE, DAMAGED, DUPLICATE_ID, NO_STORE, OK};
+use crate::stale::is_stale;
+use crate::{BAD_LENGTH, BAD_VALUE, DAMAGED, DUPLICATE_ID, NO_STORE, OK, STALE_PLAN};
 use freshness_store::bound_bytes;
 use store_plan::{ImageFault, Plan, check, count_of, done, is_within, make, make_cell};
 
@@ -93,7 +94,8 @@ pub extern "C" fn rathonsi_store_check(image: &[u8]) -> i32
 }
 
 /// Says that all writes of the plan are durable: brings the image up to date, and empties the plan. `BAD_VALUE`: a
-/// write reaches beyond the image, or has more than the forty bytes that a plan keeps of it.
+/// write reaches beyond the image, or has more than the forty bytes that a plan keeps of it. `STALE_PLAN`: the plan
+/// would lower a bound, or change a filled slot without a higher counter.
 #[unsafe(no_mangle)]
 pub extern "C" fn rathonsi_store_done(image: &mut [u8], plan: &mut Plan) -> i32
     ensures answer { DoneAnswers image.old plan.old result }
@@ -103,6 +105,9 @@ pub extern "C" fn rathonsi_store_done(image: &mut [u8], plan: &mut Plan) -> i32
 {
     if !is_within(plan, image.len()) {
         return BAD_VALUE;
+    }
+    if is_stale(image, plan) {
+        return STALE_PLAN;
     }
     done(image, plan);
     OK
