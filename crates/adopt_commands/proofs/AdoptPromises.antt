@@ -62,34 +62,26 @@ lacks_status asked files row (unroomed none) = inr (inr (inl refl))
 lacks_status asked files row (no_other kind r _ is one lacks) = of_file_status kind r row lacks
 
 lacks_4 : (asked : AdoptTask) (files : List Reading) (row : Row) → LacksEntries asked files row → row.status ≡ 4 → Any (HasNoBackup row) files
-lacks_4 asked files row (unroomed none) four = absurd (omega (arith, four))
-lacks_4 asked files row (no_other kind r _ is one lacks) four = one_has (HasNoBackup row) files r one (of_file_4 kind r row lacks four)
+lacks_4 asked files row comes four = grind (arith, one_has, of_file_4)
 
 lacks_5 : (asked : AdoptTask) (files : List Reading) (row : Row) → LacksEntries asked files row → row.status ≡ 5 → Any SourceFailed files × (row.text ≡ codes "read fault\n")
-lacks_5 asked files row (unroomed none) five = absurd (omega (arith, five))
-lacks_5 asked files row (no_other kind r _ is one lacks) five =
-    let failed = of_file_5 kind r row lacks five in (one_has SourceFailed files r one failed.0, failed.1)
+lacks_5 asked files row comes five = grind (arith, of_file_5, one_has)
 
 lacks_7 : (asked : AdoptTask) (files : List Reading) (row : Row) → LacksEntries asked files row → row.status ≡ 7 → row.text ≡ []
 lacks_7 asked files row (unroomed none) seven = refl
 lacks_7 asked files row (no_other kind r _ is one lacks) seven = of_file_7 kind r row lacks seven
 
 lacks_8 : (asked : AdoptTask) (files : List Reading) (row : Row) → LacksEntries asked files row → row.status ≡ 8 → Any GivesTooMuch files × (row.text ≡ codes "input too long\n")
-lacks_8 asked files row (unroomed none) eight = absurd (omega (arith, eight))
-lacks_8 asked files row (no_other kind r _ is one lacks) eight =
-    let long = of_file_8 kind r row lacks eight in (one_has GivesTooMuch files r one long.0, long.1)
+lacks_8 asked files row comes eight = grind (arith, of_file_8, one_has)
 
 lacks_9 : (asked : AdoptTask) (files : List Reading) (row : Row) → LacksEntries asked files row → row.status ≡ 9 → Any (HasNoLedger row) files
-lacks_9 asked files row (unroomed none) nine = absurd (omega (arith, nine))
-lacks_9 asked files row (no_other kind r _ is one lacks) nine = one_has (HasNoLedger row) files r one (of_file_9 kind r row lacks nine)
+lacks_9 asked files row comes nine = grind (arith, one_has, of_file_9)
 
 lacks_fault : (asked : AdoptTask) (files : List Reading) (row : Row) → LacksEntries asked files row → Any CountsFault files → row.status ≡ 5
-lacks_fault asked files row (unroomed none) any = absurd (any_none CountsFault (subst (Any CountsFault) none any))
-lacks_fault asked files row (no_other kind r _ is one lacks) any = of_file_fault kind r row lacks (any_one CountsFault r (subst (Any CountsFault) one any))
+lacks_fault asked files row comes any = grind (arith, any_none, of_file_fault, any_one)
 
 lacks_long : (asked : AdoptTask) (files : List Reading) (row : Row) → LacksEntries asked files row → Any CountsTooMuch files → row.status ≡ 8
-lacks_long asked files row (unroomed none) any = absurd (any_none CountsTooMuch (subst (Any CountsTooMuch) none any))
-lacks_long asked files row (no_other kind r _ is one lacks) any = of_file_long kind r row lacks (any_one CountsTooMuch r (subst (Any CountsTooMuch) one any))
+lacks_long asked files row comes any = grind (arith, any_none, of_file_long, any_one)
 
 lacks_backup : (asked : AdoptTask) (files : List Reading) (row : Row) → LacksEntries asked files row → asked ≡ adopt.All Backup → Any OffersNoBackup files
     → (row.status ≡ 4) ⊎ (row.status ≡ 7)
@@ -113,75 +105,36 @@ abbrev IsAdoptStatus : ℕ → Type 0
 IsAdoptStatus n = (n ≡ 2) ⊎ (n ≡ 3) ⊎ (n ≡ 4) ⊎ (n ≡ 5) ⊎ (n ≡ 7) ⊎ (n ≡ 8) ⊎ (n ≡ 9) ⊎ (n ≡ 10)
 
 from_disk : (n : ℕ) → IsDiskStatus n → IsAdoptStatus n
-from_disk n (inl nine) = inr (inr (inr (inr (inr (inr (inl nine))))))
-from_disk n (inr (inl ten)) = inr (inr (inr (inr (inr (inr (inr ten))))))
-from_disk n (inr (inr seven)) = inr (inr (inr (inr (inl seven))))
+from_disk n it = grind arith
 
 from_file : (n : ℕ) → IsFileStatus n → IsAdoptStatus n
-from_file n (inl four) = inr (inr (inl four))
-from_file n (inr (inl five)) = inr (inr (inr (inl five)))
-from_file n (inr (inr (inl seven))) = inr (inr (inr (inr (inl seven))))
-from_file n (inr (inr (inr (inl eight)))) = inr (inr (inr (inr (inr (inl eight)))))
-from_file n (inr (inr (inr (inr nine)))) = inr (inr (inr (inr (inr (inr (inl nine))))))
+from_file n it = grind arith
 
 module _ (i : AdoptInputs) (e : Ending) where
   row_status : (row : Row) → ComesToAdopt i row → IsAdoptStatus row.status
-  row_status row (malformed none files unopened) = inl refl
-  row_status row (wrong_value number wrong files unopened) = inr (inl refl)
-  row_status row (no_entries_given asked _ is lacks unopened) = from_file row.status (lacks_status asked i.files row lacks)
-  row_status row (no_disk_room asked entries is gives unopened) = inr (inr (inr (inr (inl refl))))
-  row_status row (refused_disk _ (asked, entries, is, gives, on)) = from_disk row.status (disk_status (may_make i.words) on.old on.new row on.holds)
+  row_status row comes = grind (arith, from_file, lacks_status, from_disk, disk_status)
 
   at_2 : (row : Row) → ComesToAdopt i row → row.status ≡ 2 → PrintsWhole e row.text → (adoption_asked i.words ≡ None) × (i.files ≡ []) × PrintsWhole e ledger_usage
-  at_2 row (malformed none files unopened) at prints = (none, files, prints)
-  at_2 row (wrong_value number wrong files unopened) at prints = absurd (omega (arith, at))
-  at_2 row (no_entries_given asked _ is lacks unopened) at prints = absurd (omega (arith, at, lacks_status asked i.files row lacks))
-  at_2 row (no_disk_room asked entries is gives unopened) at prints = absurd (omega (arith, at))
-  at_2 row (refused_disk _ (asked, entries, is, gives, on)) at prints = absurd (omega (arith, at, disk_status (may_make i.words) on.old on.new row on.holds))
+  at_2 row comes at prints = grind (arith, lacks_status, disk_status)
 
   at_3 : (row : Row) → ComesToAdopt i row → row.status ≡ 3 → PrintsWhole e row.text
       → (number : ℕ) × (adoption_asked i.words ≡ Some (Err number)) × (i.files ≡ []) × PrintsWhole e (ledger_value_text number)
-  at_3 row (malformed none files unopened) at prints = absurd (omega (arith, at))
-  at_3 row (wrong_value number wrong files unopened) at prints = (number, wrong, files, prints)
-  at_3 row (no_entries_given asked _ is lacks unopened) at prints = absurd (omega (arith, at, lacks_status asked i.files row lacks))
-  at_3 row (no_disk_room asked entries is gives unopened) at prints = absurd (omega (arith, at))
-  at_3 row (refused_disk _ (asked, entries, is, gives, on)) at prints = absurd (omega (arith, at, disk_status (may_make i.words) on.old on.new row on.holds))
+  at_3 row comes at prints = grind (arith, lacks_status, disk_status)
 
   at_4 : (row : Row) → ComesToAdopt i row → row.status ≡ 4 → PrintsWhole e row.text → (told : Row) × Any (HasNoBackup told) i.files × PrintsWhole e told.text
-  at_4 row (malformed none files unopened) at prints = absurd (omega (arith, at))
-  at_4 row (wrong_value number wrong files unopened) at prints = absurd (omega (arith, at))
-  at_4 row (no_entries_given asked _ is lacks unopened) at prints = (row, lacks_4 asked i.files row lacks at, prints)
-  at_4 row (no_disk_room asked entries is gives unopened) at prints = absurd (omega (arith, at))
-  at_4 row (refused_disk _ (asked, entries, is, gives, on)) at prints = absurd (omega (arith, at, disk_status (may_make i.words) on.old on.new row on.holds))
+  at_4 row comes at prints = grind (arith, lacks_4, disk_status)
 
   at_5 : (row : Row) → ComesToAdopt i row → row.status ≡ 5 → PrintsWhole e row.text → Any SourceFailed i.files × PrintsWhole e (codes "read fault\n")
-  at_5 row (malformed none files unopened) at prints = absurd (omega (arith, at))
-  at_5 row (wrong_value number wrong files unopened) at prints = absurd (omega (arith, at))
-  at_5 row (no_entries_given asked _ is lacks unopened) at prints =
-      let failed = lacks_5 asked i.files row lacks at in (failed.0, subst (PrintsWhole e) failed.1 prints)
-  at_5 row (no_disk_room asked entries is gives unopened) at prints = absurd (omega (arith, at))
-  at_5 row (refused_disk _ (asked, entries, is, gives, on)) at prints = absurd (omega (arith, at, disk_status (may_make i.words) on.old on.new row on.holds))
+  at_5 row comes at prints = grind (arith, lacks_5, disk_status)
 
   at_7 : (row : Row) → ComesToAdopt i row → row.status ≡ 7 → PrintsWhole e row.text → PrintsWhole e []
-  at_7 row (malformed none files unopened) at prints = absurd (omega (arith, at))
-  at_7 row (wrong_value number wrong files unopened) at prints = absurd (omega (arith, at))
-  at_7 row (no_entries_given asked _ is lacks unopened) at prints = subst (PrintsWhole e) (lacks_7 asked i.files row lacks at) prints
-  at_7 row (no_disk_room asked entries is gives unopened) at prints = prints
-  at_7 row (refused_disk _ (asked, entries, is, gives, on)) at prints = subst (PrintsWhole e) (disk_7 (may_make i.words) on.old on.new row on.holds at) prints
+  at_7 row comes at prints = grind (arith, lacks_7, disk_7)
 
   at_8 : (row : Row) → ComesToAdopt i row → row.status ≡ 8 → PrintsWhole e row.text → Any GivesTooMuch i.files × PrintsWhole e (codes "input too long\n")
-  at_8 row (malformed none files unopened) at prints = absurd (omega (arith, at))
-  at_8 row (wrong_value number wrong files unopened) at prints = absurd (omega (arith, at))
-  at_8 row (no_entries_given asked _ is lacks unopened) at prints =
-      let long = lacks_8 asked i.files row lacks at in (long.0, subst (PrintsWhole e) long.1 prints)
-  at_8 row (no_disk_room asked entries is gives unopened) at prints = absurd (omega (arith, at))
-  at_8 row (refused_disk _ (asked, entries, is, gives, on)) at prints = absurd (omega (arith, at, disk_status (may_make i.words) on.old on.new row on.holds))
+  at_8 row comes at prints = grind (arith, lacks_8, disk_status)
 
   at_9 : (row : Row) → ComesToAdopt i row → row.status ≡ 9 → PrintsWhole e row.text → RefusesLedgers i e
-  at_9 row (malformed none files unopened) at prints = absurd (omega (arith, at))
-  at_9 row (wrong_value number wrong files unopened) at prints = absurd (omega (arith, at))
   at_9 row (no_entries_given asked _ is lacks unopened) at prints = inl (row, lacks_9 asked i.files row lacks at, unopened, prints)
-  at_9 row (no_disk_room asked entries is gives unopened) at prints = absurd (omega (arith, at))
   at_9 row (refused_disk _ (asked, entries, is, gives, on)) at prints = inr (
     asked,
     entries,
@@ -195,33 +148,13 @@ module _ (i : AdoptInputs) (e : Ending) where
       holds = (row, on.holds, prints);
     },
   )
+  at_9 row comes at prints = absurd (omega arith)
 
   at_10 : (row : Row) → ComesToAdopt i row → row.status ≡ 10 → PrintsWhole e row.text → FailsToOpen i e
-  at_10 row (malformed none files unopened) at prints = absurd (omega (arith, at))
-  at_10 row (wrong_value number wrong files unopened) at prints = absurd (omega (arith, at))
-  at_10 row (no_entries_given asked _ is lacks unopened) at prints = absurd (omega (arith, at, lacks_status asked i.files row lacks))
-  at_10 row (no_disk_room asked entries is gives unopened) at prints = absurd (omega (arith, at))
-  at_10 row (refused_disk _ (asked, entries, is, gives, on)) at prints =
-      let failed = disk_10 (may_make i.words) on.old on.new row on.holds at in (
-        asked,
-        entries,
-        is,
-        gives,
-        record {
-          old = on.old;
-          new = on.new;
-          before_is = on.before_is;
-          after_is = on.after_is;
-          holds = (failed.0, subst (λ (r : Row). PrintsWhole e r.text) failed.1 prints);
-        },
-      )
+  at_10 row comes at prints = grind (arith, lacks_status, disk_10)
 
   unopened_at : (row : Row) → ComesToAdopt i row → (row.status ≡ 2) ⊎ (row.status ≡ 3) ⊎ (row.status ≡ 4) ⊎ (row.status ≡ 5) ⊎ (row.status ≡ 8) → OpensNoLedger i
-  unopened_at row (malformed none files unopened) at = unopened
-  unopened_at row (wrong_value number wrong files unopened) at = unopened
-  unopened_at row (no_entries_given asked _ is lacks unopened) at = unopened
-  unopened_at row (no_disk_room asked entries is gives unopened) at = unopened
-  unopened_at row (refused_disk _ (asked, entries, is, gives, on)) at = absurd (omega (arith, at, disk_status (may_make i.words) on.old on.new row on.holds))
+  unopened_at row comes at = grind (arith, disk_status)
 
   row_keeps : (row : Row) → ComesToAdopt i row → (old new : DiskState) → i.before ≡ old ∷ [] → i.after ≡ new ∷ [] → KeepsLedgers old new
   row_keeps row (malformed none files unopened) old new before after = absurd (no_first i.before old unopened.none_before before)
@@ -233,44 +166,21 @@ module _ (i : AdoptInputs) (e : Ending) where
       (subst (λ (d : DiskState). KeepsLedgers on.old d) (one_first i.after on.new new on.after_is after) (disk_keeps (may_make i.words) on.old on.new row on.holds))
 
   row_stays : may_make i.words ≡ false → (row : Row) → ComesToAdopt i row → (old new : DiskState) → i.before ≡ old ∷ [] → i.after ≡ new ∷ [] → new.told ≡ old.told
-  row_stays none row (malformed _ files unopened) old new before after = absurd (no_first i.before old unopened.none_before before)
-  row_stays none row (wrong_value number wrong files unopened) old new before after = absurd (no_first i.before old unopened.none_before before)
-  row_stays none row (no_entries_given asked _ is lacks unopened) old new before after = absurd (no_first i.before old unopened.none_before before)
-  row_stays none row (no_disk_room asked entries is gives unopened) old new before after = absurd (no_first i.before old unopened.none_before before)
-  row_stays none row (refused_disk _ (asked, entries, is, gives, on)) old new before after =
-      subst (λ (d : DiskState). new.told ≡ d.told) (one_first i.before on.old old on.before_is before)
-      (subst (λ (d : DiskState). d.told ≡ on.old.told) (one_first i.after on.new new on.after_is after)
-      (disk_stays (may_make i.words) on.old on.new row none on.holds))
+  row_stays none row comes old new before after = grind (arith, no_first, one_first, disk_stays)
 
   -- ---- which rows come
 
   only_2 : adoption_asked i.words ≡ None → (row : Row) → ComesToAdopt i row → row.status ≡ 2
-  only_2 it row (malformed none files unopened) = refl
-  only_2 it row (wrong_value number wrong files unopened) = absurd (not_none (adoption_asked i.words) (Err number) it wrong)
-  only_2 it row (no_entries_given asked _ is lacks unopened) = absurd (not_none (adoption_asked i.words) (Ok asked) it is)
-  only_2 it row (no_disk_room asked entries is gives unopened) = absurd (not_none (adoption_asked i.words) (Ok asked) it is)
-  only_2 it row (refused_disk _ (asked, entries, is, gives, on)) = absurd (not_none (adoption_asked i.words) (Ok asked) it is)
+  only_2 it row comes = grind (arith, not_none)
 
   only_3 : (value : ℕ) → adoption_asked i.words ≡ Some (Err value) → (row : Row) → ComesToAdopt i row → row.status ≡ 3
-  only_3 value it row (malformed none files unopened) = absurd (not_none (adoption_asked i.words) (Err value) none it)
-  only_3 value it row (wrong_value number wrong files unopened) = refl
-  only_3 value it row (no_entries_given asked _ is lacks unopened) = absurd (not_wrong (adoption_asked i.words) value asked it is)
-  only_3 value it row (no_disk_room asked entries is gives unopened) = absurd (not_wrong (adoption_asked i.words) value asked it is)
-  only_3 value it row (refused_disk _ (asked, entries, is, gives, on)) = absurd (not_wrong (adoption_asked i.words) value asked it is)
+  only_3 value it row comes = grind (arith, not_none, not_wrong)
 
   only_5 : Any CountsFault i.files → (row : Row) → ComesToAdopt i row → row.status ≡ 5
-  only_5 any row (malformed none files unopened) = absurd (any_none CountsFault (subst (Any CountsFault) files any))
-  only_5 any row (wrong_value number wrong files unopened) = absurd (any_none CountsFault (subst (Any CountsFault) files any))
-  only_5 any row (no_entries_given asked _ is lacks unopened) = lacks_fault asked i.files row lacks any
-  only_5 any row (no_disk_room asked entries is gives unopened) = absurd (given_no_fault asked i.files entries gives any)
-  only_5 any row (refused_disk _ (asked, entries, is, gives, on)) = absurd (given_no_fault asked i.files entries gives any)
+  only_5 any row comes = grind (arith, any_none, lacks_fault, given_no_fault)
 
   only_8 : Any CountsTooMuch i.files → (row : Row) → ComesToAdopt i row → row.status ≡ 8
-  only_8 any row (malformed none files unopened) = absurd (any_none CountsTooMuch (subst (Any CountsTooMuch) files any))
-  only_8 any row (wrong_value number wrong files unopened) = absurd (any_none CountsTooMuch (subst (Any CountsTooMuch) files any))
-  only_8 any row (no_entries_given asked _ is lacks unopened) = lacks_long asked i.files row lacks any
-  only_8 any row (no_disk_room asked entries is gives unopened) = absurd (given_not_long asked i.files entries gives any)
-  only_8 any row (refused_disk _ (asked, entries, is, gives, on)) = absurd (given_not_long asked i.files entries gives any)
+  only_8 any row comes = grind (arith, any_none, lacks_long, given_not_long)
 
   -- a file of this kind that gives entries, of a task that is asked
   gives_kind : (kind : EntryFile) (asked : AdoptTask) (entries : List LedgerEntry) → adoption_asked i.words ≡ Some (Ok (adopt.All kind))
@@ -279,12 +189,7 @@ module _ (i : AdoptInputs) (e : Ending) where
       subst (λ a. GivesEntries a i.files entries) (one_task (adoption_asked i.words) asked (adopt.All kind) is it) gives
 
   may_4 : adoption_asked i.words ≡ Some (Ok (adopt.All Backup)) → Any OffersNoBackup i.files → (row : Row) → ComesToAdopt i row → (row.status ≡ 4) ⊎ (row.status ≡ 7)
-  may_4 it any row (malformed none files unopened) = absurd (not_none (adoption_asked i.words) (Ok (adopt.All Backup)) none it)
-  may_4 it any row (wrong_value number wrong files unopened) = absurd (not_wrong (adoption_asked i.words) number (adopt.All Backup) wrong it)
-  may_4 it any row (no_entries_given asked _ is lacks unopened) =
-      lacks_backup asked i.files row lacks (one_task (adoption_asked i.words) asked (adopt.All Backup) is it) any
-  may_4 it any row (no_disk_room asked entries is gives unopened) = absurd (given_backup i.files entries (gives_kind Backup asked entries it is gives) any)
-  may_4 it any row (refused_disk _ (asked, entries, is, gives, on)) = absurd (given_backup i.files entries (gives_kind Backup asked entries it is gives) any)
+  may_4 it any row comes = grind (arith, not_none, not_wrong, lacks_backup, one_task, given_backup, gives_kind)
 
   may_9 : adoption_asked i.words ≡ Some (Ok (adopt.All Ledger)) → Any OffersNone i.files → (row : Row) → ComesToAdopt i row → (row.status ≡ 9) ⊎ (row.status ≡ 7)
   may_9 it any row (malformed none files unopened) = absurd (not_none (adoption_asked i.words) (Ok (adopt.All Ledger)) none it)
@@ -296,24 +201,10 @@ module _ (i : AdoptInputs) (e : Ending) where
 
   disk_9 : (old new : DiskState) → i.before ≡ old ∷ [] → i.after ≡ new ∷ [] → CountsNone old new → (row : Row) → ComesToAdopt i row
       → (row.status ≡ 9) ⊎ (row.status ≡ 7)
-  disk_9 old new before after calm row (malformed none files unopened) = absurd (no_first i.before old unopened.none_before before)
-  disk_9 old new before after calm row (wrong_value number wrong files unopened) = absurd (no_first i.before old unopened.none_before before)
-  disk_9 old new before after calm row (no_entries_given asked _ is lacks unopened) = absurd (no_first i.before old unopened.none_before before)
-  disk_9 old new before after calm row (no_disk_room asked entries is gives unopened) = absurd (no_first i.before old unopened.none_before before)
-  disk_9 old new before after calm row (refused_disk _ (asked, entries, is, gives, on)) =
-      disk_calm (may_make i.words) on.old on.new row on.holds
-      (subst (λ (d : DiskState). CountsNone d on.new) (one_first i.before old on.old before on.before_is)
-      (subst (λ (d : DiskState). CountsNone old d) (one_first i.after new on.new after on.after_is) calm))
+  disk_9 old new before after calm row comes = grind (arith, no_first, disk_calm, one_first)
 
   counted_10 : (old new : DiskState) → i.before ≡ old ∷ [] → i.after ≡ new ∷ [] → old.faults < new.faults → (row : Row) → ComesToAdopt i row → row.status ≡ 10
-  counted_10 old new before after counts row (malformed none files unopened) = absurd (no_first i.before old unopened.none_before before)
-  counted_10 old new before after counts row (wrong_value number wrong files unopened) = absurd (no_first i.before old unopened.none_before before)
-  counted_10 old new before after counts row (no_entries_given asked _ is lacks unopened) = absurd (no_first i.before old unopened.none_before before)
-  counted_10 old new before after counts row (no_disk_room asked entries is gives unopened) = absurd (no_first i.before old unopened.none_before before)
-  counted_10 old new before after counts row (refused_disk _ (asked, entries, is, gives, on)) =
-      disk_counted (may_make i.words) on.old on.new row on.holds
-      (subst (λ (d : DiskState). d.faults < on.new.faults) (one_first i.before old on.old before on.before_is)
-      (subst (λ (d : DiskState). old.faults < d.faults) (one_first i.after new on.new after on.after_is) counts))
+  counted_10 old new before after counts row comes = grind (arith, no_first, disk_counted, one_first)
 
   row_offered : (asked : AdoptTask) → adoption_asked i.words ≡ Some (Ok asked) → OffersEntries asked i.files → OffersLedgerDisk i → (row : Row) → ComesToAdopt i row
       → row.status ≡ 7
@@ -432,59 +323,30 @@ zero_or_one false = inl refl
 
 module _ (strict : Bool) (entries : List LedgerEntry) (e : Ending) (old new : DiskState) where
   line_status : EndsTaken strict entries e old new → (e.status ≡ 0) ⊎ (e.status ≡ 1) ⊎ (e.status ≡ 6) ⊎ (e.status ≡ 7) ⊎ (e.status ≡ 10)
-  line_status (to_all lines status took printed) = elim (zero_or_one (list_any (is_refused strict) lines)) [
-    | inl zero ↦ inl (status ∙ zero)
-    | inr one ↦ inr (inl (status ∙ one))
-  ]
-  line_status (to_one ten stopped) = inr (inr (inr (inr ten)))
-  line_status (cut_off (inl (six, rose)) one) = inr (inr (inl six))
-  line_status (cut_off (inr (seven, calm)) one) = inr (inr (inr (inl seven)))
+  line_status ends = grind (arith, zero_or_one)
 
   all_at : EndsTaken strict entries e old new → (e.status ≡ 0) ⊎ (e.status ≡ 1)
       → (lines : List AdoptLine) × TookAll entries lines old new × (e.status ≡ (if list_any (is_refused strict) lines then 1 else 0)) × PrintsWhole e (adopt_texts lines)
-  all_at (to_all lines status took printed) is = (lines, took, status, printed)
-  all_at (to_one ten stopped) is = absurd (omega (arith, is, ten))
-  all_at (cut_off (inl (six, rose)) one) is = absurd (omega (arith, is, six))
-  all_at (cut_off (inr (seven, calm)) one) is = absurd (omega (arith, is, seven))
+  all_at ends is = grind arith
 
   one_at : EndsTaken strict entries e old new → e.status ≡ 10 → UpToEntry entries (λ first entry.
       (lines : List AdoptLine) × StoppedAt first lines entry old new × PrintsWhole e (adopt_texts lines ++ adopt_text 0 Failed))
-  one_at (to_all lines status took printed) ten = absurd (omega (arith, ten, status, zero_or_one (list_any (is_refused strict) lines)))
-  one_at (to_one is stopped) ten = stopped
-  one_at (cut_off (inl (six, rose)) one) ten = absurd (omega (arith, ten, six))
-  one_at (cut_off (inr (seven, calm)) one) ten = absurd (omega (arith, ten, seven))
+  one_at ends ten = grind (arith, zero_or_one)
 
   cut_at : EndsTaken strict entries e old new → (e.status ≡ 6) ⊎ (e.status ≡ 7) → OneCut e entries old new
-  cut_at (to_all lines status took printed) is = absurd (omega (arith, is, status, zero_or_one (list_any (is_refused strict) lines)))
-  cut_at (to_one ten stopped) is = absurd (omega (arith, is, ten))
-  cut_at (cut_off early one) is = one
+  cut_at ends is = grind (arith, zero_or_one)
 
   sink_at : EndsTaken strict entries e old new → e.status ≡ 6 → SinkFailed e
-  sink_at (to_all lines status took printed) six = absurd (omega (arith, six, status, zero_or_one (list_any (is_refused strict) lines)))
-  sink_at (to_one ten stopped) six = absurd (omega (arith, six, ten))
-  sink_at (cut_off (inl (is, rose)) one) six = rose
-  sink_at (cut_off (inr (seven, calm)) one) six = absurd (omega (arith, six, seven))
+  sink_at ends six = grind (arith, zero_or_one)
 
   counts_at : EndsTaken strict entries e old new → CountsWriteFault e → e.status ≡ 6
-  counts_at (to_all lines status took printed) counts = absurd (omega (arith, counts, printed.0))
-  counts_at (to_one ten (first, entry, rest, is, (lines, stopped, printed))) counts = absurd (omega (arith, counts, printed.0))
-  counts_at (cut_off (inl (six, rose)) one) counts = six
-  counts_at (cut_off (inr (seven, calm)) one) counts = absurd (calm counts)
+  counts_at ends counts = grind arith
 
   calm_at : EndsTaken strict entries e old new → CountsNone old new → ¬ SinkFailed e → (e.status ≡ 0) ⊎ (e.status ≡ 1) ⊎ (e.status ≡ 7)
-  calm_at (to_all lines status took printed) calm well = elim (zero_or_one (list_any (is_refused strict) lines)) [
-    | inl zero ↦ inl (status ∙ zero)
-    | inr one ↦ inr (inl (status ∙ one))
-  ]
-  calm_at (to_one ten (first, entry, rest, is, (lines, stopped, printed))) calm well = absurd (calm stopped.rose)
-  calm_at (cut_off (inl (six, rose)) one) calm well = absurd (well rose)
-  calm_at (cut_off (inr (seven, none)) one) calm well = inr (inr seven)
+  calm_at ends calm well = grind (arith, zero_or_one)
 
   stopped_at_10 : EndsTaken strict entries e old new → old.faults < new.faults → MayEndIn 10 e
-  stopped_at_10 (to_all lines status took printed) counts = (let same = took.calm in absurd (omega (arith, counts, same)))
-  stopped_at_10 (to_one ten stopped) counts = inl ten
-  stopped_at_10 (cut_off (inl (six, rose)) one) counts = inr (inl six)
-  stopped_at_10 (cut_off (inr (seven, calm)) one) counts = inr (inr seven)
+  stopped_at_10 ends counts = grind arith
 
 abbrev HoldsAll : Ending → Bool → List LedgerEntry → DiskState → DiskState → Type 0
 HoldsAll e strict entries old new =

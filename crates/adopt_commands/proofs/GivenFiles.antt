@@ -1,11 +1,10 @@
 -- What the rows of a file say that gives no entries, and what a file doesn't have that gives some
-use Rattle.std.proofs.Common.{◌≡◌, ◌⊎◌, ◌∙◌, ℕ, zero, suc, List, [], ◌∷◌, Result, Ok, Err, refl, sym, ap, subst, inl, inr, arith}
+use Rattle.std.proofs.Common.{◌≡◌, ◌⊎◌, ◌∙◌, ℕ, List, [], ◌∷◌, Result, Ok, Err, refl, sym, subst, inl, inr, arith}
 use Rattle.std.specs.Prelude.{All, Any, IfErr, codes}
 use Rattle.std.proofs.lemmas.List.Elements.{All-head}
 use Rattle.std.proofs.lemmas.List.Quantifiers.{Any-push}
 use Rattle.text_lines.specs.Readings.{Fault}
 use Rattle.program_edge.specs.declared.input.InputFault.TheVariants as input
-use Rattle.program_edge.specs.Input.{input_fault_status}
 use Rattle.program_edge.specs.Rows.{Row, memory_row}
 use Rattle.program_edge.specs.Inputs.{Reading, ReadsWhole, SourceFailed, CountsFault, GivesTooMuch, CountsTooMuch}
 use Rattle.program_edge.proofs.CallerLemmas.{Lacks-whole, CountsFault-is, CountsTooMuch-is, Offers-is, Offers-whole}
@@ -19,7 +18,7 @@ use Rattle.adopt_commands.specs.declared.tasks.AdoptTask.{AdoptTask}
 use Rattle.adopt_commands.specs.declared.tasks.AdoptTask.TheVariants as adopt
 use Rattle.adopt_commands.specs.declared.tasks.EntryFile.{EntryFile}
 use Rattle.adopt_commands.specs.declared.tasks.EntryFile.TheVariants.{Backup, Ledger}
-use Rattle.adopt_commands.specs.AdoptRows.{GivesOfFile, LacksBackupFile, LacksOfFile, GivesEntries, backup_unread, no_backup_there, backup_unkept}
+use Rattle.adopt_commands.specs.AdoptRows.{GivesOfFile, LacksBackupFile, LacksOfFile, GivesEntries, no_backup_there, backup_unkept}
 use Rattle.adopt_commands.specs.AdoptRuns.{HasNoBackup, OffersNoBackup, OffersBackup, OffersEntries}
 
 -- ---- of one file, or of none
@@ -28,8 +27,7 @@ pub any_none : (P : Reading → Type 0) → Any P [] → ⊥
 any_none P (k, x, inside, at, holds) = omega (arith, inside)
 
 pub any_one : (P : Reading → Type 0) (r : Reading) → Any P (r ∷ []) → P r
-any_one P r (zero, x, inside, at, holds) = subst P (sym at) holds
-any_one P r (suc k, x, inside, at, holds) = absurd (omega (arith, inside))
+any_one P r any = grind arith
 
 pub one_has : (P : Reading → Type 0) (files : List Reading) (r : Reading) → files ≡ r ∷ [] → P r → Any P files
 one_has P files r is holds = subst (Any P) (sym is) (Any-push P [] r holds)
@@ -54,11 +52,7 @@ backup_4 text row (not_whole lines read none) = refl
 -- ---- a file that is no backup
 
 file_status : (r : Reading) (row : Row) → LacksBackupFile r row → (row.status ≡ 4) ⊎ (row.status ≡ 5) ⊎ (row.status ≡ 7) ⊎ (row.status ≡ 8)
-file_status r row (backup_unread input.ReadFault lacks) = inr (inl refl)
-file_status r row (backup_unread input.TooLong lacks) = inr (inr (inr refl))
-file_status r row (backup_unread input.Memory lacks) = inr (inr (inl refl))
-file_status r row (no_backup_there text _ whole lacks) = inl (backup_4 text row lacks)
-file_status r row (backup_unkept text whole) = inr (inr (inl refl))
+file_status r row comes = grind (arith, backup_4)
 
 whole_calm : (r : Reading) (x : List ℕ) → ReadsWhole r x → CountsFault r → ⊥
 whole_calm r x whole counts = (let same = whole.no_fault in omega (arith, counts, same))
@@ -67,57 +61,28 @@ whole_short : (r : Reading) (x : List ℕ) → ReadsWhole r x → CountsTooMuch 
 whole_short r x whole counts = let clash : input.Memory ≡ input.TooLong = CountsTooMuch-is r input.Memory counts (Lacks-whole r x whole) in cc
 
 backup_fault : (r : Reading) (row : Row) → LacksBackupFile r row → CountsFault r → row.status ≡ 5
-backup_fault r row (backup_unread input.ReadFault lacks) counts = refl
-backup_fault r row (backup_unread input.TooLong lacks) counts = let clash = CountsFault-is r input.TooLong counts lacks in cc clash
-backup_fault r row (backup_unread input.Memory lacks) counts = let clash = CountsFault-is r input.Memory counts lacks in cc clash
-backup_fault r row (no_backup_there text _ whole lacks) counts = absurd (whole_calm r text whole counts)
-backup_fault r row (backup_unkept text whole) counts = absurd (whole_calm r text whole counts)
+backup_fault r row comes counts = grind (arith, CountsFault-is, whole_calm)
 
 backup_long : (r : Reading) (row : Row) → LacksBackupFile r row → CountsTooMuch r → row.status ≡ 8
-backup_long r row (backup_unread input.TooLong lacks) counts = refl
-backup_long r row (backup_unread input.ReadFault lacks) counts = let clash = CountsTooMuch-is r input.ReadFault counts lacks in cc clash
-backup_long r row (backup_unread input.Memory lacks) counts = let clash = CountsTooMuch-is r input.Memory counts lacks in cc clash
-backup_long r row (no_backup_there text _ whole lacks) counts = absurd (whole_short r text whole counts)
-backup_long r row (backup_unkept text whole) counts = absurd (whole_short r text whole counts)
+backup_long r row comes counts = grind (arith, CountsTooMuch-is, whole_short)
 
 pub backup_none : (r : Reading) (row : Row) → LacksBackupFile r row → OffersNoBackup r → (row.status ≡ 4) ⊎ (row.status ≡ 7)
-backup_none r row (backup_unread fault lacks) (text, other, offers, lacking) = inr (ap input_fault_status (Offers-is r text fault offers lacks))
-backup_none r row (no_backup_there text _ whole lacks) offers = inl (backup_4 text row lacks)
-backup_none r row (backup_unkept text whole) offers = inr refl
+backup_none r row comes offers = grind (arith, Offers-is, backup_4)
 
 backup_offered : (r : Reading) (row : Row) → LacksBackupFile r row → OffersBackup r → row.status ≡ 7
-backup_offered r row (backup_unread fault lacks) (text, entries, offers, is) = ap input_fault_status (Offers-is r text fault offers lacks)
-backup_offered r row (no_backup_there text _ whole lacks) (told, entries, offers, is) =
-    absurd (backup_or_none told entries row is (subst (λ t. LacksBackup t row) (Offers-whole r told text offers whole) lacks))
-backup_offered r row (backup_unkept text whole) offers = refl
+backup_offered r row comes offers = grind (arith, Offers-is, backup_or_none, Offers-whole)
 
 backup_at_4 : (r : Reading) (row : Row) → LacksBackupFile r row → row.status ≡ 4 → HasNoBackup row r
-backup_at_4 r row (backup_unread input.ReadFault lacks) is = absurd (omega (arith, is))
-backup_at_4 r row (backup_unread input.TooLong lacks) is = absurd (omega (arith, is))
-backup_at_4 r row (backup_unread input.Memory lacks) is = absurd (omega (arith, is))
-backup_at_4 r row (no_backup_there text _ whole lacks) is = (text, whole, lacks)
-backup_at_4 r row (backup_unkept text whole) is = absurd (omega (arith, is))
+backup_at_4 r row comes is = grind arith
 
 backup_at_5 : (r : Reading) (row : Row) → LacksBackupFile r row → row.status ≡ 5 → SourceFailed r × (row.text ≡ codes "read fault\n")
-backup_at_5 r row (backup_unread input.ReadFault lacks) is = (lacks.0, refl)
-backup_at_5 r row (backup_unread input.TooLong lacks) is = absurd (omega (arith, is))
-backup_at_5 r row (backup_unread input.Memory lacks) is = absurd (omega (arith, is))
-backup_at_5 r row (no_backup_there text _ whole lacks) is = absurd (omega (arith, is, backup_4 text row lacks))
-backup_at_5 r row (backup_unkept text whole) is = absurd (omega (arith, is))
+backup_at_5 r row comes is = grind (arith, backup_4)
 
 backup_at_7 : (r : Reading) (row : Row) → LacksBackupFile r row → row.status ≡ 7 → row.text ≡ []
-backup_at_7 r row (backup_unread input.ReadFault lacks) is = absurd (omega (arith, is))
-backup_at_7 r row (backup_unread input.TooLong lacks) is = absurd (omega (arith, is))
-backup_at_7 r row (backup_unread input.Memory lacks) is = refl
-backup_at_7 r row (no_backup_there text _ whole lacks) is = absurd (omega (arith, is, backup_4 text row lacks))
-backup_at_7 r row (backup_unkept text whole) is = refl
+backup_at_7 r row comes is = grind (arith, backup_4)
 
 backup_at_8 : (r : Reading) (row : Row) → LacksBackupFile r row → row.status ≡ 8 → GivesTooMuch r × (row.text ≡ codes "input too long\n")
-backup_at_8 r row (backup_unread input.ReadFault lacks) is = absurd (omega (arith, is))
-backup_at_8 r row (backup_unread input.TooLong lacks) is = (lacks.1, refl)
-backup_at_8 r row (backup_unread input.Memory lacks) is = absurd (omega (arith, is))
-backup_at_8 r row (no_backup_there text _ whole lacks) is = absurd (omega (arith, is, backup_4 text row lacks))
-backup_at_8 r row (backup_unkept text whole) is = absurd (omega (arith, is))
+backup_at_8 r row comes is = grind (arith, backup_4)
 
 -- a file that was read whole, and what was made of its text
 pub of_text : {A : Type 0} (r : Reading) (text : List ℕ) (result : Result A Row) → ReadsWhole r text → IfErr result (λ row. LacksBackup text row ⊎ (row ≡ memory_row))
@@ -132,18 +97,14 @@ abbrev pub IsFileStatus : ℕ → Type 0
 IsFileStatus n = (n ≡ 4) ⊎ (n ≡ 5) ⊎ (n ≡ 7) ⊎ (n ≡ 8) ⊎ (n ≡ 9)
 
 of_backup_status : (n : ℕ) → (n ≡ 4) ⊎ (n ≡ 5) ⊎ (n ≡ 7) ⊎ (n ≡ 8) → IsFileStatus n
-of_backup_status n (inl four) = inl four
-of_backup_status n (inr (inl five)) = inr (inl five)
-of_backup_status n (inr (inr (inl seven))) = inr (inr (inl seven))
-of_backup_status n (inr (inr (inr eight))) = inr (inr (inr (inl eight)))
+of_backup_status n n_1 = grind arith
 
 pub of_file_status : (kind : EntryFile) (r : Reading) (row : Row) → LacksOfFile kind r row → IsFileStatus row.status
 of_file_status Backup r row lacks = of_backup_status row.status (file_status r row lacks)
 of_file_status Ledger r row lacks = inr (lacks_status r row lacks)
 
 pub of_file_4 : (kind : EntryFile) (r : Reading) (row : Row) → LacksOfFile kind r row → row.status ≡ 4 → HasNoBackup row r
-of_file_4 Backup r row lacks is = backup_at_4 r row lacks is
-of_file_4 Ledger r row lacks is = absurd (omega (arith, is, lacks_status r row lacks))
+of_file_4 kind r row lacks is = grind (arith, backup_at_4, lacks_status)
 
 pub of_file_5 : (kind : EntryFile) (r : Reading) (row : Row) → LacksOfFile kind r row → row.status ≡ 5 → SourceFailed r × (row.text ≡ codes "read fault\n")
 of_file_5 Backup r row lacks is = backup_at_5 r row lacks is
@@ -158,8 +119,7 @@ of_file_8 Backup r row lacks is = backup_at_8 r row lacks is
 of_file_8 Ledger r row lacks is = lacks_8 r row lacks is
 
 pub of_file_9 : (kind : EntryFile) (r : Reading) (row : Row) → LacksOfFile kind r row → row.status ≡ 9 → HasNoLedger row r
-of_file_9 Backup r row lacks is = absurd (omega (arith, is, file_status r row lacks))
-of_file_9 Ledger r row lacks is = lacks_9 r row lacks is
+of_file_9 kind r row lacks is = grind (arith, file_status, lacks_9)
 
 pub of_file_fault : (kind : EntryFile) (r : Reading) (row : Row) → LacksOfFile kind r row → CountsFault r → row.status ≡ 5
 of_file_fault Backup r row lacks counts = backup_fault r row lacks counts

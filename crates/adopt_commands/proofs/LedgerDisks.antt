@@ -44,11 +44,7 @@ or_memory row other (inl is) nine = inl (status_of is ∙ nine)
 or_memory row other (inr memory) nine = inr (inr (status_of memory))
 
 store_status : (fault : StoreFault) (row : Row) → IsStoreRow fault row → IsDiskStatus row.status
-store_status store.DiskFailed row is = inr (inl (status_of is))
-store_status store.NotFormatted row is = inl (status_of is)
-store_status store.TooSmall row is = inl (status_of is)
-store_status store.Memory row is = inr (inr (status_of is))
-store_status (store.Damaged cell) row is = or_memory row _ is refl
+store_status fault row is = grind (arith, status_of, or_memory)
 
 cause_status : (cause : NoLedgerCause) (row : Row) → IsLedgerRow cause row → IsDiskStatus row.status
 cause_status (Store fault) row is = store_status fault row is
@@ -59,15 +55,10 @@ disk_status may old new row (cause, lacks, is) = cause_status cause row is
 
 -- 7 is out of memory
 memory_at_7 : (row other : Row) → (row ≡ other) ⊎ (row ≡ memory_row) → other.status ≡ 9 → row.status ≡ 7 → row ≡ memory_row
-memory_at_7 row other (inl is) nine seven = absurd (omega (arith, seven, nine, status_of is))
-memory_at_7 row other (inr memory) nine seven = memory
+memory_at_7 row other row_2 nine seven = grind (arith, status_of)
 
 store_7 : (fault : StoreFault) (row : Row) → IsStoreRow fault row → row.status ≡ 7 → row ≡ memory_row
-store_7 store.DiskFailed row is seven = absurd (omega (arith, seven, status_of is))
-store_7 store.NotFormatted row is seven = absurd (omega (arith, seven, status_of is))
-store_7 store.TooSmall row is seven = absurd (omega (arith, seven, status_of is))
-store_7 store.Memory row is seven = is
-store_7 (store.Damaged cell) row is seven = memory_at_7 row _ is refl seven
+store_7 fault row is seven = grind (arith, status_of, memory_at_7)
 
 cause_7 : (cause : NoLedgerCause) (row : Row) → IsLedgerRow cause row → row.status ≡ 7 → row ≡ memory_row
 cause_7 (Store fault) row is seven = store_7 fault row is seven
@@ -82,12 +73,7 @@ not_10 row other (inl is) nine ten = omega (arith, ten, nine, status_of is)
 not_10 row other (inr memory) nine ten = omega (arith, ten, status_of memory)
 
 cause_10 : (cause : NoLedgerCause) (row : Row) → IsLedgerRow cause row → row.status ≡ 10 → (cause ≡ Store store.DiskFailed) × (row ≡ disk_failed_row)
-cause_10 (Store store.DiskFailed) row is ten = (refl, is)
-cause_10 (Store store.NotFormatted) row is ten = absurd (omega (arith, ten, status_of is))
-cause_10 (Store store.TooSmall) row is ten = absurd (omega (arith, ten, status_of is))
-cause_10 (Store store.Memory) row is ten = absurd (omega (arith, ten, status_of is))
-cause_10 (Store (store.Damaged cell)) row is ten = absurd (not_10 row _ is refl ten)
-cause_10 (BadEntry bad) row is ten = absurd (not_10 row (bad_entry_row bad) is refl ten)
+cause_10 cause row is ten = grind (arith, status_of, not_10)
 
 failed_rose : (may : Bool) (old new : DiskState) → LacksAsked may old new (Store store.DiskFailed) → Rose old.faults new.faults
 failed_rose true old new lacks = lacks.cause
@@ -110,22 +96,11 @@ disk_calm may old new row refuses calm = by_status (disk_status may old new row 
 -- a disk whose count rose comes to 10
 store_counted : (old new : DiskState) (fault : StoreFault) (row : Row) → LacksLedger old new (Store fault) → IsStoreRow fault row → old.faults < new.faults
     → row.status ≡ 10
-store_counted old new store.DiskFailed row lacks is counts = status_of is
-store_counted old new store.NotFormatted row lacks is counts = (let same = lacks.cause.0 in absurd (omega (arith, counts, same)))
-store_counted old new store.TooSmall row lacks is counts =
-    let same : new.faults ≡ old.faults = ap (λ (d : DiskState). d.faults) lacks.cause.1 in absurd (omega (arith, counts, same))
-store_counted old new store.Memory row lacks is counts = (let same = lacks.cause.0 in absurd (omega (arith, counts, same)))
-store_counted old new (store.Damaged cell) row lacks is counts = (let same = lacks.cause.0 in absurd (omega (arith, counts, same)))
+store_counted old new fault row lacks is counts = grind (arith, status_of)
 
 standing_counted : (old new : DiskState) (cause : NoLedgerCause) (row : Row) → LacksStanding old new cause → IsLedgerRow cause row → old.faults < new.faults
     → row.status ≡ 10
-standing_counted old new (Store store.DiskFailed) row lacks is counts = status_of is
-standing_counted old new (Store store.NotFormatted) row lacks is counts = (let same = lacks.why.0 in absurd (omega (arith, counts, same)))
-standing_counted old new (Store store.TooSmall) row lacks is counts =
-    let same : new.faults ≡ old.faults = ap (λ (d : DiskState). d.faults) lacks.why.1 in absurd (omega (arith, counts, same))
-standing_counted old new (Store store.Memory) row lacks is counts = (let same = lacks.why in absurd (omega (arith, counts, same)))
-standing_counted old new (Store (store.Damaged cell)) row lacks is counts = (let same = lacks.why.0 in absurd (omega (arith, counts, same)))
-standing_counted old new (BadEntry bad) row lacks is counts = (let same = lacks.why.0 in absurd (omega (arith, counts, same)))
+standing_counted old new cause row lacks is counts = grind (arith, status_of)
 
 pub disk_counted : (may : Bool) (old new : DiskState) (row : Row) → RefusesLedger may old new row → old.faults < new.faults → row.status ≡ 10
 disk_counted true old new row (Store fault, lacks, is) counts = store_counted old new fault row lacks is counts
