@@ -26,6 +26,10 @@
  *   - A line is programmed once between two erases of its bank, and only where all was erased.
  *   - Each start and each put comes to its end: a start takes at most banks * P + n + 2 operations,
  *     a put n + 3. P and n are those of "Wear, RAM and time" below.
+ *   - A put is one PROGRAM, unless the bank is full. Of all banks together at most one ERASE is begun
+ *     for each start, and one more for each P - n - 1 puts whose PROGRAM was begun.
+ *   - RATHONSI_FAILED comes only if, since the last start, an outcome was reported that the operation
+ *     can't have, or RATHONSI_FLASH_FAILED.
  *
  * The flash is 2 to 16 banks. A bank is erased at once: one sector or several. It holds lines, each
  * as many program units as 44 bytes need. The first line of a bank is its head, then come all cells,
@@ -251,7 +255,8 @@ typedef struct RathonsiCell {
 } RathonsiCell;
 
 /* An operation: on this bank, from this byte of it on, so many bytes. ERASE is of the whole bank: its
- * offset and length are 0. */
+ * offset and length are 0. What an operation doesn't use is zero: the bytes that are none of the line
+ * of a PROGRAM; of NONE all. */
 typedef struct RathonsiFlashOperation {
     uint32_t kind;
     uint32_t bank;

@@ -70,7 +70,7 @@ static uint32_t draw(uint32_t below) {
 
 static enum duty broken;
 static const char *harm;
-static long sent, accepted, done, loaded, cuts, failures, starts, erases, programs, reads;
+static long sent, accepted, done, loaded, cuts, failures, starts, puts_begun, erases, programs, reads;
 
 static void expect(int holds, const char *what) {
     if (!holds && harm == NULL)
@@ -257,6 +257,14 @@ static uint32_t perform(void) {
     return broken == GOES_ON && outcome == RATHONSI_FLASH_FAILED && !power_is_gone ? RATHONSI_FLASH_DONE : outcome;
 }
 
+/* What an operation doesn't use is zero: all bytes but those of the line that is programmed, and all of no operation. */
+static void expect_unused(void) {
+    for (uint32_t i = operation.kind == RATHONSI_FLASH_PROGRAM ? operation.length : 0; i < sizeof operation.bytes; i++)
+        expect(operation.bytes[i] == 0, "an operation has bytes that it doesn't use");
+    if (operation.kind == RATHONSI_FLASH_NONE)
+        expect(operation.bank == 0 && operation.offset == 0 && operation.length == 0, "no operation has a place");
+}
+
 /* Performs operations until none comes. POWER_WENT: the power went, and RAM with it. */
 static int32_t work(void) {
     int32_t status;
@@ -264,6 +272,7 @@ static int32_t work(void) {
            && operation.kind != RATHONSI_FLASH_NONE) {
         RathonsiFlashOperation before = operation;
         uint32_t outcome = RATHONSI_FLASH_DONE;
+        expect_unused();
         expect(rathonsi_flash_put(&flash, &plan, cells, CELLS) == RATHONSI_BUSY,
                "a put is taken while an operation comes next");
         if (draw(900) == 0) { /* in between */
@@ -283,6 +292,8 @@ static int32_t work(void) {
         expect(rathonsi_flash_did(&flash, cells, CELLS, scratch, CELLS, outcome, &operation) == RATHONSI_OK,
                "an outcome is refused");
     }
+    if (status == RATHONSI_OK)
+        expect_unused();
     return status;
 }
 
@@ -426,6 +437,7 @@ static int do_plan(void) {
         is_loading = 0;
     }
     expect(rathonsi_flash_put(&flash, &plan, cells, CELLS) == RATHONSI_OK, "a put is refused");
+    puts_begun++;
     if (work() != RATHONSI_OK) {
         power_up();
         return 0;
@@ -548,6 +560,14 @@ static void one_event(void) {
         expect(status == RATHONSI_OK || status == RATHONSI_FRESHNESS_FAILURE, "a call is refused");
 }
 
+/* What all starts and puts since the store was made have worn: an erase for each start at most, and one for as many puts
+ * as a bank takes; a copy for each erase, and a line for each put. */
+static void judge_wear(void) {
+    long bank_puts = (long)part.lines - CELLS - 1;
+    expect(erases * bank_puts <= starts * bank_puts + puts_begun, "banks are erased too often");
+    expect(programs <= erases * (CELLS + 1) + puts_begun, "too many lines are programmed");
+}
+
 int main(int count, char **words) {
     long which = count > 1 ? atol(words[1]) : -1, events = count > 2 ? atol(words[2]) : 0, n = 0;
     for (int i = 1; i < DUTIES; i++)
@@ -570,11 +590,14 @@ int main(int count, char **words) {
             units[bank][i].state = CUT;
     make_image();
     move_store();
+    starts = reads = erases = programs = 0;
     power_up();
     while (n < events && harm == NULL) {
         one_event();
         n++;
     }
+    if (broken == KEEPS_ALL)
+        judge_wear();
     if (views != NULL)
         fclose(views);
     printf("%ld events: sent %ld, accepted %ld, plans done %ld, keys loaded %ld; starts %ld, power cuts %ld, failures "

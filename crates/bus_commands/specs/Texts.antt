@@ -3,6 +3,7 @@ use Rattle.std.specs.Prelude.{◌≡◌, ◌⊎◌, ℕ, List, [], ◌∷◌, �
 use Rattle.std.specs.List.{flat_map}
 use Rattle.std.specs.Result.{result_err}
 use Rattle.hex.specs.Hex.{encode_lower}
+use Rattle.secured_pdu.specs.declared.frame.TheConstants.{WIDEST_WINDOW}
 use Rattle.secured_pdu.specs.Frame.{Secured, IsFrame}
 use Rattle.secured_pdu.specs.Verdict.{Outcome, Verdict}
 use Rattle.secoc_words.specs.declared.frames.FrameLine.{FrameLine}
@@ -28,8 +29,8 @@ TellsFrame l text = (pdu : List ℕ) × Secured l.key l.id l.payload l.freshness
 abbrev pub TellsJudgement : JudgeLine → List ℕ → Type 0
 TellsJudgement l text =
     (¬ IsFrame l.pdu × (text ≡ bad_length_text))
-    ⊎ (IsFrame l.pdu × (outcome : Outcome) × Verdict l.key l.id l.counter 256 l.pdu outcome ×
-    (text ≡ outcome_text outcome))
+    ⊎ (IsFrame l.pdu × (outcome : Outcome) × Verdict l.key l.id l.counter WIDEST_WINDOW l.pdu outcome
+    × (text ≡ outcome_text outcome))
 
 -- the text has the answer of each line, one after the other, and nothing else
 abbrev pub TellsEach : {A : Type 0} → (A → List ℕ → Type 0) → List A → List ℕ → Type 0

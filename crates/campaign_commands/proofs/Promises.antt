@@ -3,6 +3,8 @@ use Rattle.std.specs.Prelude.{◌≡◌, ◌⊎◌, ℕ, ◌<◌, ◌≤◌, Lis
 use Rattle.std.proofs.Common.{refl, ◌∙◌, subst, arith, inl, inr}
 use Rattle.bus_port.specs.Sink.{SinkState}
 use Rattle.program_edge.specs.Endings.{Ending, EndsInRow, PrintsWhole, PrintsFront, SinkFailed, CountsWriteFault}
+use Rattle.program_edge.specs.Input.{input_limit}
+use Rattle.program_edge.proofs.CallerLemmas.{Offers-is, SourceTells, SourceTells-whole, SourceTells-fault, SourceTells-long}
 use Rattle.program_edge.proofs.CallerLemmas.{EndsInRow-at, EndsInRow-front, EndsInRow-rose, EndsInRow-only, EndsInRow-may, EndsInRow-done}
 use Rattle.run_driver.specs.declared.printing.Unwritten.{Unwritten}
 use Rattle.run_driver.specs.declared.printing.Unwritten.TheVariants as unwritten
@@ -16,10 +18,10 @@ use Rattle.campaign_commands.specs.LedgerTexts.{ledger_line_text}
 use Rattle.campaign_commands.specs.declared.opening.NoLedgerCause.{NoLedgerCause}
 use Rattle.campaign_commands.specs.Opening.{ledger_size}
 use Rattle.campaign_commands.specs.Rows.{CampaignInputs, CampaignDisks, AreTwo, HasCommands, OverFirst, DoneCampaign, ComesBefore, EndsCampaign, in_row, campaigned}
-use Rattle.campaign_commands.specs.Campaigns.{TellsNoLedger, DoneNone, RunsCampaign}
-use Rattle.campaign_commands.proofs.Opened.{opened_or_none}
-use Rattle.campaign_commands.proofs.Told.{bad_or_good, first_or_small, over_both}
-use Rattle.campaign_commands.proofs.RowFacts.{over_first, row_2, row_4, row_5, row_7, row_8, row_9, row_10, row_status, row_unused, row_leaves, row_two, calm_whole, row_rose, row_too_much, row_bad, row_no_room, row_no_ledger, row_serves}
+use Rattle.campaign_commands.specs.Campaigns.{RanTo, TellsNoLedger, DoneNone, RunsCampaign}
+use Rattle.campaign_commands.proofs.Opened.{opened_or_none, lacks_room}
+use Rattle.campaign_commands.proofs.Told.{same_commands_told, bad_or_good, few_or_first, first_or_small, over_both}
+use Rattle.campaign_commands.proofs.RowFacts.{over_first, row_7, row_10, row_status, row_unused, row_leaves, row_tells, row_serves}
 
 -- ---- if it ended in a row
 
@@ -42,22 +44,22 @@ module _ {same : Type 0} {i : CampaignInputs} {d : CampaignDisks} {e : Ending} w
     as_many = as_many;
     disks_unused = ended_unused ends;
     done = EndsInRow-at ends 0 refl (λ row comes zero well. absurd ((row_status row comes).0 zero));
-    usage_told = EndsInRow-at ends 2 refl (row_2 e);
-    usage_only = λ not. EndsInRow-only ends 2 (λ row comes. row_two row comes not);
-    refused = EndsInRow-at ends 4 refl (row_4 e);
-    refused_only = λ fault bad. EndsInRow-may ends 4 (λ row comes. row_bad row fault comes bad);
-    read_fault = EndsInRow-at ends 5 refl (row_5 e);
-    read_fault_only = λ rose. EndsInRow-only ends 5 (λ row comes. row_rose row comes rose);
+    usage_told = EndsInRow-at ends 2 refl (λ row comes is well. grind arith);
+    usage_only = λ not. EndsInRow-only ends 2 (λ row comes. grind arith);
+    refused = EndsInRow-at ends 4 refl (λ row comes is well. grind arith);
+    refused_only = λ fault bad. EndsInRow-may ends 4 (λ row comes. grind (arith, Offers-is, bad_or_good));
+    read_fault = EndsInRow-at ends 5 refl (λ row comes is well. grind arith);
+    read_fault_only = λ rose. EndsInRow-only ends 5 (λ row comes. SourceTells-fault input_limit i.script row.status (row_tells row comes) rose);
     write_fault = λ six. let front = EndsInRow-front ends (λ row comes. (row_status row comes).1) six in (front.0, inl front.1);
     write_fault_only = EndsInRow-rose ends;
     no_memory = λ seven. inl (EndsInRow-at ends 7 refl (row_7 e) seven);
     early_ends = λ either. inr (ended_early ends either);
-    too_long = EndsInRow-at ends 8 refl (row_8 e);
-    too_long_only = λ more. EndsInRow-only ends 8 (λ row comes. row_too_much row comes more);
-    disks_refused = EndsInRow-at ends 9 refl (row_9 e);
-    disks_refused_only = λ commands offers small. EndsInRow-may ends 9 (λ row comes. row_no_room row commands comes offers small);
+    too_long = EndsInRow-at ends 8 refl (λ row comes is well. grind arith);
+    too_long_only = λ more. EndsInRow-only ends 8 (λ row comes. SourceTells-long input_limit i.script row.status (row_tells row comes) more);
+    disks_refused = EndsInRow-at ends 9 refl (λ row comes is well. grind (arith, over_first));
+    disks_refused_only = λ commands offers small. EndsInRow-may ends 9 (λ row comes. grind (arith, Offers-is, same_commands_told, first_or_small, over_first, lacks_room));
     store_refused = EndsInRow-at ends 10 refl (row_10 e);
-    store_refused_only = λ commands cause offers none. EndsInRow-may ends 10 (λ row comes. row_no_ledger row commands cause comes offers none);
+    store_refused_only = λ commands cause offers none. EndsInRow-may ends 10 (λ row comes. grind (arith, Offers-is, same_commands_told, few_or_first, first_or_small, over_first));
     complete = λ commands offers serves well. EndsInRow-done ends well 0 (λ row comes. row_serves row commands comes offers serves);
   }
 
@@ -96,87 +98,73 @@ module _ {i : CampaignInputs} {d : CampaignDisks} {e : Ending} (commands : List 
     no_lack : {A : Type 0} (cause : NoLedgerCause) → OverFirst d (TellsNoLedger cause) → A
     no_lack cause none = absurd (over_both d _ _ ⊥ over none (λ before after ran lacks. opened_or_none before after ran.ran.start cause ran.ran.opened lacks))
 
-  promises_of : (same : Type 0) (result : Result (Unit {0}) Unwritten) → OverFirst d (DoneCampaign commands e result) → RunsCampaign same i d e
-  promises_of same (Ok done) over =
-      let is : e.status ≡ 0 = status_is (Ok done) over in
-      record {
-        further = others (Ok done) over;
-        as_many = none_lost (Ok done) over;
-        disks_unused = λ low. absurd (let no : ⊥ = omega (arith, low, is) in no);
-        done = λ zero. (commands, has, over);
-        usage_told = λ st. absurd (let no : ⊥ = omega (arith, st, is) in no);
-        usage_only = two (Ok done) over;
-        refused = λ st. absurd (let no : ⊥ = omega (arith, st, is) in no);
-        refused_only = λ fault bad. absurd (bad_or_good i fault commands bad has);
-        read_fault = λ st. absurd (let no : ⊥ = omega (arith, st, is) in no);
-        read_fault_only = λ rose. calm_whole i.script has.text has.whole (inl rose);
-        write_fault = λ st. absurd (let no : ⊥ = omega (arith, st, is) in no);
-        write_fault_only = rose_is_six (Ok done) over;
-        no_memory = λ st. absurd (let no : ⊥ = omega (arith, st, is) in no);
-        early_ends = λ either. absurd (let no : ⊥ = omega (arith, either, is) in no);
-        too_long = λ st. absurd (let no : ⊥ = omega (arith, st, is) in no);
-        too_long_only = λ more. calm_whole i.script has.text has.whole (inr more);
-        disks_refused = λ st. absurd (let no : ⊥ = omega (arith, st, is) in no);
-        disks_refused_only = λ offered offers small. no_small (Ok done) over small;
-        store_refused = λ st. absurd (let no : ⊥ = omega (arith, st, is) in no);
-        store_refused_only = λ offered cause offers none. no_lack (Ok done) over cause none;
-        complete = λ offered offers serves well. inl is;
-      }
-  promises_of same (Err unwritten.SinkFailed) over =
-      let is : e.status ≡ 6 = status_is (Err unwritten.SinkFailed) over in
-      let failed : SinkFailed e = over.holds.ran.printed.holds.written.0 in
-      record {
-        further = others (Err unwritten.SinkFailed) over;
-        as_many = none_lost (Err unwritten.SinkFailed) over;
-        disks_unused = λ low. absurd (let no : ⊥ = omega (arith, low, is) in no);
-        done = λ st. absurd (let no : ⊥ = omega (arith, st, is) in no);
-        usage_told = λ st. absurd (let no : ⊥ = omega (arith, st, is) in no);
-        usage_only = two (Err unwritten.SinkFailed) over;
-        refused = λ st. absurd (let no : ⊥ = omega (arith, st, is) in no);
-        refused_only = λ fault bad. absurd (bad_or_good i fault commands bad has);
-        read_fault = λ st. absurd (let no : ⊥ = omega (arith, st, is) in no);
-        read_fault_only = λ rose. calm_whole i.script has.text has.whole (inl rose);
-        write_fault = λ st. (failed, inr (commands, has, over));
-        write_fault_only = λ rose. is;
-        no_memory = λ st. absurd (let no : ⊥ = omega (arith, st, is) in no);
-        early_ends = λ either. inl (unwritten.SinkFailed, (commands, has, over));
-        too_long = λ st. absurd (let no : ⊥ = omega (arith, st, is) in no);
-        too_long_only = λ more. calm_whole i.script has.text has.whole (inr more);
-        disks_refused = λ st. absurd (let no : ⊥ = omega (arith, st, is) in no);
-        disks_refused_only = λ offered offers small. no_small (Err unwritten.SinkFailed) over small;
-        store_refused = λ st. absurd (let no : ⊥ = omega (arith, st, is) in no);
-        store_refused_only = λ offered cause offers none. no_lack (Err unwritten.SinkFailed) over cause none;
-        complete = λ offered offers serves well. absurd (well failed);
-      }
-  promises_of same (Err unwritten.Memory) over =
-      let is : e.status ≡ 7 = status_is (Err unwritten.Memory) over in
-      record {
-        further = others (Err unwritten.Memory) over;
-        as_many = none_lost (Err unwritten.Memory) over;
-        disks_unused = λ low. absurd (let no : ⊥ = omega (arith, low, is) in no);
-        done = λ st. absurd (let no : ⊥ = omega (arith, st, is) in no);
-        usage_told = λ st. absurd (let no : ⊥ = omega (arith, st, is) in no);
-        usage_only = two (Err unwritten.Memory) over;
-        refused = λ st. absurd (let no : ⊥ = omega (arith, st, is) in no);
-        refused_only = λ fault bad. absurd (bad_or_good i fault commands bad has);
-        read_fault = λ st. absurd (let no : ⊥ = omega (arith, st, is) in no);
-        read_fault_only = λ rose. calm_whole i.script has.text has.whole (inl rose);
-        write_fault = λ st. absurd (let no : ⊥ = omega (arith, st, is) in no);
-        write_fault_only = rose_is_six (Err unwritten.Memory) over;
-        no_memory = λ st. inr (commands, has, over);
-        early_ends = λ either. inl (unwritten.Memory, (commands, has, over));
-        too_long = λ st. absurd (let no : ⊥ = omega (arith, st, is) in no);
-        too_long_only = λ more. calm_whole i.script has.text has.whole (inr more);
-        disks_refused = λ st. absurd (let no : ⊥ = omega (arith, st, is) in no);
-        disks_refused_only = λ offered offers small. no_small (Err unwritten.Memory) over small;
-        store_refused = λ st. absurd (let no : ⊥ = omega (arith, st, is) in no);
-        store_refused_only = λ offered cause offers none. no_lack (Err unwritten.Memory) over cause none;
-        complete = λ offered offers serves well. inr is;
-      }
+  done_0 : (result : Result (Unit {0}) Unwritten) → OverFirst d (DoneCampaign commands e result) → e.status ≡ 0 → RanTo i d e (Ok tt)
+  done_0 (Ok tt) over zero = (commands, has, over)
+  done_0 (Err unwritten.SinkFailed) over zero = absurd (omega (arith, zero, over.holds.status_is))
+  done_0 (Err unwritten.Memory) over zero = absurd (omega (arith, zero, over.holds.status_is))
+
+  done_6 : (result : Result (Unit {0}) Unwritten) → OverFirst d (DoneCampaign commands e result) → e.status ≡ 6
+      → SinkFailed e × RanTo i d e (Err unwritten.SinkFailed)
+  done_6 (Ok _) over six = absurd (omega (arith, six, over.holds.status_is))
+  done_6 (Err unwritten.SinkFailed) over six = (over.holds.ran.printed.holds.written.0, (commands, has, over))
+  done_6 (Err unwritten.Memory) over six = absurd (omega (arith, six, over.holds.status_is))
+
+  done_7 : (result : Result (Unit {0}) Unwritten) → OverFirst d (DoneCampaign commands e result) → e.status ≡ 7 → RanTo i d e (Err unwritten.Memory)
+  done_7 (Ok _) over seven = absurd (omega (arith, seven, over.holds.status_is))
+  done_7 (Err unwritten.SinkFailed) over seven = absurd (omega (arith, seven, over.holds.status_is))
+  done_7 (Err unwritten.Memory) over seven = (commands, has, over)
+
+  one_of_three : (result : Result (Unit {0}) Unwritten) → OverFirst d (DoneCampaign commands e result) → (e.status ≡ 0) ⊎ (e.status ≡ 6) ⊎ (e.status ≡ 7)
+  one_of_three (Ok _) over = inl over.holds.status_is
+  one_of_three (Err unwritten.SinkFailed) over = inr (inl over.holds.status_is)
+  one_of_three (Err unwritten.Memory) over = inr (inr over.holds.status_is)
+
+  module _ (result : Result (Unit {0}) Unwritten) (over : OverFirst d (DoneCampaign commands e result)) where
+    among : (e.status ≡ 0) ⊎ (e.status ≡ 6) ⊎ (e.status ≡ 7)
+    among = one_of_three result over
+
+    script_tells : SourceTells input_limit i.script e.status
+    script_tells = SourceTells-whole input_limit i.script e.status has.text has.whole
+
+    early : (e.status ≡ 6) ⊎ (e.status ≡ 7) → (cause : Unwritten) × RanTo i d e (Err cause)
+    early (inl six) = (unwritten.SinkFailed, (done_6 result over six).1)
+    early (inr seven) = (unwritten.Memory, done_7 result over seven)
+
+    completes : ¬ SinkFailed e → (e.status ≡ 0) ⊎ (e.status ≡ 7)
+    completes well = elim among [
+      | inl zero ↦ inl zero
+      | inr (inl six) ↦ absurd (well (done_6 result over six).0)
+      | inr (inr seven) ↦ inr seven
+    ]
+
+    promises_of : (same : Type 0) → RunsCampaign same i d e
+    promises_of same = record {
+      further = others result over;
+      as_many = none_lost result over;
+      disks_unused = λ low. absurd (omega (arith, low, among));
+      done = done_0 result over;
+      usage_told = λ st. absurd (omega (arith, st, among));
+      usage_only = two result over;
+      refused = λ st. absurd (omega (arith, st, among));
+      refused_only = λ fault bad. absurd (bad_or_good i fault commands bad has);
+      read_fault = λ st. absurd (omega (arith, st, among));
+      read_fault_only = λ rose. inl (SourceTells-fault input_limit i.script e.status script_tells rose);
+      write_fault = λ six. let failed = done_6 result over six in (failed.0, inr failed.1);
+      write_fault_only = rose_is_six result over;
+      no_memory = λ seven. inr (done_7 result over seven);
+      early_ends = λ either. inl (early either);
+      too_long = λ st. absurd (omega (arith, st, among));
+      too_long_only = λ more. inl (SourceTells-long input_limit i.script e.status script_tells more);
+      disks_refused = λ st. absurd (omega (arith, st, among));
+      disks_refused_only = λ offered offers small. no_small result over small;
+      store_refused = λ st. absurd (omega (arith, st, among));
+      store_refused_only = λ offered cause offers none. no_lack result over cause none;
+      complete = λ offered offers serves. completes;
+    }
 
 -- ---- both
 
 pub RunsCampaign-ends : (same : Type 0) (i : CampaignInputs) (d : CampaignDisks) (e : Ending) → drop 1 d.after ≡ drop 1 d.before
     → length d.after ≡ length d.before → EndsCampaign same i d e → RunsCampaign same i d e
 RunsCampaign-ends same i d e further as_many (in_row ends) = promises_in_row further as_many ends
-RunsCampaign-ends same i d e further as_many (campaigned commands result has over) = promises_of commands has same result over
+RunsCampaign-ends same i d e further as_many (campaigned commands result has over) = promises_of commands has result over same

@@ -6,7 +6,7 @@ use Rattle.std.specs.Str.{bytes_eq}
 use Rattle.text_lines.specs.declared.fault.Cause.{Cause}
 use Rattle.text_lines.specs.declared.fault.Cause.TheVariants as cause
 use Rattle.text_lines.specs.Forms.{number_form}
-use Rattle.text_lines.specs.Readings.{Fault, nth_word, field, with_count, read_all}
+use Rattle.text_lines.specs.Readings.{Fault, nth_word, field, with_count, read_all, ◌>>=◌}
 use Rattle.secoc_words.specs.Forms.{data_id_form}
 use Rattle.freshness_routes.specs.declared.routes.Direction.{Direction}
 use Rattle.freshness_routes.specs.declared.routes.Direction.TheVariants.{Sends, Receives}

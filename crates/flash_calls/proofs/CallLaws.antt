@@ -1,5 +1,5 @@
 -- Numbers that a call leaves are a plan of the same store.
-use Rattle.std.proofs.Common.{◌≡◌, ◌⊎◌, inl, inr, Option, Some, None, refl, ℕ, ◌+◌, ◌*◌, ◌/◌, ◌^◌, ◌<◌, ◌≤◌, subst, sym, ap, ◌∙◌, arith}
+use Rattle.std.proofs.Common.{◌≡◌, ◌⊎◌, inl, inr, Option, Some, None, refl, ℕ, ◌+◌, ◌-◌, ◌*◌, ◌/◌, ◌^◌, ◌<◌, ◌≤◌, subst, sym, ap, ◌∙◌, arith}
 use Rattle.std.proofs.Math.Nat.{div-mul-le_self}
 use Rattle.std.proofs.lemmas.Option.{none-some}
 use Rattle.flash_places.specs.Places.{Flash}
@@ -57,10 +57,10 @@ pub has_begun : (unit banks bank_size places n : ℕ) (new : FlashNumbers) (plan
     → plan.places ≡ places
     → ((m : ℕ) → 0 < m → m < 2 ^ 16 → m + 1 < places → IsPlanOf m plan)
     → ((m : ℕ) → operations_left m plan ≤ banks * places + (m + 2))
-    → plan.put ≡ None
+    → plan.put ≡ None → plan.step ≡ Heading 0
     → ((m : ℕ) (cells scratch : CellList) (f : Flash) → StandsAt (plan_layout plan m) plan cells scratch (machine f off) f)
     → Begun unit banks bank_size n new
-has_begun unit banks bank_size places n new plan fits small rounded is unit_is banks_is places_is whole left none stands = record {
+has_begun unit banks bank_size places n new plan fits small rounded is unit_is banks_is places_is whole left none first stands = record {
   fits = fits;
   unit_is = unit_is;
   banks_is = ap (λ (p : FlashPlan). p.banks) is ∙ banks_is;
@@ -69,6 +69,7 @@ has_begun unit banks bank_size places n new plan fits small rounded is unit_is b
   left = subst (λ k. operations_left n (plan_in new) ≤ banks * k + (n + 2)) (sym (ap (λ (p : FlashPlan). p.places) is ∙ places_is))
       (subst (λ (p : FlashPlan). operations_left n p ≤ banks * places + (n + 2)) (sym is) (left n));
   none = ap (λ (p : FlashPlan). p.put) is ∙ none;
+  first = ap (λ (p : FlashPlan). p.step) is ∙ first;
   stands = λ cells scratch f. subst (λ (p : FlashPlan). StandsAt (plan_layout p n) p cells scratch (machine f off) f) (sym is) (stands n cells scratch f);
 }
 
@@ -76,14 +77,15 @@ pub has_format_begun : (unit banks bank_size places n : ℕ) (new : FlashNumbers
     → bank_size < 2 ^ 32 → places ≡ bank_size / line_length unit → plan_in new ≡ plan → new.unit ≡ unit → plan.banks ≡ banks
     → plan.places ≡ places
     → ((m : ℕ) → 0 < m → m < 2 ^ 16 → m + 1 < places → IsPlanOf m plan)
-    → ((cells : CellList) (f : Flash) → FormatsAt plan cells f)
+    → ((cells : CellList) (f : Flash) → FormatsAt plan cells f) → plan.step ≡ Clearing (banks - 1)
     → FormatBegun unit banks bank_size n new
-has_format_begun unit banks bank_size places n new plan fits small rounded is unit_is banks_is places_is whole formats = record {
+has_format_begun unit banks bank_size places n new plan fits small rounded is unit_is banks_is places_is whole formats first = record {
   fits = fits;
   unit_is = unit_is;
   banks_is = ap (λ (p : FlashPlan). p.banks) is ∙ banks_is;
   places_is = ap (λ (p : FlashPlan). p.places) is ∙ places_is ∙ rounded;
   call = call_of_part unit banks bank_size places n new plan fits small rounded is unit_is places_is whole;
+  first = ap (λ (p : FlashPlan). p.step) is ∙ first;
   formats = λ cells f. subst (λ (p : FlashPlan). FormatsAt p cells f) (sym is) (formats cells f);
 }
 

@@ -5,3 +5,4 @@ pub mod LifeLaws
 pub mod PutMoves
 pub mod PutLives
 pub mod CallerLemmas
+pub mod WearLives

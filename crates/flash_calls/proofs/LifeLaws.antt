@@ -113,12 +113,12 @@ begun_stands s a h = record {
 
 -- ---- each deed is a turn
 
-record DeedTurn (s : FlashSizes) (deed : CallDeed) (from : FlashMachine) (b : CallState) : Type 0 where
-  turn : Turn
-  at : FlashMachine
-  moves : MovesBy (sizes_layout s) turn.put turn.outcome from at
-  same : deed_in turn.put turn.outcome ≡ call_puts deed
-  stands : StandsIn s b at
+pub record DeedTurn (s : FlashSizes) (deed : CallDeed) (from : FlashMachine) (b : CallState) : Type 0 where
+  pub turn : Turn
+  pub at : FlashMachine
+  pub moves : MovesBy (sizes_layout s) turn.put turn.outcome from at
+  pub same : deed_in turn.put turn.outcome ≡ call_puts deed
+  pub stands : StandsIn s b at
 
 performed : (s : FlashSizes) (put : Option WaitingPut) (outcome : ℕ) (bytes : List ℕ) (a b : CallState) (at : FlashMachine) → StandsIn s a at
     → PerformsNext put outcome bytes a b → DeedTurn s (performs put outcome bytes) at b
@@ -198,7 +198,7 @@ cut s put a b at h d =
       stands = begun_stands s b d.begun;
     }
 
-deed_turn : (s : FlashSizes) (deed : CallDeed) (a b : CallState) (at : FlashMachine) → StandsIn s a at → DoesCall s deed a b → DeedTurn s deed at b
+pub deed_turn : (s : FlashSizes) (deed : CallDeed) (a b : CallState) (at : FlashMachine) → StandsIn s a at → DoesCall s deed a b → DeedTurn s deed at b
 deed_turn s (performs put outcome bytes) a b at h d = performed s put outcome bytes a b at h d
 deed_turn s (takes_put cell payload) a b at h d = took s cell payload a b at h d
 deed_turn s starts a b at h d = started s a b at h d

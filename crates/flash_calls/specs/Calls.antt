@@ -1,5 +1,6 @@
 -- What a call does to a plan in numbers, and why it does nothing.
-use Rattle.std.specs.Prelude.{◌≡◌, ◌≢◌, ◌⊎◌, ◌↔◌, ◌+◌, ◌*◌, ◌/◌, ◌≤◌, ◌<◌, ℕ, Option, Some, None, IfSome, List, length}
+use Rattle.std.specs.Prelude.{◌≡◌, ◌≢◌, ◌⊎◌, ◌↔◌, ◌+◌, ◌-◌, ◌*◌, ◌/◌, ◌≤◌, ◌<◌, ℕ, Option, Some, None, IfSome, List, length}
+use Rattle.std.specs.Prelude.{drop, replicate}
 use Rattle.flash_places.specs.Places.{Flash}
 use Rattle.flash_laws.specs.Logs.{CellList}
 use Rattle.flash_laws.specs.Lives.{FlashMachine, off}
@@ -12,7 +13,9 @@ use Rattle.flash_plan.specs.declared.plans.FlashPlan.{FlashPlan}
 use Rattle.flash_plan.specs.declared.plans.PlanStep.{PlanStep}
 use Rattle.flash_plan.specs.declared.plans.PlanStep.TheVariants.{Heading, Copied, Puts, Free, Erasing, Copying}
 use Rattle.flash_plan.specs.declared.plans.PlanStep.TheVariants.{Ready, Clearing, Filling, Ended}
-use Rattle.flash_plan.specs.Plans.{IsIdle, IsFullAt, operation_of, put_in, operations_left}
+use Rattle.flash_plan.specs.Plans.{IsIdle, IsFullAt, ReadsAt, SkipsOlder, operation_of, put_in, put_left}
+use Rattle.flash_plan.specs.Plans.{operations_left}
+use Rattle.flash_plan.specs.Wear.{puts_to_bank, erases_by, erase_credit}
 use Rattle.flash_plan.specs.Formatting.{FormatsAt}
 use Rattle.flash_plan.specs.Performing.{IsWithinFlash}
 use Rattle.flash_plan.specs.Standing.{plan_layout, StandsAt, PlanMovesOn}
@@ -22,8 +25,8 @@ use Rattle.flash_calls.specs.declared.calls.FlashRefusal.TheVariants.{Exhausted,
 use Rattle.flash_calls.specs.declared.numbers.FlashNumbers.{FlashNumbers}
 use Rattle.flash_calls.specs.declared.operations.FlashOperation.{FlashOperation}
 use Rattle.flash_calls.specs.Numbers.{plan_in}
-use Rattle.flash_calls.specs.Operations.{IsProgramUnit, IsCallOf, FitsPart, SaysOperation, PerformsBytes, Comes}
-use Rattle.flash_calls.specs.Operations.{FailsBy}
+use Rattle.flash_calls.specs.Operations.{IsProgramUnit, IsCallOf, FitsPart, SaysOperation}
+use Rattle.flash_calls.specs.Operations.{PerformsBytes, Comes, FailsBy}
 
 -- a line of a part of this unit takes so many bytes
 pub record IsLineSize (unit size : ℕ) : Type 0 where
@@ -32,25 +35,27 @@ pub record IsLineSize (unit size : ℕ) : Type 0 where
   pub least : 44 ≤ size
   pub most : size ≤ 128
 
--- a plan at power-up, over a flash of these sizes
+-- a plan at power-up, over a flash of these sizes: it reads the head of bank 0 first
 pub record Begun (unit banks bank_size n : ℕ) (new : FlashNumbers) : Type 0 where
   pub fits : FitsPart unit banks bank_size n
   pub unit_is : new.unit ≡ unit
   pub banks_is : new.banks ≡ banks
   pub places_is : new.places ≡ bank_size / line_length unit
   pub call : IsCallOf n new
+  pub first : (plan_in new).step ≡ Heading 0
   pub left : operations_left n (plan_in new) ≤ banks * new.places + (n + 2)
   pub none : (plan_in new).put ≡ None
   pub stands : (cells scratch : CellList) (f : Flash)
       → StandsAt (plan_layout (plan_in new) n) (plan_in new) cells scratch (machine f off) f
 
--- a plan that makes a store, over a flash of these sizes
+-- a plan that makes a store, over a flash of these sizes: it erases the last bank first
 pub record FormatBegun (unit banks bank_size n : ℕ) (new : FlashNumbers) : Type 0 where
   pub fits : FitsPart unit banks bank_size n
   pub unit_is : new.unit ≡ unit
   pub banks_is : new.banks ≡ banks
   pub places_is : new.places ≡ bank_size / line_length unit
   pub call : IsCallOf n new
+  pub first : (plan_in new).step ≡ Clearing (banks - 1)
   pub formats : (cells : CellList) (f : Flash) → FormatsAt (plan_in new) cells f
 
 -- why nothing comes next of a plan that has ended
@@ -69,12 +74,16 @@ refusal_of (Ended end_no_store) = Some NoStore
 refusal_of (Ended end_exhausted) = Some Exhausted
 refusal_of (Ended end_failed) = Some Failed
 
--- the numbers are a plan that hasn't ended, and this is said of its next operation
+-- The numbers are a plan that hasn't ended, and this is said of its next operation. What that doesn't use is zero: bytes
+-- that are none of a line that is programmed, and all of no operation.
 pub record SaysNext (flash : FlashNumbers) (cells : CellList) (o : FlashOperation) : Type 0 where
   pub call : IsCallOf (length cells) flash
   pub goes_on : refusal_of (plan_in flash).step ≡ None
   pub inside : IfSome (operation_of (plan_in flash) cells) (λ it. IsWithinFlash flash.banks flash.places it)
   pub says : SaysOperation (line_length flash.unit) (operation_of (plan_in flash) cells) o
+  pub quiet : o.kind ≢ 3 → o.bytes ≡ replicate 128 0
+  pub rest : drop (line_length flash.unit) o.bytes ≡ replicate (128 - line_length flash.unit) 0
+  pub idle : o.kind ≡ 0 → (o.bank ≡ 0) × ((o.offset ≡ 0) × (o.length ≡ 0))
 
 -- why none is said
 abbrev pub FlashNextRefused : ℕ → FlashNumbers → FlashRefusal → Type 0
@@ -94,7 +103,8 @@ pub record PutMoves (outcome : ℕ) (old new : FlashPlan) : Type 0 where
   pub failed : put_in old ≢ None → outcome ≢ 0 → HasFailed new
 
 -- The caller performed the next operation, and the plan stands where that leads. It has failed exactly if the outcome
--- says so. If none came next, nothing changed. A plan that makes a store keeps its cells.
+-- says so. If none came next, nothing changed. A plan that makes a store keeps its cells. An erase is paid for (`wear`),
+-- and a bank whose log is older than one before it isn't read on (`skips`).
 pub record DidMoves (outcome : ℕ) (bytes : List ℕ) (old : FlashNumbers) (cells scratch : CellList) (new : FlashNumbers)
     (cells' scratch' : CellList) : Type 0 where
   pub was : IsCallOf (length cells) old
@@ -119,13 +129,18 @@ pub record DidMoves (outcome : ℕ) (bytes : List ℕ) (old : FlashNumbers) (cel
   pub less : (operation_of (plan_in old) cells ≡ None → ⊥)
       → operations_left (length cells) (plan_in new) < operations_left (length cells) (plan_in old)
   pub none : operation_of (plan_in old) cells ≡ None → (new ≡ old) × ((cells' ≡ cells) × (scratch' ≡ scratch))
+  pub skips : SkipsOlder (plan_in old).best (plan_in old).step → SkipsOlder (plan_in new).best (plan_in new).step
+  pub wear : (ReadsAt (plan_in old).step → ⊥)
+      → erases_by (operation_of (plan_in old) cells) * puts_to_bank old.places (length cells)
+      + erase_credit old.places (length cells) (plan_in new).step
+      ≤ erase_credit old.places (length cells) (plan_in old).step + put_left (put_in (plan_in old))
 
 -- why it doesn't take the outcome: scratch has m cells
 abbrev pub FlashDidRefused : ℕ → ℕ → FlashNumbers → FlashRefusal → Type 0
 FlashDidRefused n m flash refusal =
     ((refusal ≡ BadLength) × (m ≢ n)) ⊎ ((refusal ≡ BadValue) × ((m ≡ n) × (IsCallOf n flash → ⊥)))
 
--- the put waits
+-- The put waits. Its line is programmed next (`programs`), unless the bank is full: then a copy is made first (`copies`).
 pub record PutTaken (cell : ℕ) (payload : List ℕ) (cells : CellList) (old new : FlashNumbers) : Type 0 where
   pub was : IsCallOf (length cells) old
   pub below : cell < length cells
@@ -136,6 +151,10 @@ pub record PutTaken (cell : ℕ) (payload : List ℕ) (cells : CellList) (old ne
   pub banks_is : new.banks ≡ old.banks
   pub places_is : new.places ≡ old.places
   pub waits : (plan_in new).put ≡ Some (record { cell = cell; payload = payload })
+  pub programs : (bank generation next : ℕ) → (plan_in old).step ≡ Ready bank generation next → next < old.places
+      → (plan_in new).step ≡ (plan_in old).step
+  pub copies : (bank generation next : ℕ) → (plan_in old).step ≡ Ready bank generation next → old.places ≤ next
+      → (plan_in new).step ≡ Erasing bank generation
   pub left : operations_left (length cells) (plan_in new) ≤ length cells + 3
   pub stands : (scratch : CellList) (at : FlashMachine) (f : Flash)
       → StandsAt (plan_layout (plan_in old) (length cells)) (plan_in old) cells scratch at f

@@ -2,3 +2,4 @@ pub mod Numbers
 pub mod Operations
 pub mod Calls
 pub mod CallLives
+pub mod CallWear

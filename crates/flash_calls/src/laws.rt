@@ -3,12 +3,12 @@
 //! A caller begins a plan at power-up ([`begin`](crate::begin)), performs each operation that [`next`](crate::next)
 //! says, and reports its outcome to [`did`](crate::did). It hands in a put by [`put`](crate::put). The power may go
 //! between two operations or within one, and then all begins again (`CallLives`).
-ghost use Rattle.std.specs.Prelude.{◌≡◌, ◌⊎◌, ℕ, List, Some, set};
+ghost use Rattle.std.specs.Prelude.{◌≡◌, ◌⊎◌, ◌+◌, ◌*◌, ◌≤◌, ℕ, suc, List, Some, length, set};
 ghost use Rattle.flash_laws.specs.Logs.{CellList};
 ghost use Rattle.flash_laws.specs.CutFormats.{CutFormatted};
 ghost use Rattle.flash_laws.specs.Lives.{FlashFormatted, Possible, off};
 ghost use Rattle.flash_log.specs.Going.{machine};
-ghost use Rattle.flash_plan.specs.declared.plans.PlanEnd.TheVariants.{NoStore, Formatted};
+ghost use Rattle.flash_plan.specs.declared.plans.PlanEnd.TheVariants.{NoStore, Formatted, Failed as end_failed};
 ghost use Rattle.flash_plan.specs.declared.plans.PlanStep.TheVariants.{Ended};
 ghost use Rattle.flash_plan.specs.declared.operations.Operation.{Operation};
 ghost use Rattle.flash_plan.specs.Performing.{MayBegin};
@@ -17,6 +17,7 @@ ghost use Rattle.flash_calls.specs.Numbers.{plan_in};
 ghost use Rattle.flash_calls.specs.CallLives.{FlashSizes, CallState, CallDeed, CallLives, OperationsDone};
 ghost use Rattle.flash_calls.specs.CallLives.{CallBegun, CallFormatBegun, sizes_layout, puts_made, IsFoundStore};
 ghost use Rattle.flash_calls.specs.CallLives.{TakesPut, EachPutTaken, IsPutOf, TakesNoPut};
+ghost use Rattle.flash_calls.specs.CallWear.{LivesErasing, starts_in, bank_puts, ReportsFailure};
 
 /// A put is there whole or not at all over all lives. The cells of an idle plan are what the puts that were done made
 /// of those that were formatted, or of those of an earlier idle plan. Each put that was cut is there or not. That holds
@@ -75,4 +76,19 @@ pub fn a_program_finds_its_place_blank()
     ensures made { (s : FlashSizes) (deeds : List CallDeed) (a b : CallState) (operation : Operation)
         → CallFormatBegun s a → OperationsDone deeds a b → operation_of (plan_in b.numbers) b.cells ≡ Some operation
         → MayBegin operation b.flash }
+{}
+
+/// Over all lives a bank is erased once a start at most, and once more for as many puts as a bank takes (`bank_puts`).
+/// An erase counts as soon as it is begun, a start whenever all begins again, and a put whose line is programmed, done
+/// or cut.
+pub fn erases_are_bounded()
+    ensures { (s : FlashSizes) (deeds : List CallDeed) (erases : ℕ) (a b : CallState) → CallBegun s a
+        → LivesErasing s deeds erases a b
+        → erases * bank_puts s ≤ suc (starts_in deeds) * bank_puts s + length (puts_made deeds) }
+{}
+
+/// A plan has failed only if a report said so since the last start: its outcome was none of the operation's own.
+pub fn a_plan_fails_only_by_a_report()
+    ensures { (s : FlashSizes) (deeds : List CallDeed) (a b : CallState) → CallBegun s a → CallLives s deeds a b
+        → (plan_in b.numbers).step ≡ Ended end_failed → ReportsFailure s deeds a }
 {}

@@ -1,5 +1,5 @@
 //! Operations with the bytes of their lines.
-ghost use Rattle.std.specs.Prelude.{◌≡◌, ◌≤◌, ◌<◌, ◌*◌, ◌^◌, ℕ, length, IfSome};
+ghost use Rattle.std.specs.Prelude.{◌≡◌, ◌≢◌, ◌-◌, ◌≤◌, ◌<◌, ◌*◌, ◌^◌, ℕ, length, IfSome, drop, replicate};
 ghost use Rattle.flash_places.specs.Places.{Flash};
 ghost use Rattle.flash_plan.specs.declared.operations.Operation.TheVariants.{Read};
 ghost use Rattle.flash_places.specs.declared.Answer.TheVariants.{Blank};
@@ -35,7 +35,10 @@ pub(crate) fn say_operation(
     requires most { size ≤ 128 }
     requires small { places * size < 2 ^ 32 }
     requires inside { IfSome operation (IsPlaceBelow places) }
-    ensures { SaysOperation size operation result }
+    ensures says { SaysOperation size operation result }
+    ensures quiet { result.kind ≢ 3 → result.bytes ≡ replicate 128 0 }
+    ensures rest { drop size result.bytes ≡ replicate (128 - size) 0 }
+    ensures idle { result.kind ≡ 0 → (result.bank ≡ 0) × ((result.offset ≡ 0) × (result.length ≡ 0)) }
 {
     let mut bytes = [0; 128];
     let length = size as u32;

@@ -23,7 +23,82 @@ struct Line {
 #[derive(Clone, Copy, Drop)]
 struct Banks {
     lines: [Line; 2 * LINES],
+    /// Whether a line that was erased is told as blank.
+    tells_blank: bool,
+    done: Done,
 }
+
+/// How many operations of each kind were performed.
+#[derive(Clone, Copy, Debug, PartialEq, Eq, Drop)]
+struct Done {
+    reads: u32,
+    erases: u32,
+    programs: u32,
+}
+
+/// What a store costs that was made, without what making it cost.
+struct CostRow {
+    tells_blank: bool,
+    starts: u32,
+    /// After the last start.
+    puts: u32,
+    done: Done,
+}
+
+/// A start copies fourteen cells and a head, unless it goes on; a put is one program, and each third one finds its bank
+/// full. A start reads a copy and the place behind it, and the other bank only if its head is later: every second time.
+const COSTS: [CostRow; 5] = [
+    CostRow {
+        tells_blank: false,
+        starts: 1000,
+        puts: 0,
+        done: Done {
+            reads: 24_500,
+            erases: 1000,
+            programs: 15_000,
+        },
+    },
+    CostRow {
+        tells_blank: true,
+        starts: 1000,
+        puts: 0,
+        done: Done {
+            reads: 19_000,
+            erases: 0,
+            programs: 0,
+        },
+    },
+    CostRow {
+        tells_blank: false,
+        starts: 1,
+        puts: 3,
+        done: Done {
+            reads: 17,
+            erases: 1,
+            programs: 18,
+        },
+    },
+    CostRow {
+        tells_blank: false,
+        starts: 1,
+        puts: 200,
+        done: Done {
+            reads: 17,
+            erases: 67,
+            programs: 1205,
+        },
+    },
+    CostRow {
+        tells_blank: true,
+        starts: 1,
+        puts: 200,
+        done: Done {
+            reads: 19,
+            erases: 66,
+            programs: 1190,
+        },
+    },
+];
 
 /// Unit, banks, bytes of a bank, cells, and whether a store of so many cells fits such a part.
 const PARTS: [(u16, u8, u32, usize, bool); 16] = [
@@ -58,7 +133,23 @@ fn erased() -> Line {
 /// Two banks of lines of this byte.
 fn banks_of(byte: u8) -> Banks {
     let lines = [Line { bytes: [byte; 48] }; 2 * LINES];
-    Banks { lines }
+    let done = Done {
+        reads: 0,
+        erases: 0,
+        programs: 0,
+    };
+    Banks {
+        lines,
+        tells_blank: false,
+        done,
+    }
+}
+
+/// Whether all is zero that the operation doesn't use.
+fn is_quiet(operation: &FlashOperation) -> bool {
+    let first = if operation.kind == 3 { 48 } else { 0 };
+    let none = operation.kind != 0 || operation.bank == 0 && operation.offset == 0;
+    none && operation.bytes[first..].iter().all(|byte| *byte == 0)
 }
 
 /// Performs an operation on the banks: its outcome.
@@ -69,11 +160,23 @@ fn perform(banks: &mut Banks, operation: &mut FlashOperation) -> u32 {
     }
     let first = operation.bank as usize * LINES;
     match operation.kind {
-        1 => operation.bytes[..48].copy_from_slice(&banks.lines[first + line].bytes),
-        2 => banks.lines[first..first + LINES].fill(erased()),
-        _ => banks.lines[first + line]
-            .bytes
-            .copy_from_slice(&operation.bytes[..48]),
+        1 => {
+            banks.done.reads = banks.done.reads.saturating_add(1);
+            operation.bytes[..48].copy_from_slice(&banks.lines[first + line].bytes);
+            if banks.tells_blank && operation.bytes[..48] == [0xff; 48] {
+                return 1;
+            }
+        }
+        2 => {
+            banks.done.erases = banks.done.erases.saturating_add(1);
+            banks.lines[first..first + LINES].fill(erased());
+        }
+        _ => {
+            banks.done.programs = banks.done.programs.saturating_add(1);
+            banks.lines[first + line]
+                .bytes
+                .copy_from_slice(&operation.bytes[..48]);
+        }
     }
     0
 }
@@ -94,6 +197,9 @@ fn work(
     };
     for _ in 0..100u32 {
         next(flash, cells, &mut operation)?;
+        if !is_quiet(&operation) {
+            return Err(FlashRefusal::BadValue);
+        }
         if operation.kind == 0 {
             return Ok(());
         }
@@ -129,6 +235,27 @@ fn made(banks: &mut Banks, puts: u8) -> Result<(), FlashRefusal> {
     Ok(())
 }
 
+/// Makes a store, starts it so often, and puts into its first cell: what that cost, without the making.
+fn cost(row: &CostRow) -> Result<Done, FlashRefusal> {
+    let mut banks = banks_of(0x5a);
+    let mut flash = some_numbers();
+    let mut cells = [[1; 32]; CELLS];
+    let mut scratch = [[0; 32]; CELLS];
+    take(&mut flash, 8, 2, 864, CELLS)?;
+    work(&mut flash, &mut cells, &mut scratch, &mut banks)?;
+    banks.done = banks_of(0).done;
+    banks.tells_blank = row.tells_blank;
+    for _ in 0..row.starts {
+        begin(&mut flash, 8, 2, 864, CELLS)?;
+        work(&mut flash, &mut cells, &mut scratch, &mut banks)?;
+    }
+    for k in 0..row.puts {
+        put(&mut flash, &cells, 0, &[(k % 256) as u8; 32])?;
+        work(&mut flash, &mut cells, &mut scratch, &mut banks)?;
+    }
+    Ok(banks.done)
+}
+
 /// What an outcome that is reported with `scratch` of another length is answered.
 fn reported_with_other_scratch() -> Result<(), FlashRefusal> {
     let mut flash = some_numbers();
@@ -160,6 +287,14 @@ fn puts_through_some_changes_of_banks_are_there_at_the_next_start(
         cells[k as usize] = [k; 32];
     }
     assert_eq!(rt; started(&mut banks), Ok(cells));
+    Ok(())
+}
+
+#[test]
+fn starts_and_puts_cost_so_many_operations(rt: HostRuntime) -> Result<(), Fail> {
+    for row in &COSTS {
+        assert_eq!(rt; cost(row), Ok(row.done));
+    }
     Ok(())
 }
 

@@ -1,9 +1,10 @@
 //! Starts of a store, and what it refuses.
-ghost use Rattle.std.specs.Prelude.{◌≡◌, ◌<◌, IfOk};
+ghost use Rattle.std.specs.Prelude.{◌≡◌, ◌<◌, length, IfOk};
 ghost use Rattle.flash_places.specs.MemFlash.{memory_state};
+ghost use Rattle.flash_log.specs.Stores.{IsStoreOf};
 
 use flash_log::{AttachFault, FlashLog, PutFault, attach, format};
-use flash_places::MemFlash;
+use flash_places::{Answer, FlashDevice, FlashLine, MemFlash};
 use std::alloc::Global;
 use std::process::Abort;
 use std::test::Fail;
@@ -72,5 +73,78 @@ fn a_store_waits_for_a_start_after_a_failed_put(rt: HostRuntime) -> Result<(), F
     let ends = [Err(PutFault::Failed), Err(PutFault::NotReady), Ok(())];
     assert_eq!(rt; put_thrice(&mut flash), Ok(ends));
     assert!(rt; start(&mut flash).is_ok_and(|it| it.1 == [8; 32]));
+    Ok(())
+}
+
+/// Puts while a second call fails.
+fn put_alone(
+    flash: &mut MemFlash,
+    store: &mut FlashLog,
+    cells: &mut [[u8; 32]],
+) -> Result<(), PutFault>
+    requires two { length cells.old ≡ 2 }
+    requires store { IsStoreOf store.old (length cells.old) (memory_state flash.old) }
+    ensures store { IsStoreOf store.new (length cells.old) (memory_state flash.new) }
+{
+    flash.fail_at(2);
+    store.put(flash, cells, 1, &[7; 32])
+}
+
+/// Puts so six times: five places stand behind a copy of two cells.
+fn put_six(flash: &mut MemFlash) -> Result<[Result<(), PutFault>; 6], AttachFault>
+    requires { 3 < (memory_state flash.old).places }
+{
+    let mut cells = [[0; 32]; 2];
+    let mut scratch = [[0; 32]; 2];
+    let mut store = attach(flash, &mut cells, &mut scratch)?;
+    Ok([
+        put_alone(flash, &mut store, &mut cells),
+        put_alone(flash, &mut store, &mut cells),
+        put_alone(flash, &mut store, &mut cells),
+        put_alone(flash, &mut store, &mut cells),
+        put_alone(flash, &mut store, &mut cells),
+        put_alone(flash, &mut store, &mut cells),
+    ])
+}
+
+#[test]
+fn a_put_is_one_call_unless_the_bank_is_full(rt: HostRuntime) -> Result<(), Fail> {
+    let mut flash = fresh_flash(rt.alloc())?;
+    let one = Ok(());
+    let ends = [one, one, one, one, one, Err(PutFault::Failed)];
+    assert_eq!(rt; put_six(&mut flash), Ok(ends));
+    Ok(())
+}
+
+/// What a place is read as, whose program was cut, or whose erase was: at a read that sees what it can, or not.
+fn read_after_a_cut(alloc: Global, cuts_erase: bool, sees: bool) -> Result<Answer, Fail> {
+    let mut flash = MemFlash::new(alloc, 2, 4)?;
+    if !cuts_erase {
+        flash.fail_at(1);
+    }
+    let program = flash.program(1, 2, &FlashLine::Head(7));
+    if cuts_erase {
+        flash.fail_at(1);
+    }
+    let erase = if cuts_erase { flash.erase(1) } else { Ok(()) };
+    flash.answer_by(sees as u64, true);
+    let answer = flash.look(1, 2);
+    if program.is_ok() != cuts_erase || erase.is_ok() == cuts_erase {
+        return Err(Fail::from("nothing was cut"));
+    }
+    match answer {
+        Ok(answer) => Ok(answer),
+        Err(_) => Err(Fail::from("not read")),
+    }
+}
+
+#[test]
+fn a_place_that_was_cut_is_seen_or_not(rt: HostRuntime) -> Result<(), Fail> {
+    for cuts_erase in [false, true] {
+        let seen = read_after_a_cut(rt.alloc(), cuts_erase, true)?;
+        assert_eq!(rt; seen, Answer::Whole(FlashLine::Head(7)));
+        let unseen = read_after_a_cut(rt.alloc(), cuts_erase, false)?;
+        assert_eq!(rt; unseen, Answer::Nothing);
+    }
     Ok(())
 }

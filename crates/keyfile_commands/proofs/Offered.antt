@@ -7,7 +7,6 @@ use Rattle.program_edge.proofs.CallerLemmas.{Offers-is, Offers-whole}
 use Rattle.key_commands.specs.declared.tasks.Task.{Task}
 use Rattle.key_commands.specs.declared.tasks.BadValue.{BadValue}
 use Rattle.keyfile_commands.specs.declared.calls.KeyCall.{KeyCall}
-use Rattle.keyfile_commands.specs.declared.calls.KeyCall.TheVariants.{Make, Read, Confirm, Bootmac}
 use Rattle.keyfile_commands.specs.KeyFiles.{key_file_of}
 use Rattle.keyfile_commands.specs.Rows.{KeyFileInputs, AsksKeys, AsksKeysBy, GivesKey, HasNoKey, LacksImageFile, ReadsImageFile}
 use Rattle.keyfile_commands.specs.KeyFilesRuns.{OffersKey, OffersBootImage, OffersBy, OffersCall}
@@ -39,20 +38,7 @@ image_lacks file image input.TooLong (told, some, short, well) (same, (bytes, mo
 image_lacks file image input.Memory offers lacks = refl
 
 asked_by : (i : KeyFileInputs) (call : KeyCall) (asked other : Result Task BadValue) → OffersBy call i asked → AsksKeysBy call i other → other ≡ asked
-asked_by i Make asked other (key, auth, offers, offers_auth, is) (k, a, gives, gives_auth, also) =
-    let key_is : k ≡ key = same_key i.first key k offers gives in
-    let auth_is : a ≡ auth = same_key i.second auth a offers_auth gives_auth in
-    cc (is, also, key_is, auth_is)
-asked_by i Read asked other (auth, offers, is) (a, gives, unread, also) =
-    let auth_is : a ≡ auth = same_key i.first auth a offers gives in
-    cc (is, also, auth_is)
-asked_by i Confirm asked other (key, offers, is) (k, gives, unread, also) =
-    let key_is : k ≡ key = same_key i.first key k offers gives in
-    cc (is, also, key_is)
-asked_by i Bootmac asked other (key, image, offers, offers_image, is) (k, m, gives, (whole, some), also) =
-    let key_is : k ≡ key = same_key i.first key k offers gives in
-    let image_is : m ≡ image = same_image i.second image m offers_image whole in
-    cc (is, also, key_is, image_is)
+asked_by i call asked other offers asks = grind (arith, same_key, same_image)
 
 -- the arguments ask for one thing alone
 pub asks_one : (i : KeyFileInputs) (asked other : Result Task BadValue) → OffersCall i asked → AsksKeys i other → other ≡ asked

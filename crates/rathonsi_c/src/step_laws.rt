@@ -1,5 +1,5 @@
 //! What ties calls together: each function has an empty body, and its contract is the law.
-ghost use Rattle.std.specs.Prelude.{◌≡◌, ◌+◌, ℕ, List, length, take, pos};
+ghost use Rattle.std.specs.Prelude.{◌≡◌, ◌+◌, ◌*◌, ◌^◌, ℕ, List, length, take, pos};
 ghost use Rattle.she_cmac.specs.Cmac.{cmac};
 ghost use Rattle.freshness_routes.specs.declared.routes.Direction.TheVariants.{Receives};
 ghost use Rattle.secured_pdu.specs.Frame.{IsPayload};
@@ -14,6 +14,7 @@ ghost use Rattle.rathonsi_c.specs.declared.TheConstants.{VERIFICATION_FAILURE, B
 ghost use Rattle.rathonsi_c.specs.declared.TheConstants.{BUSY, RESERVE, EXHAUSTED, KEY_EMPTY, KEY_INVALID, KEY_NOT_AVAILABLE};
 ghost use Rattle.rathonsi_c.specs.declared.TheConstants.{KEY_WRITE_PROTECTED, KEY_UPDATE_ERROR, WRONG_CELL, FAILED};
 ghost use Rattle.rathonsi_c.specs.declared.TheConstants.{DUPLICATE_ID};
+ghost use Rattle.rathonsi_c.specs.declared.states.TheConstants.{VERSION};
 ghost use Rattle.rathonsi_c.specs.declared.route.RathonsiRoute.{RathonsiRoute};
 ghost use Rattle.rathonsi_c.specs.declared.secoc.RathonsiVerdict.{RathonsiVerdict};
 ghost use Rattle.rathonsi_c.specs.declared.steps.RathonsiInput.{RathonsiInput};
@@ -62,4 +63,9 @@ pub fn each_status_has_its_number()
     ensures wrong_cell { WRONG_CELL ≡ pos 17 }
     ensures failed { FAILED ≡ pos 18 }
     ensures duplicate_id { DUPLICATE_ID ≡ pos 19 }
+{}
+
+/// The number of the version, as `rathonsi.h` has it: major, minor and patch, a byte each.
+pub fn the_version_has_its_number()
+    ensures { VERSION ≡ 0 * 2 ^ 16 + 18 * 2 ^ 8 + 0 }
 {}

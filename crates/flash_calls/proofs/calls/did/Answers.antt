@@ -1,5 +1,5 @@
 -- The plan stands where the operation leads that was performed.
-use Rattle.std.proofs.Common.{◌≡◌, ◌≢◌, ◌⊎◌, ◌<◌, ℕ, Some, None, length, subst, sym, ap, ◌∙◌}
+use Rattle.std.proofs.Common.{◌≡◌, ◌≢◌, ◌⊎◌, ◌<◌, ◌≤◌, ◌+◌, ◌*◌, ℕ, Some, None, length, subst, sym, ap, ◌∙◌}
 use Rattle.std.specs.Prelude.{IfSome}
 use Rattle.std.proofs.lemmas.Option.{none-some}
 use Rattle.flash_lines.specs.Lines.{line_length}
@@ -7,7 +7,8 @@ use Rattle.flash_plan.specs.declared.plans.PlanEnd.TheVariants.{Failed as end_fa
 use Rattle.flash_plan.specs.declared.plans.PlanStep.TheVariants.{Ended}
 use Rattle.flash_plan.specs.declared.plans.FlashPlan.{FlashPlan}
 use Rattle.flash_plan.specs.Performing.{Performs}
-use Rattle.flash_plan.specs.Plans.{ReadsAt, SameSizes, IsFailure, failed_plan, operation_of, operations_left, put_in}
+use Rattle.flash_plan.specs.Plans.{ReadsAt, SkipsOlder, SameSizes, IsFailure, failed_plan, operation_of, operations_left, put_in, put_left}
+use Rattle.flash_plan.specs.Wear.{puts_to_bank, erases_by, erase_credit}
 use Rattle.flash_plan.specs.Formatting.{FormatsAt}
 use Rattle.flash_plan.specs.Standing.{plan_layout, StandsAt, PlanMovesOn}
 use Rattle.flash_calls.specs.Numbers.{plan_in}
@@ -115,4 +116,19 @@ returns-clause-answer c =
       none = λ nothing.
           absurd (none-some c.in-Some-next.operation (sym nothing
           ∙ subst (λ (p : FlashPlan). operation_of p c.args.cells.now ≡ Some c.in-Some-next.operation) was (sym c.in-Some-next.ensures.is)));
+      skips = subst (λ (p : FlashPlan). SkipsOlder p.best p.step → SkipsOlder (plan_in new).best (plan_in new).step) was
+          (subst
+          (λ (q : FlashPlan). SkipsOlder c.plan_of-plan.result.best c.plan_of-plan.result.step → SkipsOlder q.best q.step)
+          (sym is) c.did.ensures.skips);
+      wear = subst
+          (λ (p : FlashPlan). (ReadsAt p.step → ⊥)
+          → erases_by (operation_of p c.args.cells.now) * puts_to_bank p.places n + erase_credit p.places n (plan_in new).step
+          ≤ erase_credit p.places n p.step + put_left (put_in p))
+          was
+          (subst
+          (λ (q : FlashPlan). (ReadsAt c.plan_of-plan.result.step → ⊥)
+          → erases_by (operation_of c.plan_of-plan.result c.args.cells.now) * puts_to_bank c.plan_of-plan.result.places n
+          + erase_credit c.plan_of-plan.result.places n q.step
+          ≤ erase_credit c.plan_of-plan.result.places n c.plan_of-plan.result.step + put_left (put_in c.plan_of-plan.result))
+          (sym is) c.did.ensures.wear);
     }

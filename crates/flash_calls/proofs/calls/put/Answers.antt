@@ -1,6 +1,7 @@
 -- The put waits.
-use Rattle.std.proofs.Common.{◌≡◌, ◌+◌, ◌≤◌, ℕ, Err, length, subst, sym, ap, ◌∙◌, arith}
+use Rattle.std.proofs.Common.{◌≡◌, ◌+◌, ◌<◌, ◌≤◌, ℕ, Err, length, subst, sym, ap, ◌∙◌, arith}
 use Rattle.flash_plan.specs.declared.plans.FlashPlan.{FlashPlan}
+use Rattle.flash_plan.specs.declared.plans.PlanStep.TheVariants.{Erasing, Ready}
 use Rattle.flash_plan.specs.declared.plans.PlanPutFault.TheVariants.{NotIdle, Exhausted as put_exhausted}
 use Rattle.flash_plan.specs.Plans.{IsIdle, IsFullAt, SameSizes, operations_left}
 use Rattle.flash_plan.specs.Standing.{plan_layout, StandsAt}
@@ -32,6 +33,12 @@ returns-in-Ok-clause-answer c =
       banks_is = ap (λ (p : FlashPlan). p.banks) is ∙ sizes.banks;
       places_is = ap (λ (p : FlashPlan). p.places) is ∙ sizes.places;
       waits = ap (λ (p : FlashPlan). p.put) is ∙ c.in-Ok.ensures.waits;
+      programs = λ bank generation next at below.
+          ap (λ (p : FlashPlan). p.step) is
+          ∙ subst (λ (p : FlashPlan). (b g k : ℕ) → p.step ≡ Ready b g k → k < p.places → now.step ≡ p.step) was c.put.ensures.room bank generation next at below;
+      copies = λ bank generation next at above.
+          ap (λ (p : FlashPlan). p.step) is
+          ∙ subst (λ (p : FlashPlan). (b g k : ℕ) → p.step ≡ Ready b g k → p.places ≤ k → now.step ≡ Erasing b g) was c.in-Ok.ensures.full bank generation next at above;
       left = subst (λ (p : FlashPlan). operations_left n p ≤ n + 3) (sym is) c.in-Ok.ensures.left;
       stands = λ scratch at f stands.
           stands_in n old new now c.args.cells.now scratch at f is

@@ -26,9 +26,9 @@ pub returns-in-Ok : goal.returns-in-Ok
 returns-in-Ok g c = λ log sink no_text.
     let words : List (List ℕ) = map string_bytes c.args.words.now in
     let asks : AsksWatch words = subst NamesInputs c.inputs_of.ensures (c.names_inputs.ensures.0 c.if-not-names_inputs.false) in
-    let (text, whole, lines_are, numbers_are) = c.in_ok-map.ensures in
+    let (text, whole, is_map) = c.in_ok-map.ensures in
     let is : IsWatchedMap (watch_options words) text c.of-task.result =
-    subst (IsWatchedMap (watch_options words) text) (sym c.of-task.ensures) (lines_are, numbers_are, c.of.ensures) in
+    subst (IsWatchedMap (watch_options words) text) (sym c.of-task.ensures) (is_map.0, is_map.1, c.of.ensures) in
     ((asks, (c.of-task.result, (text, whole, is), c.in-Ok.ensures.mapping)), c.in-Ok.ensures.before)
 
 pub returns-in-Err : goal.returns-in-Err
