@@ -9,7 +9,7 @@
 
 #include "rathonsi_flash.h"
 
-enum { ROUTES = 3, SIZE = RATHONSI_STORE_SIZE(ROUTES), MORE = 68, SLOTS = 14, STATUSES = 21 };
+enum { ROUTES = 3, SIZE = RATHONSI_STORE_SIZE(ROUTES), MORE = 68, SLOTS = 14, STATUSES = 22 };
 enum { CELLS = RATHONSI_FLASH_CELLS(ROUTES), LINES = CELLS + 6, BANKS = 3 };
 
 static uint8_t image[SIZE + 2 * MORE], key[16], uid[15], text[320], pdu[80], payload[80], mac[16], iv[16], keys[SLOTS][16];
@@ -226,8 +226,14 @@ static void damage_route(RathonsiRoute *it) {
 }
 
 static void reserve(const RathonsiRoute *it, uint64_t bound, size_t size) {
-    if (one_in(3)) status(rathonsi_route_advance(it, bound, image, size, &plan));
-    else status(rathonsi_route_reserve(it, bound, image, size, &plan));
+    RathonsiVerdict verdict = {one_in(9) ? RATHONSI_OK : RATHONSI_RESERVE, 0, bound};
+    switch (below(6)) {
+    case 0: status(rathonsi_route_advance(it, bound, image, size, &plan)); break;
+    case 1: status(rathonsi_route_reserve_next(it, image, size, &plan)); break;
+    case 2: status(rathonsi_route_reserve_for(it, &verdict, image, size, &plan)); break;
+    case 3: status(rathonsi_route_reserve_ahead(it, below(200), image, size, &plan)); break;
+    default: status(rathonsi_route_reserve(it, bound, image, size, &plan));
+    }
     finish();
 }
 

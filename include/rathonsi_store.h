@@ -128,8 +128,7 @@
  *                                  pdu, sizeof pdu);
  *     // reserve, do the plan, then send again; or reserve ahead, see there
  *     if (status == RATHONSI_RESERVE) {
- *         status = rathonsi_route_reserve(speed, speed->counter + 1u, image,
- *                                         sizeof image, &plan);
+ *         status = rathonsi_route_reserve_next(speed, image, sizeof image, &plan);
  *         if (status == RATHONSI_OK)
  *             do_plan();
  *     }
@@ -139,8 +138,8 @@
  *                                      pdu_length);
  *     // reserve, do the plan, then receive again
  *     if (verdict.status == RATHONSI_RESERVE) {
- *         status = rathonsi_route_reserve(brake, verdict.freshness, image,
- *                                         sizeof image, &plan);
+ *         status = rathonsi_route_reserve_for(brake, &verdict, image,
+ *                                             sizeof image, &plan);
  *         if (status == RATHONSI_OK)
  *             do_plan();
  *     }
@@ -200,6 +199,8 @@ extern "C" {
 /* The plan is an old copy: once done, it would lower a bound, or change a slot that holds a key
  * without raising its counter. */
 #define RATHONSI_STALE_PLAN 20
+/* Nothing is to be reserved: the bound in the image is as high already. */
+#define RATHONSI_COVERED 21
 
 /* All statuses of all headers, for a table of names: RATHONSI_STATUSES(X) is X(name, number) for
  * each of them. Of X(name, number) as `case number: return #name;` comes a function that names
@@ -209,7 +210,7 @@ extern "C" {
     X(BAD_ID, 5) X(BAD_MAC, 6) X(NO_STORE, 7) X(DAMAGED, 8) X(BUSY, 9) X(RESERVE, 10) \
     X(EXHAUSTED, 11) X(KEY_EMPTY, 12) X(KEY_INVALID, 13) X(KEY_NOT_AVAILABLE, 14) \
     X(KEY_WRITE_PROTECTED, 15) X(KEY_UPDATE_ERROR, 16) X(WRONG_CELL, 17) X(FAILED, 18) \
-    X(DUPLICATE_ID, 19) X(STALE_PLAN, 20)
+    X(DUPLICATE_ID, 19) X(STALE_PLAN, 20) X(COVERED, 21)
 
 /* A store is a twin store of version 1. It has a header, fourteen cells of key slots, and after
  * them a cell for each route, up to 256. */
@@ -412,11 +413,47 @@ int32_t rathonsi_route_open(RathonsiRoute *route, const uint8_t *image, size_t i
 RATHONSI_CHECKED
 int32_t rathonsi_routes_open(RathonsiRoute *routes, size_t count, const uint8_t *image, size_t image_length, uint32_t *which);
 
-/* Plans the bound that covers this freshness and reserve - 1 more, at most 2^64 - 1. The plan stays
- * empty if the bound in the image is as high already.
- * A caller may reserve ahead, in the background. It does so when the counter comes near the
- * freshness that was reserved last, and then from that freshness on. A freshness that is one higher
- * each time makes a plan each time, and wears the device.
+/* For a route that sends: plans the bound that covers its next freshness and reserve - 1 more, at
+ * most 2^64 - 1.
+ * RATHONSI_BUSY.
+ * RATHONSI_BAD_VALUE: a number of the route is outside its range, or the route doesn't send or isn't
+ * open.
+ * RATHONSI_WRONG_CELL, RATHONSI_DAMAGED: as for rathonsi_route_open.
+ * RATHONSI_EXHAUSTED.
+ * RATHONSI_BAD_VALUE, after these: the counter is 256 or more above the bound in the image.
+ * RATHONSI_COVERED. */
+RATHONSI_CHECKED
+int32_t rathonsi_route_reserve_next(const RathonsiRoute *route, const uint8_t *image, size_t image_length,
+                                    RathonsiPlan *plan);
+
+/* For a route that receives, after a verdict with RATHONSI_RESERVE: plans the bound that covers its
+ * freshness and reserve - 1 more, at most 2^64 - 1.
+ * RATHONSI_BUSY.
+ * RATHONSI_BAD_VALUE: the verdict has another status, a number of the route is outside its range, or
+ * the route doesn't receive or isn't open.
+ * RATHONSI_WRONG_CELL, RATHONSI_DAMAGED: as for rathonsi_route_open.
+ * RATHONSI_BAD_VALUE, after these: the freshness is over 256 above the bound in the image. For the
+ * verdict of rathonsi_sync_take call rathonsi_route_advance.
+ * RATHONSI_COVERED. */
+RATHONSI_CHECKED
+int32_t rathonsi_route_reserve_for(const RathonsiRoute *route, const RathonsiVerdict *verdict, const uint8_t *image,
+                                   size_t image_length, RathonsiPlan *plan);
+
+/* Plans a whole reserve above the bound in the image, if that leaves the route fewer than this many
+ * freshness values above its counter. A caller that makes this call after each PDU, or in the
+ * background, and does the plan, never waits for one: least is what the route needs while a plan is
+ * done, and at most its reserve.
+ * RATHONSI_BUSY.
+ * RATHONSI_BAD_VALUE: a number of the route is outside its range, or the route isn't open.
+ * RATHONSI_WRONG_CELL, RATHONSI_DAMAGED: as for rathonsi_route_open.
+ * RATHONSI_COVERED: at least so many are left, or the bound is 2^64 - 1. */
+RATHONSI_CHECKED
+int32_t rathonsi_route_reserve_ahead(const RathonsiRoute *route, uint32_t least, const uint8_t *image,
+                                     size_t image_length, RathonsiPlan *plan);
+
+/* For those who know the number: plans the bound that covers this freshness and reserve - 1 more, at
+ * most 2^64 - 1. With RATHONSI_OK the plan stays empty if the bound in the image is as high already.
+ * A freshness that is one higher each time makes a plan each time, and wears the device.
  * RATHONSI_BUSY.
  * RATHONSI_BAD_VALUE: a number of the route is outside its range, or the route isn't open.
  * RATHONSI_WRONG_CELL, RATHONSI_DAMAGED: as for rathonsi_route_open.

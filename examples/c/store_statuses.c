@@ -27,6 +27,7 @@ struct unit {
     RathonsiSlotState slot_state;
     uint8_t booted;
     uint64_t freshness;
+    int32_t verdict;
 };
 
 static const uint8_t uid[15] = {1};
@@ -102,14 +103,15 @@ static struct unit unit_of(int which) {
     unit.pdu = copy_of(zeros, PDU);
     unit.route = route_of(which);
     unit.freshness = 4;
+    unit.verdict = RATHONSI_RESERVE;
     expect(rathonsi_she_make_update(master, 16, &update, &unit.request), RATHONSI_OK, "a request");
     if (which == 1)
         expect(rathonsi_secoc_protect(key, 16, unit.route.data_id, 4, unit.payload, PAYLOAD, unit.pdu, PDU), RATHONSI_OK, "a PDU");
     return unit;
 }
 
-enum call { OPEN, RESERVE, ADVANCE, SEND, RECEIVE, LOAD, CONFIRM, DONE, CHECK, MAKE, ROUTE_MAKE, ROUTE_STATE, SLOT_STATE, CALLS };
-static const char *const names[CALLS] = {"open", "reserve", "advance", "send", "receive", "load", "confirm", "done", "check", "make", "route_make",
+enum call { OPEN, RESERVE, RESERVE_NEXT, RESERVE_FOR, RESERVE_AHEAD, ADVANCE, SEND, RECEIVE, LOAD, CONFIRM, DONE, CHECK, MAKE, ROUTE_MAKE, ROUTE_STATE, SLOT_STATE, CALLS };
+static const char *const names[CALLS] = {"open", "reserve", "reserve_next", "reserve_for", "reserve_ahead", "advance", "send", "receive", "load", "confirm", "done", "check", "make", "route_make",
                                          "route_state", "slot_state"};
 
 static int32_t call_on(struct unit *unit, enum call call) {
@@ -117,6 +119,13 @@ static int32_t call_on(struct unit *unit, enum call call) {
     switch (call) {
     case OPEN: return rathonsi_route_open(&unit->route, unit->image, unit->image_length);
     case RESERVE: return rathonsi_route_reserve(&unit->route, unit->freshness, unit->image, unit->image_length, &unit->plan);
+    case RESERVE_NEXT: return rathonsi_route_reserve_next(&unit->route, unit->image, unit->image_length, &unit->plan);
+    case RESERVE_FOR:
+        verdict.status = unit->verdict;
+        verdict.payload_length = 0;
+        verdict.freshness = unit->freshness;
+        return rathonsi_route_reserve_for(&unit->route, &verdict, unit->image, unit->image_length, &unit->plan);
+    case RESERVE_AHEAD: return rathonsi_route_reserve_ahead(&unit->route, 2, unit->image, unit->image_length, &unit->plan);
     case ADVANCE: return rathonsi_route_advance(&unit->route, unit->freshness, unit->image, unit->image_length, &unit->plan);
     case SEND:
         return rathonsi_route_send(&unit->route, unit->image, unit->image_length, unit->payload, unit->payload_length, unit->pdu,
@@ -286,6 +295,16 @@ static void bytes_alone(struct unit *unit) { /* a plan is empty by its lengths *
         unit->plan.writes[i].bytes[39 - i] = 7;
     }
 }
+static void busy_and_closed(struct unit *unit) {
+    unit->plan.writes[1].length = 1;
+    unit->route.opened = 0;
+}
+static void counter_far_above(struct unit *unit) { unit->route.counter = 4 + 256; }
+static void counter_above(struct unit *unit) { unit->route.counter = 4 + 255; }
+static void freshness_far_above(struct unit *unit) { unit->freshness = 4 + 257; }
+static void reserve_of_one(struct unit *unit) { unit->route.reserve = 1; }
+static void accepted(struct unit *unit) { unit->verdict = RATHONSI_OK; }
+static void two_left(struct unit *unit) { unit->route.counter = 2; }
 static void over_the_header(struct unit *unit) { unit->plan.writes[0].length = 32; }
 
 static const struct {
@@ -322,6 +341,32 @@ static const struct {
     {RESERVE, 0, damaged_bound, RATHONSI_DAMAGED, "a damaged cell"},
     {RESERVE, 0, farthest, RATHONSI_OK, "256 above the bound"},
     {RESERVE, 0, too_far, RATHONSI_BAD_VALUE, "257 above the bound"},
+    {RESERVE_NEXT, 0, nothing, RATHONSI_OK, "a sender"},
+    {RESERVE_NEXT, 0, busy_and_closed, RATHONSI_BUSY, "a plan, and a route that isn't open"},
+    {RESERVE_NEXT, 0, not_open, RATHONSI_BAD_VALUE, "a route that isn't open"},
+    {RESERVE_NEXT, 1, nothing, RATHONSI_BAD_VALUE, "a route that receives"},
+    {RESERVE_NEXT, 0, other_id, RATHONSI_WRONG_CELL, "another Data ID"},
+    {RESERVE_NEXT, 0, damaged_bound, RATHONSI_DAMAGED, "a damaged cell"},
+    {RESERVE_NEXT, 0, last_counter, RATHONSI_EXHAUSTED, "the last counter"},
+    {RESERVE_NEXT, 0, counter_far_above, RATHONSI_BAD_VALUE, "a counter 256 above the bound"},
+    {RESERVE_NEXT, 0, counter_above, RATHONSI_OK, "a counter 255 above the bound"},
+    {RESERVE_NEXT, 0, reserve_of_one, RATHONSI_COVERED, "a bound that covers it"},
+    {RESERVE_FOR, 1, nothing, RATHONSI_OK, "a receiver"},
+    {RESERVE_FOR, 1, busy_and_closed, RATHONSI_BUSY, "a plan, and a route that isn't open"},
+    {RESERVE_FOR, 1, accepted, RATHONSI_BAD_VALUE, "a PDU that was accepted"},
+    {RESERVE_FOR, 1, not_open, RATHONSI_BAD_VALUE, "a route that isn't open"},
+    {RESERVE_FOR, 0, nothing, RATHONSI_BAD_VALUE, "a route that sends"},
+    {RESERVE_FOR, 1, other_id, RATHONSI_WRONG_CELL, "another Data ID"},
+    {RESERVE_FOR, 1, damaged_bound, RATHONSI_DAMAGED, "a damaged cell"},
+    {RESERVE_FOR, 1, freshness_far_above, RATHONSI_BAD_VALUE, "a freshness 257 above the bound"},
+    {RESERVE_FOR, 1, reserve_of_one, RATHONSI_COVERED, "a bound that covers it"},
+    {RESERVE_AHEAD, 0, nothing, RATHONSI_OK, "one is left"},
+    {RESERVE_AHEAD, 1, counter_above, RATHONSI_OK, "none is left"},
+    {RESERVE_AHEAD, 0, busy_and_closed, RATHONSI_BUSY, "a plan, and a route that isn't open"},
+    {RESERVE_AHEAD, 0, not_open, RATHONSI_BAD_VALUE, "a route that isn't open"},
+    {RESERVE_AHEAD, 0, other_id, RATHONSI_WRONG_CELL, "another Data ID"},
+    {RESERVE_AHEAD, 0, damaged_bound, RATHONSI_DAMAGED, "a damaged cell"},
+    {RESERVE_AHEAD, 0, two_left, RATHONSI_COVERED, "two are left"},
     {ADVANCE, 0, too_far, RATHONSI_OK, "257 above the bound"},
     {ADVANCE, 0, busy_and_wrong, RATHONSI_BUSY, "a plan and cell 13"},
     {ADVANCE, 0, low_cell, RATHONSI_BAD_VALUE, "cell 13"},

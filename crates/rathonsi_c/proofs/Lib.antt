@@ -20,3 +20,4 @@ pub mod InputLaws
 pub mod FlashLaws
 pub mod StaleLaws
 pub mod StalePlans
+pub mod ReservingLaws

@@ -12,7 +12,6 @@ use Rattle.cell_store.proofs.CallerLemmas.{part-part, part-same, SameOutside-spl
 use Rattle.key_slots.specs.declared.memory.Slot.{Slot}
 use Rattle.key_slots.specs.declared.memory.Flags.{Flags}
 use Rattle.key_slots.specs.declared.memory.Slot.TheVariants.{Empty, Filled}
-
 use Rattle.slot_disk.proofs.CallerLemmas.{one_slot}
 use Rattle.freshness_routes.specs.declared.routes.Direction.{Direction}
 use Rattle.freshness_store.specs.Bound.{HoldsBound, HoldsNoBound}
@@ -128,9 +127,9 @@ cell-same x y i room long same =
     let at : first_at i ≡ first_at i + 0 = omega arith in
     let behind : second_at i ≡ first_at i + 34 = omega arith in
     let first : part (first_at i) 34 y ≡ part (first_at i) 34 x =
-        ap (λ n. part n 34 y) at ∙ (part-part (first_at i) 68 0 34 y (omega arith) (omega arith) ∙ (ap (part 0 34) same ∙ (sym (part-part (first_at i) 68 0 34 x (omega arith) (omega arith)) ∙ ap (λ n. part n 34 x) (sym at)))) in
+    ap (λ n. part n 34 y) at ∙ (part-part (first_at i) 68 0 34 y (omega arith) (omega arith) ∙ (ap (part 0 34) same ∙ (sym (part-part (first_at i) 68 0 34 x (omega arith) (omega arith)) ∙ ap (λ n. part n 34 x) (sym at)))) in
     let second : part (second_at i) 34 y ≡ part (second_at i) 34 x =
-        ap (λ n. part n 34 y) behind ∙ (part-part (first_at i) 68 34 34 y (omega arith) (omega arith) ∙ (ap (part 34 34) same ∙ (sym (part-part (first_at i) 68 34 34 x (omega arith) (omega arith)) ∙ ap (λ n. part n 34 x) (sym behind)))) in
+    ap (λ n. part n 34 y) behind ∙ (part-part (first_at i) 68 34 34 y (omega arith) (omega arith) ∙ (ap (part 34 34) same ∙ (sym (part-part (first_at i) 68 34 34 x (omega arith) (omega arith)) ∙ ap (λ n. part n 34 x) (sym behind)))) in
     ap (λ (c : List ℕ). cell_of c (part (second_at i) 34 y)) first ∙ ap (λ (c : List ℕ). cell_of (part (first_at i) 34 x) c) second
 
 -- three writes, one after the other

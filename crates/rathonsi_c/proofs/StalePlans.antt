@@ -6,7 +6,6 @@ use Rattle.cell_store.specs.declared.kinds.Version.TheVariants.{One}
 use Rattle.cell_store.specs.Layout.{twin_layout}
 use Rattle.cell_store.specs.Twin.{twin_size, first_at, cell_at}
 use Rattle.cell_store.proofs.CallerLemmas.{header-number, length-fresh_cell}
-
 use Rattle.key_slots.specs.declared.memory.Slot.TheVariants.{Filled}
 use Rattle.key_slots.specs.Slots.{slot_at, counter_of}
 use Rattle.memory_update.specs.declared.messages.Request.{Request}
@@ -95,15 +94,15 @@ key-not-stale uid booted request x old plan h =
     let u = h.update in
     let there : ImageSlot x u.id (slot_at h.slots u.id) = subst (λ i. ImageSlot x i (slot_at h.slots i)) (id_of-Allows h.slots _ uid request u h.allowed).0 (h.held.target (HasSlots-Carries _ _ u h.allowed.1)) in
     put-stays x plan u.id (slot_cell (slot_of u)) h.plans (λ before is falls.
-        let held : HoldsSlot before (slot_at h.slots u.id) = subst (λ (c : List ℕ). HoldsSlot c (slot_at h.slots u.id)) (sym (same_Some _ _ (sym is ∙ there.is))) there.holds in
-        elim falls [
-          | inl b ↦ no_slot before (slot_at h.slots u.id) b.id b.direction b.bound held b.held
-          | inr k ↦
-              let one : counter_of (slot_at h.slots u.id) ≡ k.counter = ap counter_of (one_slot before (slot_at h.slots u.id) (Filled k.held.key k.counter k.held.flags) held k.held.held) in
-              let above = counter_of-Allows h.slots _ uid request u h.held.are_slots h.allowed in
-              let new : HoldsKey (slot_cell (slot_of u)) u.counter = record { key = u.key; flags = u.flags; held = update-holds u h.allowed.1.padded.is_update } in
-              key-higher before (slot_cell (slot_of u)) k.counter k.held u.counter new (omega arith) k
-        ])
+    let held : HoldsSlot before (slot_at h.slots u.id) = subst (λ (c : List ℕ). HoldsSlot c (slot_at h.slots u.id)) (sym (same_Some _ _ (sym is ∙ there.is))) there.holds in
+    elim falls [
+      | inl b ↦ no_slot before (slot_at h.slots u.id) b.id b.direction b.bound held b.held
+      | inr k ↦
+          let one : counter_of (slot_at h.slots u.id) ≡ k.counter = ap counter_of (one_slot before (slot_at h.slots u.id) (Filled k.held.key k.counter k.held.flags) held k.held.held) in
+          let above = counter_of-Allows h.slots _ uid request u h.held.are_slots h.allowed in
+          let new : HoldsKey (slot_cell (slot_of u)) u.counter = record { key = u.key; flags = u.flags; held = update-holds u h.allowed.1.padded.is_update } in
+          key-higher before (slot_cell (slot_of u)) k.counter k.held u.counter new (omega arith) k
+    ])
 
 pub growth-not-stale : (r : RathonsiRoute) (bound : ℕ) (x : List ℕ) (old plan : Plan) → r.cell < 1024 → PlanFits (length x) plan → PlansCell r bound x old plan → IsStale x plan → ⊥
 growth-not-stale r bound x old plan few fits h = elim h.plans [

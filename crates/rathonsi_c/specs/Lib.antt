@@ -17,3 +17,4 @@ pub mod Pieces
 pub mod Booting
 pub mod Flash
 pub mod Stale
+pub mod Reserving

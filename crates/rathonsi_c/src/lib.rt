@@ -19,13 +19,14 @@ mod looking;
 mod macs;
 mod opening;
 mod refusals;
+mod reserving;
 mod route;
 mod secoc;
 mod she;
 mod slots;
-mod states;
 mod stale;
 pub mod stale_laws;
+mod states;
 pub mod step_laws;
 mod steps;
 mod store;
@@ -47,6 +48,9 @@ pub use growing::{rathonsi_store_grow, rathonsi_store_size};
 pub use looking::rathonsi_store_look;
 pub use macs::{RathonsiMac, rathonsi_mac_begin, rathonsi_mac_finish, rathonsi_mac_update};
 pub use opening::rathonsi_routes_open;
+pub use reserving::{
+    rathonsi_route_reserve_ahead, rathonsi_route_reserve_for, rathonsi_route_reserve_next,
+};
 pub use route::{
     RathonsiRoute, rathonsi_route_advance, rathonsi_route_open, rathonsi_route_receive,
     rathonsi_route_reserve, rathonsi_route_send,
@@ -134,3 +138,6 @@ pub const DUPLICATE_ID: i32 = 19;
 
 /// The plan would take back what the store has counted: it is an old copy.
 pub const STALE_PLAN: i32 = 20;
+
+/// Nothing is to be reserved: the bound in the image is as high already.
+pub const COVERED: i32 = 21;

@@ -13,7 +13,7 @@ ghost use Rattle.rathonsi_c.specs.declared.TheConstants.{OK, BAD_LENGTH, BAD_VAL
 ghost use Rattle.rathonsi_c.specs.declared.TheConstants.{VERIFICATION_FAILURE, BAD_ID, BAD_MAC, NO_STORE, DAMAGED};
 ghost use Rattle.rathonsi_c.specs.declared.TheConstants.{BUSY, RESERVE, EXHAUSTED, KEY_EMPTY, KEY_INVALID, KEY_NOT_AVAILABLE};
 ghost use Rattle.rathonsi_c.specs.declared.TheConstants.{KEY_WRITE_PROTECTED, KEY_UPDATE_ERROR, WRONG_CELL, FAILED};
-ghost use Rattle.rathonsi_c.specs.declared.TheConstants.{DUPLICATE_ID, STALE_PLAN};
+ghost use Rattle.rathonsi_c.specs.declared.TheConstants.{DUPLICATE_ID, STALE_PLAN, COVERED};
 ghost use Rattle.rathonsi_c.specs.declared.route.RathonsiRoute.{RathonsiRoute};
 ghost use Rattle.rathonsi_c.specs.declared.secoc.RathonsiVerdict.{RathonsiVerdict};
 ghost use Rattle.rathonsi_c.specs.declared.steps.RathonsiInput.{RathonsiInput};
@@ -63,4 +63,5 @@ pub fn each_status_has_its_number()
     ensures failed { FAILED ≡ pos 18 }
     ensures duplicate_id { DUPLICATE_ID ≡ pos 19 }
     ensures stale_plan { STALE_PLAN ≡ pos 20 }
+    ensures covered { COVERED ≡ pos 21 }
 {}

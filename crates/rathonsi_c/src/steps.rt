@@ -56,8 +56,8 @@ fn is_input(input: &RathonsiInput, id: u16, payload: &[u8], freshness: u64) -> b
     input.bytes == wanted.bytes
 }
 
-// The bound of a route that is open in this direction, or the status of why there is none.
-fn bound_ready(route: &RathonsiRoute, wanted: Direction, image: &[u8]) -> Result<u64, i32>
+/// The bound of a route that is open in this direction, or the status of why there is none.
+pub fn bound_ready(route: &RathonsiRoute, wanted: Direction, image: &[u8]) -> Result<u64, i32>
     ensures in_use { OnOk result (InUse route.now wanted) }
     ensures kept { IfOk result (ImageBound image.now route.now.cell route.now.data_id wanted) }
     ensures refused { IfErr result (BoundAnswers status_alone route.now wanted image.now (λ _. ⊥)) }

@@ -2,7 +2,6 @@ use Rattle.std.proofs.Common.{◌≡◌, ◌+◌, ◌-◌, ℕ, List, take, drop
 use Rattle.cell_store.specs.Layout.{part}
 use Rattle.cell_store.specs.Twin.{first_at}
 use Rattle.cell_store.proofs.CallerLemmas.{halves, kept-of, damaged-of, cell_at-kept}
-
 use Rattle.store_plan.specs.Plans.{applied}
 use Rattle.rathonsi_c.proofs.StaleLaws.{once, twice, once-long, twice-long, fits-second, fits-third}
 use Rattle.rathonsi_c.proofs.stale.cell_after.Goals as goal

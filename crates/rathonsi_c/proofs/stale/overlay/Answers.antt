@@ -1,8 +1,6 @@
 use Rattle.std.proofs.Common.{◌≡◌, ℕ, ◌+◌, ◌-◌, ◌<◌, ◌≤◌, ◌⊎◌, inl, inr, length, sym, ◌∙◌, arith}
-
 use Rattle.cell_store.specs.Twin.{first_at}
 use Rattle.store_plan.specs.declared.planning.Write.{Write}
-
 use Rattle.rathonsi_c.proofs.StaleLaws.{put_mid-is, write-over, write-beside}
 use Rattle.rathonsi_c.proofs.stale.overlay.Goals.{then-from-at, else-from-at, then-end-at, else-end-at, else-first-last-via-then-first-last+else-write-le40, else-first-last-via-else-first-last}
 use Rattle.rathonsi_c.proofs.stale.overlay.Goals as goal
