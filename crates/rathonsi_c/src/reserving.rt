@@ -5,7 +5,7 @@ ghost use Rattle.store_plan.specs.Plans.{PlanFits, IsEmptyPlan};
 ghost use Rattle.rathonsi_c.specs.Causes.{IfCause, IsDone};
 ghost use Rattle.rathonsi_c.specs.Images.{ImageBound};
 ghost use Rattle.rathonsi_c.specs.Routes.{InUse, Reserves};
-ghost use Rattle.rathonsi_c.specs.Reserving.{IsReserved, FreshAnswers, ReserveNextAnswers, ReserveForAnswers};
+ghost use Rattle.rathonsi_c.specs.Reserving.{CoversReserve, FreshAnswers, ReserveNextAnswers, ReserveForAnswers};
 ghost use Rattle.rathonsi_c.specs.Reserving.{ReserveAheadAnswers, ReservesAhead};
 
 use crate::route::{RathonsiRoute, bound_of, direction_of};
@@ -28,7 +28,7 @@ fn plan_ahead(
 ) -> i32
     requires { IsEmptyPlan plan.old × (InUse route.now direction
         × ImageBound image.now route.now.cell route.now.data_id direction bound) }
-    ensures answer { IfCause (IsReserved route.now image.now direction freshness) COVERED IsDone result }
+    ensures answer { IfCause (CoversReserve route.now image.now direction freshness) COVERED IsDone result }
     ensures reserved { result ≡ OK → Reserves route.now image.now freshness plan.old plan.new }
     ensures fits { result ≡ OK → PlanFits (length image.now) plan.new }
     ensures unchanged { result ≢ OK → plan.new ≡ plan.old }
