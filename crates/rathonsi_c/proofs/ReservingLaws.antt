@@ -1,12 +1,12 @@
 -- Of a reserve that says so if there is nothing to reserve.
-use Rattle.std.proofs.Common.{◌≡◌, ℕ, ◌+◌, ◌<◌, ◌≤◌, List, arith}
+use Rattle.std.proofs.Common.{ℕ, ◌+◌, ◌<◌, ◌≤◌, List, arith}
 use Rattle.freshness_routes.specs.Changes.{bound_ahead}
 use Rattle.freshness_routes.specs.declared.routes.Direction.{Direction}
 use Rattle.secured_pdu.specs.declared.frame.TheConstants.{WIDEST_WINDOW}
 use Rattle.rathonsi_c.specs.declared.route.RathonsiRoute.{RathonsiRoute}
 use Rattle.rathonsi_c.specs.Images.{ImageBound}
 use Rattle.rathonsi_c.specs.Routes.{IsFarAhead}
-use Rattle.rathonsi_c.specs.Reserving.{CoversReserve, LeavesAtLeast, BoundIsLast}
+use Rattle.rathonsi_c.specs.Reserving.{CoversReserve, LeavesAtLeast}
 use Rattle.rathonsi_c.proofs.ImageLaws.{bound_alone}
 
 module _ (r : RathonsiRoute) (image : List ℕ) (d : Direction) (bound : ℕ) (kept : ImageBound image r.cell r.data_id d bound) where
