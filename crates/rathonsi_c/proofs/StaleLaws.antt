@@ -188,11 +188,11 @@ module _ (before bytes : List ℕ) (id : ℕ) (d : Direction) (bound : ℕ) (hel
       let same = one.2 in
       omega arith
 
-is-filled : Slot → Bool
+abbrev is-filled : Slot → Bool
 is-filled Empty = false
 is-filled (Filled key counter flags) = true
 
-counter-of : Slot → ℕ
+abbrev counter-of : Slot → ℕ
 counter-of Empty = 0
 counter-of (Filled key counter flags) = counter
 

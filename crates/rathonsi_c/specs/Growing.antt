@@ -143,8 +143,8 @@ abbrev pub CutPowerUps : ℕ → (ℕ → List ℕ) → ℕ → ℕ → List ℕ
 CutPowerUps zero payload i n x y = y ≡ x
 CutPowerUps (suc cuts) payload i n x y = (w : List ℕ) × (CutCalls payload i n x w × CutPowerUps cuts payload i n w y)
 
--- The caller comes to the call for cell i, of n cells from cell p on, and the device holds y. So many power-ups were cut,
--- and this one made the calls for the cells before cell i.
+-- The caller comes to the call for cell i, of n cells from cell p on, and the device holds y. So many power-ups were
+-- cut, and this one made the calls for the cells before cell i.
 pub record ComesToCall (cuts : ℕ) (payload : ℕ → List ℕ) (p n i : ℕ) (x y : List ℕ) : Type 0 where
   pub least : p ≤ i
   pub most : i < p + n
@@ -156,17 +156,18 @@ pub record ComesToCall (cuts : ℕ) (payload : ℕ → List ℕ) (p n i : ℕ) (
 abbrev pub HasGrown : List ℕ → ℕ → List ℕ → Type 0
 HasGrown y i c = IsGrowth y i c After ⊎ IsGrowth y i c Beyond
 
--- The call for cell i goes on: it finds how far the store went. If the store has the cell, the cell is as x has it, if it
--- is one of the first m, and else it has its payload.
+-- The call for cell i goes on: it finds how far the store went. If the store has the cell, the cell is as x has it,
+-- if it is one of the first m, and else it has its payload.
 pub record CallGoesOn (payload : ℕ → List ℕ) (m i : ℕ) (x y : List ℕ) : Type 0 where
   pub growth : Growth
   pub is : IsGrowth y i (payload i) growth
   pub kept : HasGrown y i (payload i) → i < m → cell_at y i ≡ cell_at x i
   pub made : HasGrown y i (payload i) → m ≤ i → cell_at y i ≡ Some (payload i)
 
--- The caller calls for the cell of this route with this bound and an empty plan. The payload of the cell is that bound.
--- If the cell is one of the first m, x has a bound of the route there, however far it counted. No cell before it is of the
--- route's Data ID and direction: neither one of the first m, as x has it, nor a later one by its payload.
+-- The caller calls for the cell of this route with this bound and an empty plan. The payload of the cell is that
+-- bound. If the cell is one of the first m, x has a bound of the route there, however far it counted. No cell before
+-- it is of the route's Data ID and direction: neither one of the first m, as x has it, nor a later one by its
+-- payload.
 pub record CallsWith (route : RathonsiRoute) (bound : ℕ) (plan : Plan) (payload : ℕ → List ℕ) (m : ℕ) (x : List ℕ)
     : Type 0 where
   pub direction : Direction

@@ -14,7 +14,7 @@ use Rattle.rathonsi_c.specs.Routes.{IsFarAhead, AdvanceAnswers, Reserves, status
 use Rattle.rathonsi_c.specs.Steps.{BoundAnswers}
 
 -- the bound in the image is as high already as a reserve of this freshness would make it
-pub record IsReserved (r : RathonsiRoute) (image : List ℕ) (direction : Direction) (freshness : ℕ) : Type 0 where
+pub record CoversReserve (r : RathonsiRoute) (image : List ℕ) (direction : Direction) (freshness : ℕ) : Type 0 where
   pub bound : ℕ
   pub kept : ImageBound image r.cell r.data_id direction bound
   pub high : bound_ahead r.reserve freshness ≤ bound
@@ -22,7 +22,8 @@ pub record IsReserved (r : RathonsiRoute) (image : List ℕ) (direction : Direct
 -- of a route that is open in this direction: the freshness is too far ahead, or reserved already, or else it is planned
 abbrev pub FreshAnswers : RathonsiRoute → Direction → List ℕ → ℕ → ℤ → Type 0
 FreshAnswers r direction image freshness status =
-    IfCause (IsFarAhead r image freshness) BAD_VALUE (IfCause (IsReserved r image direction freshness) COVERED IsDone) status
+    IfCause (IsFarAhead r image freshness) BAD_VALUE
+    (IfCause (CoversReserve r image direction freshness) COVERED IsDone) status
 
 -- what `rathonsi_route_reserve_next` answers
 abbrev pub ReserveNextAnswers : RathonsiRoute → List ℕ → Plan → ℤ → Type 0
@@ -47,7 +48,9 @@ pub record LeavesAtLeast (r : RathonsiRoute) (image : List ℕ) (least : ℕ) : 
 
 -- the bound of the route is the last freshness
 abbrev pub BoundIsLast : RathonsiRoute → List ℕ → Type 0
-BoundIsLast r image = (direction : Direction) × ((bound : ℕ) × (ImageBound image r.cell r.data_id direction bound × (bound + 1 ≡ 2 ^ 64)))
+BoundIsLast r image =
+    (direction : Direction)
+    × ((bound : ℕ) × (ImageBound image r.cell r.data_id direction bound × (bound + 1 ≡ 2 ^ 64)))
 
 -- what is planned is a reserve above the bound that the image keeps
 pub record ReservesAhead (r : RathonsiRoute) (image : List ℕ) (old new : Plan) : Type 0 where

@@ -45,7 +45,8 @@ pub record KeyFalls (before : List ℕ) (after : Option (List ℕ)) : Type 0 whe
 pub record CellFalls (image : List ℕ) (plan : Plan) (place : ℕ) : Type 0 where
   pub before : List ℕ
   pub is : cell_at image place ≡ Some before
-  pub falls : BoundFalls before (cell_at (applied plan image) place) ⊎ KeyFalls before (cell_at (applied plan image) place)
+  pub falls : BoundFalls before (cell_at (applied plan image) place)
+      ⊎ KeyFalls before (cell_at (applied plan image) place)
 
 -- the plan takes back what a cell of the store has counted
 pub record IsStale (image : List ℕ) (plan : Plan) : Type 0 where

@@ -43,13 +43,13 @@ pub fn a_call_for_a_cell_that_is_there_plans_nothing()
 {}
 
 /// An update that adds any number of routes, as docs/units.md has it: at each power-up the caller makes the call for
-/// each cell from cell p on, in order, whatever the size says. The power goes within their plans as often as it may. In
-/// the end the store has the right number of cells, each with a copy that counts. Those that were there are as they
-/// were, and each new one has its route's first bound. p is the number of cells that the production line made, or fewer.
-/// No call on the way is refused: whatever number of cells a cut left, each call goes on, and answers `OK`.
+/// each cell from cell p on, in order, whatever the size says. The power goes within their plans as often as it may.
+/// In the end the store has the right number of cells, each with a copy that counts. Those that were there are as
+/// they were, and each new one has its route's first bound. p is the number of cells that the production line made,
+/// or fewer. No call on the way is refused: whatever number of cells a cut left, each call goes on, and answers `OK`.
 pub fn a_store_gets_all_its_cells()
-    ensures all_cells { (cuts p n m : ℕ) (payload : ℕ → List ℕ) (x z : List ℕ) → ((i : ℕ) → length (payload i) ≡ 32) → p ≤ m
-        → StoreWithRoom m (p + n) x → PowerUps cuts payload p n x z → HasAllCells payload m (p + n) x z }
+    ensures all_cells { (cuts p n m : ℕ) (payload : ℕ → List ℕ) (x z : List ℕ) → ((i : ℕ) → length (payload i) ≡ 32)
+        → p ≤ m → StoreWithRoom m (p + n) x → PowerUps cuts payload p n x z → HasAllCells payload m (p + n) x z }
     ensures goes_on { (cuts p n m i : ℕ) (payload : ℕ → List ℕ) (x y : List ℕ) → ((i : ℕ) → length (payload i) ≡ 32)
         → p ≤ m → StoreWithRoom m (p + n) x → ComesToCall cuts payload p n i x y → CallGoesOn payload m i x y }
     ensures each_is_ok { (cuts p n m bound : ℕ) (payload : ℕ → List ℕ) (x y : List ℕ) (route : RathonsiRoute)

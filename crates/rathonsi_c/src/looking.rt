@@ -85,9 +85,9 @@ fn has_header(image: &[u8], cells: u16) -> bool
 }
 
 /// Looks at each cell of an image, and names the first that isn't as it should be. `BAD_LENGTH`, `NO_STORE` as
-/// `rathonsi_store_check` has them. `DAMAGED`: no copy of the cell counts. `WRONG_CELL`: it is one of the fourteen and
-/// holds no slot, or one after them and holds neither a bound nor zero bytes. `DUPLICATE_ID`: it holds a bound of a Data
-/// ID and direction that a cell before it has.
+/// `rathonsi_store_check` has them. `DAMAGED`: no copy of the cell counts. `WRONG_CELL`: it is one of the fourteen
+/// and holds no slot, or one after them and holds neither a bound nor zero bytes. `DUPLICATE_ID`: it holds a bound of
+/// a Data ID and direction that a cell before it has.
 #[unsafe(no_mangle)]
 pub extern "C" fn rathonsi_store_look(image: &[u8], cell: &mut u16) -> i32
     ensures answer { LookAnswers image.now result }

@@ -5,7 +5,7 @@ ghost use Rattle.store_plan.specs.Plans.{PlanFits, IsEmptyPlan};
 ghost use Rattle.rathonsi_c.specs.Causes.{IfCause, IsDone};
 ghost use Rattle.rathonsi_c.specs.Images.{ImageBound};
 ghost use Rattle.rathonsi_c.specs.Routes.{InUse, Reserves};
-ghost use Rattle.rathonsi_c.specs.Reserving.{IsReserved, FreshAnswers, ReserveNextAnswers, ReserveForAnswers};
+ghost use Rattle.rathonsi_c.specs.Reserving.{CoversReserve, FreshAnswers, ReserveNextAnswers, ReserveForAnswers};
 ghost use Rattle.rathonsi_c.specs.Reserving.{ReserveAheadAnswers, ReservesAhead};
 
 use crate::route::{RathonsiRoute, bound_of, direction_of};
@@ -28,7 +28,7 @@ fn plan_ahead(
 ) -> i32
     requires { IsEmptyPlan plan.old × (InUse route.now direction
         × ImageBound image.now route.now.cell route.now.data_id direction bound) }
-    ensures answer { IfCause (IsReserved route.now image.now direction freshness) COVERED IsDone result }
+    ensures answer { IfCause (CoversReserve route.now image.now direction freshness) COVERED IsDone result }
     ensures reserved { result ≡ OK → Reserves route.now image.now freshness plan.old plan.new }
     ensures fits { result ≡ OK → PlanFits (length image.now) plan.new }
     ensures unchanged { result ≢ OK → plan.new ≡ plan.old }
@@ -73,8 +73,8 @@ fn plan_fresh(
 }
 
 /// For a route that sends: plans the bound that covers its next freshness, and a reserve less one above it. `BUSY`,
-/// `BAD_VALUE` (also: it doesn't send, or isn't open), `WRONG_CELL`, `DAMAGED`, `EXHAUSTED`, `BAD_VALUE` (the counter is
-/// 256 or more above the bound in the image), `COVERED` (the bound is as high already): the first that applies.
+/// `BAD_VALUE` (also: it doesn't send, or isn't open), `WRONG_CELL`, `DAMAGED`, `EXHAUSTED`, `BAD_VALUE` (the counter
+/// is 256 or more above the bound in the image), `COVERED` (the bound is as high already): the first that applies.
 #[unsafe(no_mangle)]
 pub extern "C" fn rathonsi_route_reserve_next(
     route: &RathonsiRoute,
@@ -99,10 +99,10 @@ pub extern "C" fn rathonsi_route_reserve_next(
     plan_fresh(route, Direction::Sends, bound, next, image, plan)
 }
 
-/// For a route that receives, after a verdict with the status `RESERVE`: plans the bound that covers its freshness, and a
-/// reserve less one above it. `BUSY`, `BAD_VALUE` (the verdict has another status), `BAD_VALUE` (also: the route doesn't
-/// receive, or isn't open), `WRONG_CELL`, `DAMAGED`, `BAD_VALUE` (the freshness is over 256 above the bound in the image),
-/// `COVERED` (the bound is as high already): the first that applies.
+/// For a route that receives, after a verdict with the status `RESERVE`: plans the bound that covers its freshness,
+/// and a reserve less one above it. `BUSY`, `BAD_VALUE` (the verdict has another status), `BAD_VALUE` (also: the
+/// route doesn't receive, or isn't open), `WRONG_CELL`, `DAMAGED`, `BAD_VALUE` (the freshness is over 256 above the
+/// bound in the image), `COVERED` (the bound is as high already): the first that applies.
 #[unsafe(no_mangle)]
 pub extern "C" fn rathonsi_route_reserve_for(
     route: &RathonsiRoute,
@@ -135,9 +135,9 @@ pub extern "C" fn rathonsi_route_reserve_for(
     )
 }
 
-/// Plans a reserve above the bound in the image, if that leaves the route fewer than `least`. So no PDU waits for a plan.
-/// `BUSY`, `BAD_VALUE` (also: it isn't open), `WRONG_CELL`, `DAMAGED`, `COVERED` (the bound leaves at least so many, or is
-/// 2^64 - 1): the first that applies.
+/// Plans a reserve above the bound in the image, if that leaves the route fewer than `least`. So no PDU waits for a
+/// plan. `BUSY`, `BAD_VALUE` (also: it isn't open), `WRONG_CELL`, `DAMAGED`, `COVERED` (the bound leaves at least so
+/// many, or is 2^64 - 1): the first that applies.
 #[unsafe(no_mangle)]
 pub extern "C" fn rathonsi_route_reserve_ahead(
     route: &RathonsiRoute,

@@ -11,8 +11,8 @@ ghost use Rattle.rathonsi_c.specs.Slots.{LoadsSlot};
 ghost use Rattle.rathonsi_c.specs.Growing.{PlansCell};
 ghost use Rattle.rathonsi_c.specs.Stores.{DoneAnswers};
 
-/// A plan that a call made for an image is never stale for this image: `rathonsi_store_done` answers `OK`. A reserve or an
-/// advance (`bound`), a load (`key`), and a growth (`growth`), each within the image, as its call has it.
+/// A plan that a call made for an image is never stale for this image: `rathonsi_store_done` answers `OK`. A reserve
+/// or an advance (`bound`), a load (`key`), and a growth (`growth`), each within the image, as its call has it.
 pub fn a_plan_of_this_image_is_done()
     ensures bound { (route : RathonsiRoute) (image : List ℕ) (freshness : ℕ) (old plan : Plan) (status : ℤ)
         → Reserves route image freshness old plan → IsEmptyPlan plan ⊎ PlanFits (length image) plan

@@ -1,4 +1,4 @@
-use Rattle.std.proofs.Common.{subst, List, Option, sym}
+use Rattle.std.proofs.Common.{inl, inr, ℕ, subst, List, Option, sym}
 use Rattle.std.proofs.lemmas.Bool.{cases_lt, ltb-true, lt-ltb}
 use Rattle.rathonsi_c.specs.Stale.{BoundFalls}
 use Rattle.rathonsi_c.proofs.StaleLaws.{bound-lower, bound-stays}

@@ -1,4 +1,4 @@
-use Rattle.std.proofs.Common.{◌≡◌, ◌≢◌, ℕ, inl, inr, Option, List, refl, sym, subst}
+use Rattle.std.proofs.Common.{◌≡◌, ℕ, inl, inr, Option, List, refl, sym, subst}
 use Rattle.std.specs.Cmp.Lexicographic.{other_text}
 use Rattle.std.proofs.lemmas.Bool.{cases_lt, false≢true, leb-true, le-leb}
 use Rattle.rathonsi_c.specs.Stale.{KeyFalls}
@@ -6,7 +6,7 @@ use Rattle.rathonsi_c.proofs.StaleLaws.{key-none, key-lower, key-higher}
 use Rattle.rathonsi_c.proofs.stale.key_falls.Goals as goal
 
 pub returns-in_default : goal.returns-in_default
-returns-in_default c = (λ e. absurd (false≢true e), λ falls. absurd (c.in_default.ensures.none refl falls.counter falls.held))
+returns-in_default c = (λ e. absurd (false≢true e), λ falls. absurd (c.in_default.ensures.none falls.counter falls.held))
 
 pub returns-in-Some-counter_held : goal.returns-in-Some-counter_held
 returns-in-Some-counter_held c =
@@ -28,6 +28,6 @@ returns-in-None c =
     let before = c.args.before.now in
     let bytes = c.in-Some-after.bytes in
     let other : bytes ≡ before → ⊥ = λ e. other_text _ _ c.if-eq.ensures e in (
-      λ _. subst (λ (o : Option (List ℕ)). KeyFalls before o) (sym c.in-Some-after.is) (key-none before bytes c.in-Some.counter c.in-Some.ensures.some (c.in-None.ensures.none refl) other),
+      λ _. subst (λ (o : Option (List ℕ)). KeyFalls before o) (sym c.in-Some-after.is) (key-none before bytes c.in-Some.counter c.in-Some.ensures.some c.in-None.ensures.none other),
       λ _. refl,
     )

@@ -1,4 +1,4 @@
-use Rattle.std.proofs.Common.{◌≡◌, ℕ, ◌+◌, ◌-◌, ◌<◌, ◌≤◌, ◌⊎◌, inl, inr, length, sym, ◌∙◌, arith}
+use Rattle.std.proofs.Common.{◌≡◌, ℕ, ◌+◌, ◌<◌, ◌≤◌, ◌⊎◌, inl, inr, length, sym, ◌∙◌, arith}
 use Rattle.cell_store.specs.Twin.{first_at}
 use Rattle.store_plan.specs.declared.planning.Write.{Write}
 use Rattle.rathonsi_c.proofs.StaleLaws.{put_mid-is, write-over, write-beside}
