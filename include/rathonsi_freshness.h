@@ -52,7 +52,8 @@
  *      for the same PDU gets this answer, too: there is one candidate.
  *   4. The authenticator was found right (verification status callout): call
  *      rathonsi_freshness_accept with that freshness. It was found wrong: call nothing.
- *   Reserve ahead so that the bound is at least counter + window, and no PDU waits.
+ *   No PDU waits if the caller reserves ahead, so that the bound is at least counter + window. The
+ *   price comes with a power cut: the receiver then refuses what is reserved and not accepted.
  */
 #ifndef RATHONSI_FRESHNESS_H
 #define RATHONSI_FRESHNESS_H
@@ -95,9 +96,10 @@ int32_t rathonsi_freshness_next(RathonsiRoute *route, const uint8_t *image, size
  * the device write. This ends once the bound is at least counter + window. That takes at most
  * (window + reserve - 1) / reserve writes, rounded down: one if reserve is at least the window. It
  * begins anew once the counter moves: by a PDU that is accepted, by an answer that is taken, or
- * because the route is opened. A receiver that is opened then begins at most window + reserve - 1
- * above the last freshness that it accepted, and refuses so many genuine PDUs. A small window
- * keeps this small. */
+ * because the route is opened.
+ * A receiver that is opened begins at its bound. So such PDUs may take its counter up by window +
+ * reserve - 1 at each power-up, and it refuses as many genuine PDUs. A small window keeps this
+ * small. */
 RATHONSI_CHECKED
 int32_t rathonsi_freshness_candidate(const RathonsiRoute *route, const uint8_t *image, size_t image_length,
                                      uint64_t truncated, uint8_t bits, uint64_t *freshness);

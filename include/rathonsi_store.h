@@ -489,7 +489,7 @@ int32_t rathonsi_route_state(const RathonsiRoute *route, const uint8_t *image, s
  * slot. That freshness becomes the counter.
  * RATHONSI_BAD_LENGTH: payload_length is 0 or over 60, or pdu_length is below payload_length + 4.
  * RATHONSI_BAD_VALUE: a number of the route is outside its range, or the route doesn't send or isn't
- * open.
+ * open, or its freshness_only is 1.
  * RATHONSI_WRONG_CELL.
  * RATHONSI_DAMAGED: no copy of its cell counts, or the cell of its slot holds no slot.
  * RATHONSI_KEY_EMPTY, RATHONSI_KEY_INVALID, RATHONSI_KEY_NOT_AVAILABLE.
@@ -504,7 +504,7 @@ int32_t rathonsi_route_send(RathonsiRoute *route, const uint8_t *image, size_t i
  * RATHONSI_RESERVE.
  * RATHONSI_BAD_LENGTH: pdu_length is below 5 or over 64.
  * RATHONSI_BAD_VALUE: a number of the route is outside its range, or the route doesn't receive or
- * isn't open.
+ * isn't open, or its freshness_only is 1.
  * RATHONSI_WRONG_CELL, RATHONSI_DAMAGED: as for rathonsi_route_send.
  * RATHONSI_KEY_EMPTY, RATHONSI_KEY_INVALID, RATHONSI_KEY_NOT_AVAILABLE: as for rathonsi_route_send.
  * RATHONSI_FRESHNESS_FAILURE, RATHONSI_VERIFICATION_FAILURE.
@@ -538,7 +538,8 @@ RathonsiVerdict rathonsi_route_receive(RathonsiRoute *route, const uint8_t *imag
  * of the nonce, the Data ID and the counter under the route's key. All freshness that the route
  * sends later, in this life and every other, is above that counter. Nothing is reserved.
  * RATHONSI_BAD_VALUE, RATHONSI_WRONG_CELL, RATHONSI_DAMAGED, RATHONSI_KEY_EMPTY,
- * RATHONSI_KEY_INVALID, RATHONSI_KEY_NOT_AVAILABLE: as for rathonsi_route_send. */
+ * RATHONSI_KEY_INVALID, RATHONSI_KEY_NOT_AVAILABLE: as for rathonsi_route_send, whatever
+ * freshness_only is. */
 RATHONSI_CHECKED
 int32_t rathonsi_sync_answer(const RathonsiRoute *route, const uint8_t *image, size_t image_length, const uint8_t nonce[16],
                              uint8_t answer[24]);
@@ -549,7 +550,8 @@ int32_t rathonsi_sync_answer(const RathonsiRoute *route, const uint8_t *image, s
  * 0, and freshness is that counter. PDUs that were sent after the answer are accepted, within the
  * window.
  * RATHONSI_BAD_VALUE, RATHONSI_WRONG_CELL, RATHONSI_DAMAGED, RATHONSI_KEY_EMPTY,
- * RATHONSI_KEY_INVALID, RATHONSI_KEY_NOT_AVAILABLE: as for rathonsi_route_receive.
+ * RATHONSI_KEY_INVALID, RATHONSI_KEY_NOT_AVAILABLE: as for rathonsi_route_receive, whatever
+ * freshness_only is.
  * RATHONSI_VERIFICATION_FAILURE: it is no answer to this nonce under this key and Data ID.
  * RATHONSI_FRESHNESS_FAILURE: it is, and its counter isn't above the route's. The receiver isn't
  * behind.
