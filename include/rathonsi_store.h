@@ -442,10 +442,10 @@ RATHONSI_CHECKED
 int32_t rathonsi_route_reserve_for(const RathonsiRoute *route, const RathonsiVerdict *verdict, const uint8_t *image,
                                    size_t image_length, RathonsiPlan *plan);
 
-/* Plans a whole reserve above the bound in the image, if that leaves the route fewer than this many
- * freshness values above its counter. A caller that makes this call after each PDU, or in the
- * background, and does the plan, never waits for one: least is what the route needs while a plan is
- * done, and at most its reserve.
+/* Plans a whole reserve above the bound in the image, at most 2^64 - 1, if the bound leaves the route
+ * fewer than this many freshness values above its counter. A sender that makes this call after each
+ * PDU, or in the background, and does the plan, never waits for one: least is what the route needs
+ * while a plan is done, and at most its reserve. A receiver waits if a PDU is further ahead.
  * RATHONSI_BUSY.
  * RATHONSI_BAD_VALUE: a number of the route is outside its range, or the route isn't open.
  * RATHONSI_WRONG_CELL, RATHONSI_DAMAGED: as for rathonsi_route_open.
