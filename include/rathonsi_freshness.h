@@ -36,8 +36,8 @@
  *   1. The other module wants to build a PDU: call rathonsi_freshness_next.
  *      RATHONSI_OK: give it the freshness. It makes the authenticator over the full freshness, and
  *      sends as many low bits of it as it is configured to.
- *   2. RATHONSI_RESERVE: answer "busy" (E_BUSY). Plan by rathonsi_route_reserve with counter + 1, do
- *      the plan, and call rathonsi_store_done. The module asks again.
+ *   2. RATHONSI_RESERVE: answer "busy" (E_BUSY). Plan by rathonsi_route_reserve_next, do the plan, and
+ *      call rathonsi_store_done. The module asks again.
  *   3. Any other status: answer "failed" (E_NOT_OK), and report it.
  *   4. Nothing is to be done when the PDU was sent (SecOC_SPduTxConfirmation). A PDU that was built
  *      and not sent skips its freshness.

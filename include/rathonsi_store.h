@@ -43,8 +43,8 @@
  *   - A store has one image, one plan and one task at a time. Several stores share nothing: each
  *     has its own.
  *   - A Data ID in one direction has one cell and one route. No other route uses the cell.
- *     rathonsi_routes_open sees to it, if one call gets all routes of the store. A second cell is
- *     refused: see RATHONSI_DUPLICATE_ID.
+ *     rathonsi_routes_open sees to it, if one call gets all routes of the store. rathonsi_route_make
+ *     and rathonsi_store_grow refuse a second cell, and rathonsi_store_look names one.
  *   - An open route is not filled in with another Data ID, direction or cell.
  *   - A route has the same Data ID, direction and cell in every life. Slot, window, reserve and
  *     booted may change. The caller zeroes opened at power-up, and never sets it.

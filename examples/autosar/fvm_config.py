@@ -1,5 +1,5 @@
 #!/usr/bin/env python3
-"""Writes FvM_Cfg.h and FvM_Cfg.c: the routes of a freshness manager.
+"""Writes FvM_Cfg.h and FvM_Routes.c: the routes of a freshness manager.
 
     fvm_config.py --arxml FILE CELLS FOLDER     from the ECU configuration of SecOC
     fvm_config.py --bus FILE NODE CELLS FOLDER  from a bus file of Rathonsi; its Data IDs are the freshness IDs
