@@ -8,6 +8,7 @@ The second form needs no pytest: it runs the rows whose ids have each of these t
 of a row. A row passes if each command's output, standard error, status and files are exactly those that it names.
 """
 import concurrent.futures
+import contextlib
 import difflib
 import functools
 import importlib.util
@@ -27,11 +28,14 @@ import tomllib
 import tty
 from pathlib import Path
 
+import watch_model
+
 CHECKS = Path(__file__).resolve().parent
 TOP = CHECKS.parent
 # a standard output with room for N bytes is a file that may grow to this many
 ROOM = 65536
 SECONDS = 120
+VERSION = re.search(r"^## ([0-9.]+)", (TOP / "CHANGELOG.md").read_text(), re.MULTILINE)[1]
 BUILDING = threading.Lock()
 BASH = {
     "stdin": 'exec 0<&-; exec "$@"',
@@ -41,7 +45,7 @@ BASH = {
 }
 FIELDS = set(
     "run input lines output error status room closed full pieces read_fails_after env refuses_allocations columns "
-    "after bytes makes unchanged reads_folder last_word same prompt first".split()
+    "after bytes makes unchanged reads_folder last_word same prompt first size copies judge answers times other".split()
 )
 
 
@@ -62,7 +66,7 @@ def whole_of(parts):
         own = {name: value for name, value in part.items() if name in ("names", "files", "has", "each")}
         rest = {name: value for name, value in part.items() if name not in own}
         about.update({name: {**about[name], **it} if name in about else it for name, it in own.items()})
-        if "run" in rest:
+        if "run" in rest or "judge" in rest:
             steps.append(rest)
         elif rest:
             steps[-1].update(rest)
@@ -74,7 +78,7 @@ class Row:
 
     def __init__(self, table, key, parts, case):
         about, self.steps = whole_of(parts)
-        self.names = Names({"top": str(TOP), **table["names"], **about.get("names", {}), **case})
+        self.names = Names({"top": str(TOP), "version": VERSION, **table["names"], **about.get("names", {}), **case})
         told = string.Template(key).substitute(case)
         self.id = f"{table['program']}/{re.sub('[^A-Za-z0-9_.]+', '-', told).strip('-')}"
         self.files = {**table["files"], **about.get("files", {})}
@@ -85,6 +89,8 @@ class Row:
 
     def bytes_of(self, spec):
         """The bytes of a text, of a table that says how they are made, or of a list of these."""
+        if isinstance(spec, bytes):
+            return spec
         if isinstance(spec, str):
             return self.names.filled(spec).encode("latin-1")
         if isinstance(spec, list):
@@ -113,6 +119,8 @@ class Row:
             return self.bytes_of([f"version = {spec['version']}\n", *nodes])
         if "of" in spec:
             whole = self.bytes_of(self.files[self.names.filled(spec["of"])])
+        elif "made" in spec:
+            whole = (self.folder / self.names.filled(spec["made"])).read_bytes()
         elif "text" in spec:
             whole = self.bytes_of(spec["text"])
         else:
@@ -137,7 +145,23 @@ class Row:
         return subprocess.run(command, cwd=self.folder, input=given, stdout=subprocess.PIPE, check=True).stdout
 
     def words(self, step):
-        return shlex.split(self.names.filled(step["run"]))
+        return shlex.split(self.names.filled(step.get("run") or step["judge"]))
+
+    def judged(self, step):
+        """The commands of a step with `judge`: `watch` prints these answers and what its model counts behind them, as
+        objects, too; with `times`, both with times; and with `other`, `audit` prints them and this number."""
+        words, given = self.names.filled(step["judge"]), self.bytes_of(step.get("input", ""))
+        mapped, logged = (given if it == "-" else read(self.folder / it) for it in shlex.split(words))
+        answers = self.bytes_of(step["answers"])
+        totals, status = watch_model.totals(mapped, logged, answers)
+        assert status == int(self.names.filled(str(step.get("status", status)))), f"{self.id}: status {status} is counted"
+        told = {"": answers + totals, " --json": watch_model.objects(answers + totals)}
+        for option, text in told.items():
+            times = (" --time", watch_model.timed(text, logged)) if "times" in step else ("", text)
+            yield {"run": f"watch{option}{times[0]} {words}", "input": given, "output": times[1], "status": status}
+        if "other" in step:
+            other = self.names.filled(f"other {step['other']}\n").encode()
+            yield {"run": f"audit {words}", "input": given, "output": answers + other}
 
     def make(self, names):
         """Makes those files of the row that have one of these names."""
@@ -151,8 +175,7 @@ class Row:
             elif kind == "fifo":
                 os.mkfifo(folder / name)
                 if "fed" in spec:
-                    given = self.bytes_of(spec["fed"])
-                    threading.Thread(target=(folder / name).write_bytes, args=(given,), daemon=True).start()
+                    threading.Thread(target=feed, args=(folder / name, self.bytes_of(spec["fed"])), daemon=True).start()
             else:
                 (folder / name).write_bytes(self.bytes_of(spec))
             if isinstance(spec, dict) and "mode" in spec:
@@ -205,8 +228,13 @@ class Row:
         made = set(os.listdir(folder)) - there
         if made != ({self.names.filled(step["makes"])} if "makes" in step else set()):
             same.append(f"files that were made: {sorted(made)}")
+        for it in step.get("size", []):
+            name, size = self.names.filled(it).split()
+            same.append(difference(f"size of {name}", size.encode(), str((folder / name).stat().st_size).encode()))
         found = "\n".join(filter(None, same))
         assert not found, f"{self.id}: {' '.join(self.words(step))}\n{found}"
+        for name, spec in step.get("copies", {}).items():
+            (folder / self.names.filled(name)).write_bytes(self.bytes_of(spec))
 
     def play(self):
         with tempfile.TemporaryDirectory(prefix="rows-") as place:
@@ -217,7 +245,8 @@ class Row:
             words = [word for step in self.steps for word in self.words(step)]
             self.make([*words, *map(self.names.filled, self.has)])
             for step in self.steps:
-                self.run_step(step, folder, room)
+                for command in self.judged(step) if "judge" in step else [step]:
+                    self.run_step(command, folder, room)
 
 
 class Run:
@@ -302,6 +331,11 @@ class Run:
             right = [(0, wanted, b"")] + ([(7, b"", b"")] if at else [])
             assert ended in right, f"{self.row.id}: allocation {at} is refused: status {ended[0]}"
         assert seen, f"{self.row.id}: never ended with 7"
+
+
+def feed(path, given):
+    with contextlib.suppress(OSError):
+        path.write_bytes(given)
 
 
 def read(path):
