@@ -43,8 +43,8 @@
  *   - A store has one image, one plan and one task at a time. Several stores share nothing: each
  *     has its own.
  *   - A Data ID in one direction has one cell and one route. No other route uses the cell.
- *     rathonsi_routes_open sees to it, if one call gets all routes of the store. A second cell is
- *     refused: see RATHONSI_DUPLICATE_ID.
+ *     rathonsi_routes_open sees to it, if one call gets all routes of the store. rathonsi_route_make
+ *     and rathonsi_store_grow refuse a second cell, and rathonsi_store_look names one.
  *   - An open route is not filled in with another Data ID, direction or cell.
  *   - A route has the same Data ID, direction and cell in every life. Slot, window, reserve and
  *     booted may change. The caller zeroes opened at power-up, and never sets it.
@@ -442,10 +442,10 @@ RATHONSI_CHECKED
 int32_t rathonsi_route_reserve_for(const RathonsiRoute *route, const RathonsiVerdict *verdict, const uint8_t *image,
                                    size_t image_length, RathonsiPlan *plan);
 
-/* Plans a whole reserve above the bound in the image, if that leaves the route fewer than this many
- * freshness values above its counter. A caller that makes this call after each PDU, or in the
- * background, and does the plan, never waits for one: least is what the route needs while a plan is
- * done, and at most its reserve.
+/* Plans a whole reserve above the bound in the image, at most 2^64 - 1, if the bound leaves the route
+ * fewer than this many freshness values above its counter. A sender that makes this call after each
+ * PDU, or in the background, and does the plan, never waits for one: least is what the route needs
+ * while a plan is done, and at most its reserve. A receiver waits if a PDU is further ahead.
  * RATHONSI_BUSY.
  * RATHONSI_BAD_VALUE: a number of the route is outside its range, or the route isn't open.
  * RATHONSI_WRONG_CELL, RATHONSI_DAMAGED: as for rathonsi_route_open.
@@ -489,7 +489,7 @@ int32_t rathonsi_route_state(const RathonsiRoute *route, const uint8_t *image, s
  * slot. That freshness becomes the counter.
  * RATHONSI_BAD_LENGTH: payload_length is 0 or over 60, or pdu_length is below payload_length + 4.
  * RATHONSI_BAD_VALUE: a number of the route is outside its range, or the route doesn't send or isn't
- * open.
+ * open, or its freshness_only is 1.
  * RATHONSI_WRONG_CELL.
  * RATHONSI_DAMAGED: no copy of its cell counts, or the cell of its slot holds no slot.
  * RATHONSI_KEY_EMPTY, RATHONSI_KEY_INVALID, RATHONSI_KEY_NOT_AVAILABLE.
@@ -504,7 +504,7 @@ int32_t rathonsi_route_send(RathonsiRoute *route, const uint8_t *image, size_t i
  * RATHONSI_RESERVE.
  * RATHONSI_BAD_LENGTH: pdu_length is below 5 or over 64.
  * RATHONSI_BAD_VALUE: a number of the route is outside its range, or the route doesn't receive or
- * isn't open.
+ * isn't open, or its freshness_only is 1.
  * RATHONSI_WRONG_CELL, RATHONSI_DAMAGED: as for rathonsi_route_send.
  * RATHONSI_KEY_EMPTY, RATHONSI_KEY_INVALID, RATHONSI_KEY_NOT_AVAILABLE: as for rathonsi_route_send.
  * RATHONSI_FRESHNESS_FAILURE, RATHONSI_VERIFICATION_FAILURE.
@@ -538,7 +538,8 @@ RathonsiVerdict rathonsi_route_receive(RathonsiRoute *route, const uint8_t *imag
  * of the nonce, the Data ID and the counter under the route's key. All freshness that the route
  * sends later, in this life and every other, is above that counter. Nothing is reserved.
  * RATHONSI_BAD_VALUE, RATHONSI_WRONG_CELL, RATHONSI_DAMAGED, RATHONSI_KEY_EMPTY,
- * RATHONSI_KEY_INVALID, RATHONSI_KEY_NOT_AVAILABLE: as for rathonsi_route_send. */
+ * RATHONSI_KEY_INVALID, RATHONSI_KEY_NOT_AVAILABLE: as for rathonsi_route_send, whatever
+ * freshness_only is. */
 RATHONSI_CHECKED
 int32_t rathonsi_sync_answer(const RathonsiRoute *route, const uint8_t *image, size_t image_length, const uint8_t nonce[16],
                              uint8_t answer[24]);
@@ -549,7 +550,8 @@ int32_t rathonsi_sync_answer(const RathonsiRoute *route, const uint8_t *image, s
  * 0, and freshness is that counter. PDUs that were sent after the answer are accepted, within the
  * window.
  * RATHONSI_BAD_VALUE, RATHONSI_WRONG_CELL, RATHONSI_DAMAGED, RATHONSI_KEY_EMPTY,
- * RATHONSI_KEY_INVALID, RATHONSI_KEY_NOT_AVAILABLE: as for rathonsi_route_receive.
+ * RATHONSI_KEY_INVALID, RATHONSI_KEY_NOT_AVAILABLE: as for rathonsi_route_receive, whatever
+ * freshness_only is.
  * RATHONSI_VERIFICATION_FAILURE: it is no answer to this nonce under this key and Data ID.
  * RATHONSI_FRESHNESS_FAILURE: it is, and its counter isn't above the route's. The receiver isn't
  * behind.

@@ -20,7 +20,7 @@ use Rattle.rathonsi_c.specs.declared.refusals.Refusal.TheVariants.{BadValue, Wro
 use Rattle.rathonsi_c.specs.Causes.{IsDone}
 use Rattle.rathonsi_c.specs.Images.{ImageBound, DamagedCell, ImageKey, SlotRefuses}
 use Rattle.rathonsi_c.specs.Refused.{route_status, RouteRefused, SendRefused}
-use Rattle.rathonsi_c.specs.Routes.{RouteReady, is_booted, RouteAnswers, CounterAnswers, status_alone, no_verdict, bounded_answer, JudgesPdu, ReceiveAnswers}
+use Rattle.rathonsi_c.specs.Routes.{IsFreshnessOnly, RouteReady, is_booted, RouteAnswers, CounterAnswers, status_alone, no_verdict, bounded_answer, JudgesPdu, ReceiveAnswers}
 use Rattle.rathonsi_c.specs.Stores.{IsSize}
 use Rattle.rathonsi_c.proofs.ImageLaws.{slot_once, bound_once}
 
@@ -112,9 +112,9 @@ pub empty_not_filled : (key : List ℕ) (counter : ℕ) (flags : Flags) → Empt
 empty_not_filled key counter flags e = true≢false (ap is_empty e)
 
 -- the verdict of a receiver that is ready
-pub judged_route : (r : RathonsiRoute) (image pdu key : List ℕ) (bound : ℕ) (outcome : Outcome) (answer : RathonsiVerdict) → IsFrame pdu → RouteReady r Receives image key bound → Verdict key r.data_id r.counter r.window pdu outcome → answer ≡ bounded_answer bound outcome → ReceiveAnswers r image pdu answer
-judged_route r image pdu key bound outcome answer frame ready verdict is =
-    inr ((λ out. out frame), ready_route no_verdict r Receives image key bound (JudgesPdu r image pdu) answer ready (record { key = key; bound = bound; ready = ready; outcome = outcome; verdict = verdict; is = is }))
+pub judged_route : (r : RathonsiRoute) (image pdu key : List ℕ) (bound : ℕ) (outcome : Outcome) (answer : RathonsiVerdict) → IsFrame pdu → ¬ IsFreshnessOnly r → RouteReady r Receives image key bound → Verdict key r.data_id r.counter r.window pdu outcome → answer ≡ bounded_answer bound outcome → ReceiveAnswers r image pdu answer
+judged_route r image pdu key bound outcome answer frame own ready verdict is =
+    inr ((λ out. out frame), inr (own, ready_route no_verdict r Receives image key bound (JudgesPdu r image pdu) answer ready (record { key = key; bound = bound; ready = ready; outcome = outcome; verdict = verdict; is = is })))
 
 -- of the parts of the PDU, under the key's round keys
 pub same_verdict : (key schedule : List ℕ) (id counter window : ℕ) (pdu frame : List ℕ) (outcome : Outcome) → schedule ≡ key → pdu ≡ frame → Verdict schedule id counter window frame outcome → Verdict key id counter window pdu outcome

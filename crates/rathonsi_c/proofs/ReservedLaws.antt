@@ -46,14 +46,17 @@ pub judged : (r : RathonsiRoute) (image pdu : List ℕ) (v : RathonsiVerdict) �
 judged r image pdu v answers is = elim answers [
   | inl (short, e) ↦ absurd (other_status _ RESERVE (λ x. omega arith) (told v _ e is))
   | inr (_, framed) ↦ elim framed [
-    | inl (out, e) ↦ absurd (other_status _ RESERVE (λ x. omega arith) (told v _ e is))
-    | inr (_, ranged) ↦ elim ranged [
-      | inl (elsewhere, e) ↦ absurd (other_status _ RESERVE (λ x. omega arith) (told v _ e is))
-      | inr (_, own) ↦ elim own [
-        | inl (none, e) ↦ absurd (other_status _ RESERVE (λ x. omega arith) (told v _ e is))
-        | inr (_, kept) ↦ elim kept [
-          | inl (refusal, (refuses, e)) ↦ absurd (erc-other refusal (told v _ e is))
-          | inr (_, says) ↦ says
+    | inl (alone, e) ↦ absurd (other_status _ RESERVE (λ x. omega arith) (told v _ e is))
+    | inr (_, used) ↦ elim used [
+      | inl (out, e) ↦ absurd (other_status _ RESERVE (λ x. omega arith) (told v _ e is))
+      | inr (_, ranged) ↦ elim ranged [
+        | inl (elsewhere, e) ↦ absurd (other_status _ RESERVE (λ x. omega arith) (told v _ e is))
+        | inr (_, own) ↦ elim own [
+          | inl (none, e) ↦ absurd (other_status _ RESERVE (λ x. omega arith) (told v _ e is))
+          | inr (_, kept) ↦ elim kept [
+            | inl (refusal, (refuses, e)) ↦ absurd (erc-other refusal (told v _ e is))
+            | inr (_, says) ↦ says
+          ]
         ]
       ]
     ]
@@ -68,17 +71,26 @@ framed r image pdu v w next key bound first is ready second = elim second [
     | inr (not_short, _) ↦ absurd (not_short short)
   ]
   | inr (_, rest) ↦ elim rest [
-    | inl (out, e) ↦ absurd (out (record { ranges = ready.ranges; opened = ready.opened }))
-    | inr (_, ranged) ↦ elim ranged [
-      | inl (elsewhere, e) ↦ absurd (elsewhere.no_bound bound ready.kept)
-      | inr (_, own) ↦ elim own [
-        | inl (none, e) ↦ absurd (elim none [
-          | inl damaged ↦ damaged_keeps_none next r.cell r.data_id Receives bound damaged ready.kept
-          | inr empty ↦ empty (Filled key ready.keyed.counter ready.keyed.flags) ready.keyed.held
-        ])
-        | inr (_, kept) ↦ elim kept [
-          | inl (refusal, (refuses, e)) ↦ absurd (may-not-refused next r key refusal ready.keyed refuses)
-          | inr (_, says) ↦ says
+    | inl (alone, e) ↦ elim first [
+      | inl (_, f) ↦ absurd (other_status _ RESERVE (λ x. omega arith) (told v _ f is))
+      | inr (_, asked) ↦ elim asked [
+        | inl (_, f) ↦ absurd (other_status _ RESERVE (λ x. omega arith) (told v _ f is))
+        | inr (not_alone, _) ↦ absurd (not_alone alone)
+      ]
+    ]
+    | inr (_, used) ↦ elim used [
+      | inl (out, e) ↦ absurd (out (record { ranges = ready.ranges; opened = ready.opened }))
+      | inr (_, ranged) ↦ elim ranged [
+        | inl (elsewhere, e) ↦ absurd (elsewhere.no_bound bound ready.kept)
+        | inr (_, own) ↦ elim own [
+          | inl (none, e) ↦ absurd (elim none [
+            | inl damaged ↦ damaged_keeps_none next r.cell r.data_id Receives bound damaged ready.kept
+            | inr empty ↦ empty (Filled key ready.keyed.counter ready.keyed.flags) ready.keyed.held
+          ])
+          | inr (_, kept) ↦ elim kept [
+            | inl (refusal, (refuses, e)) ↦ absurd (may-not-refused next r key refusal ready.keyed refuses)
+            | inr (_, says) ↦ says
+          ]
         ]
       ]
     ]

@@ -1,6 +1,7 @@
 -- What ties calls together.
 use Rattle.std.proofs.Common.{◌≡◌, ℕ, suc, ◌+◌, ◌-◌, inl, inr, List, ◌∷◌, ◌++◌, length, take, drop, drop-cons, replicate, sym, ap, subst, ◌∙◌, arith, length-take, length-drop}
 use Rattle.std.proofs.lemmas.List.{take_at, take-append-drop}
+use Rattle.std.proofs.lemmas.Bool.{cases_eq}
 use Rattle.she_cmac.specs.Cmac.{cmac}
 use Rattle.freshness_routes.specs.declared.routes.Direction.TheVariants.{Receives}
 use Rattle.secured_pdu.specs.Frame.{authenticated_input, assembled, secured_frame, IsPayload, IsFrame}
@@ -11,7 +12,7 @@ use Rattle.rathonsi_c.specs.declared.secoc.RathonsiVerdict.{RathonsiVerdict}
 use Rattle.rathonsi_c.specs.declared.route.RathonsiRoute.{RathonsiRoute}
 use Rattle.rathonsi_c.specs.declared.steps.RathonsiInput.{RathonsiInput}
 use Rattle.rathonsi_c.specs.Images.{ImageKey}
-use Rattle.rathonsi_c.specs.Routes.{SentBy, Opens, RouteReady, ReceiveAnswers, bounded_answer, is_booted}
+use Rattle.rathonsi_c.specs.Routes.{IsFreshnessOnly, SentBy, Opens, RouteReady, ReceiveAnswers, bounded_answer, is_booted}
 use Rattle.rathonsi_c.specs.Steps.{InputOf, SentWith, CandidateOf, JudgedBy, JudgesBy, ReceiveMacAnswers}
 use Rattle.rathonsi_c.specs.Opening.{route_of, OpensRoutes}
 use Rattle.rathonsi_c.specs.Lives.{Memory, PoweredUp}
@@ -70,21 +71,24 @@ judged_verdict r pdu key input outcome covers long judged =
     ]
 
 -- a receiver that is ready judges the PDU by the MAC
-judged_in_steps : (r : RathonsiRoute) (image pdu key mac : List ℕ) (bound : ℕ) (input : RathonsiInput) (v : RathonsiVerdict) → RouteReady r Receives image key bound → CandidateOf r pdu input
+judged_in_steps : (r : RathonsiRoute) (image pdu key mac : List ℕ) (bound : ℕ) (input : RathonsiInput) (v : RathonsiVerdict) → ¬ IsFreshnessOnly r → RouteReady r Receives image key bound → CandidateOf r pdu input
     → ReceiveMacAnswers r image pdu input mac v → JudgesBy r image pdu mac v
-judged_in_steps r image pdu key mac bound input v ready covers answers = elim answers [
+judged_in_steps r image pdu key mac bound input v not_alone ready covers answers = elim answers [
   | inl (short, e) ↦ absurd (short covers.candidate.is_frame)
-  | inr (long, rest) ↦ elim rest [
-    | inl (out, e) ↦ absurd (out (record { ranges = ready.ranges; opened = ready.opened }))
-    | inr (in_use, own) ↦ elim own [
-      | inl (others, e) ↦ absurd (others.no_bound bound ready.kept)
-      | inr (ours, sound) ↦ elim sound [
-        | inl (damaged, e) ↦ absurd (damaged_keeps_none image r.cell r.data_id Receives bound damaged ready.kept)
-        | inr (whole, fresh) ↦ elim fresh [
-          | inl (none, e) ↦ absurd (none input.freshness covers.candidate)
-          | inr (some, told) ↦ elim told [
-            | inl (other, e) ↦ absurd (other covers)
-            | inr (its, says) ↦ says
+  | inr (long, asked) ↦ elim asked [
+    | inl (alone, e) ↦ absurd (not_alone alone)
+    | inr (_, rest) ↦ elim rest [
+      | inl (out, e) ↦ absurd (out (record { ranges = ready.ranges; opened = ready.opened }))
+      | inr (in_use, own) ↦ elim own [
+        | inl (others, e) ↦ absurd (others.no_bound bound ready.kept)
+        | inr (ours, sound) ↦ elim sound [
+          | inl (damaged, e) ↦ absurd (damaged_keeps_none image r.cell r.data_id Receives bound damaged ready.kept)
+          | inr (whole, fresh) ↦ elim fresh [
+            | inl (none, e) ↦ absurd (none input.freshness covers.candidate)
+            | inr (some, told) ↦ elim told [
+              | inl (other, e) ↦ absurd (other covers)
+              | inr (its, says) ↦ says
+            ]
           ]
         ]
       ]
@@ -92,12 +96,28 @@ judged_in_steps r image pdu key mac bound input v ready covers answers = elim an
   ]
 ]
 
-pub received_in_steps : (r : RathonsiRoute) (image pdu key : List ℕ) (bound : ℕ) (input : RathonsiInput) (one two : RathonsiVerdict) → RouteReady r Receives image key bound → CandidateOf r pdu input
+-- a route of which the freshness alone is asked is refused both times
+refused_alone : (r : RathonsiRoute) (image pdu mac : List ℕ) (input : RathonsiInput) (one two : RathonsiVerdict) → IsFrame pdu → IsFreshnessOnly r → ReceiveAnswers r image pdu one → ReceiveMacAnswers r image pdu input mac two → one ≡ two
+refused_alone r image pdu mac input one two frame alone first second = elim first [
+  | inl (short, _) ↦ absurd (short frame)
+  | inr (_, asked) ↦ elim asked [
+    | inr (not_alone, _) ↦ absurd (not_alone alone)
+    | inl (_, e) ↦ elim second [
+      | inl (short, _) ↦ absurd (short frame)
+      | inr (_, asked_again) ↦ elim asked_again [
+        | inr (not_alone, _) ↦ absurd (not_alone alone)
+        | inl (_, f) ↦ e ∙ sym f
+      ]
+    ]
+  ]
+]
+
+received_so : (r : RathonsiRoute) (image pdu key : List ℕ) (bound : ℕ) (input : RathonsiInput) (one two : RathonsiVerdict) → ¬ IsFreshnessOnly r → RouteReady r Receives image key bound → CandidateOf r pdu input
     → length (authenticated_input r.data_id (payload_of pdu) input.freshness) ≡ length (payload_of pdu) + 10
     → ReceiveAnswers r image pdu one → ReceiveMacAnswers r image pdu input (cmac key (take input.size input.bytes)) two → one ≡ two
-received_in_steps r image pdu key bound input one two ready covers long first second =
-    let j = judged_ready r image pdu key bound one covers.candidate.is_frame ready first in
-    let k = judged_in_steps r image pdu key (cmac key (take input.size input.bytes)) bound input two ready covers second in
+received_so r image pdu key bound input one two own ready covers long first second =
+    let j = judged_ready r image pdu key bound one covers.candidate.is_frame own ready first in
+    let k = judged_in_steps r image pdu key (cmac key (take input.size input.bytes)) bound input two own ready covers second in
     let small = ready.ranges.window_is in
     let same_freshness : k.freshness ≡ input.freshness = same_from_Ahead r.counter r.window (low_of pdu) k.freshness input.freshness small.1 k.candidate.ahead covers.candidate.ahead in
     let judged = subst (λ f. JudgedBy (cmac key (take input.size input.bytes)) pdu f k.outcome) same_freshness k.judged in
@@ -107,6 +127,14 @@ received_in_steps r image pdu key bound input one two ready covers long first se
     same_from_Verdict key r.data_id r.counter r.window pdu j.outcome k.outcome small (subst (λ (x : List ℕ). Verdict x r.data_id r.counter r.window pdu j.outcome) same_key j.verdict) verdict in
     let same_bound : j.bound ≡ k.bound = bound_once image r.cell r.data_id Receives j.bound k.bound j.ready.kept k.kept in
     j.is ∙ (ap (λ b. bounded_answer b j.outcome) same_bound ∙ (ap (λ (o : Outcome). bounded_answer k.bound o) same_outcome ∙ sym k.is))
+
+pub received_in_steps : (r : RathonsiRoute) (image pdu key : List ℕ) (bound : ℕ) (input : RathonsiInput) (one two : RathonsiVerdict) → RouteReady r Receives image key bound → CandidateOf r pdu input
+    → length (authenticated_input r.data_id (payload_of pdu) input.freshness) ≡ length (payload_of pdu) + 10
+    → ReceiveAnswers r image pdu one → ReceiveMacAnswers r image pdu input (cmac key (take input.size input.bytes)) two → one ≡ two
+received_in_steps r image pdu key bound input one two ready covers long first second = elim (cases_eq r.freshness_only 1) [
+  | inl alone ↦ refused_alone r image pdu (cmac key (take input.size input.bytes)) input one two covers.candidate.is_frame alone first second
+  | inr own ↦ received_so r image pdu key bound input one two own ready covers long first second
+]
 
 -- routes that were opened together, as the routes of a caller
 pub powered : (routes opened : List RathonsiRoute) (a : Memory) → OpensRoutes routes a.image opened → IsEmptyPlan a.plan → ((k : ℕ) → a.routes k ≡ route_of opened k) → PoweredUp (length opened) a

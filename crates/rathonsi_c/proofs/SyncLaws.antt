@@ -18,7 +18,7 @@ use Rattle.rathonsi_c.specs.declared.secoc.RathonsiVerdict.{RathonsiVerdict}
 use Rattle.rathonsi_c.specs.declared.route.RathonsiRoute.{RathonsiRoute}
 use Rattle.rathonsi_c.specs.Causes.{erc_status}
 use Rattle.rathonsi_c.specs.Images.{ImageKey}
-use Rattle.rathonsi_c.specs.Routes.{RouteReady, RouteAdvances, is_booted, no_verdict, bounded_answer, JudgesPdu, ReceiveAnswers}
+use Rattle.rathonsi_c.specs.Routes.{IsFreshnessOnly, RouteReady, RouteAdvances, is_booted, no_verdict, bounded_answer, JudgesPdu, ReceiveAnswers}
 use Rattle.rathonsi_c.specs.Syncing.{AnsweredBy, TellsCounter, JudgesSync, SyncTakeAnswers, TookAnswer, sync_verdict}
 use Rattle.rathonsi_c.specs.Lives.{Memory, Deed, PoweredUp, Lives, RisesTo, given_out}
 use Rattle.rathonsi_c.proofs.ImageLaws.{bound_once, slot_once}
@@ -137,21 +137,24 @@ reserved_by_key r image nonce answer v answers is =
 -- ---- what is accepted after it
 
 -- a receiver that is ready judges a frame
-pub judged_ready : (r : RathonsiRoute) (image pdu key : List ℕ) (bound : ℕ) (v : RathonsiVerdict) → IsFrame pdu → RouteReady r Receives image key bound → ReceiveAnswers r image pdu v → JudgesPdu r image pdu v
-judged_ready r image pdu key bound v frame ready answers = elim answers [
+pub judged_ready : (r : RathonsiRoute) (image pdu key : List ℕ) (bound : ℕ) (v : RathonsiVerdict) → IsFrame pdu → ¬ IsFreshnessOnly r → RouteReady r Receives image key bound → ReceiveAnswers r image pdu v → JudgesPdu r image pdu v
+judged_ready r image pdu key bound v frame not_alone ready answers = elim answers [
   | inl (short, e) ↦ absurd (short frame)
-  | inr (long, rest) ↦ elim rest [
-    | inl (out, e) ↦ absurd (out (record { ranges = ready.ranges; opened = ready.opened }))
-    | inr (in_use, own) ↦ elim own [
-      | inl (others, e) ↦ absurd (others.no_bound bound ready.kept)
-      | inr (ours, sound) ↦ elim sound [
-        | inl (none, e) ↦ absurd (elim none [
-          | inl damaged ↦ damaged_keeps_none image r.cell r.data_id Receives bound damaged ready.kept
-          | inr empty ↦ empty (Filled key ready.keyed.counter ready.keyed.flags) ready.keyed.held
-        ])
-        | inr (whole, keyed) ↦ elim keyed [
-          | inl (refusal, (refuses, e)) ↦ absurd (may-not-refused image r key refusal ready.keyed refuses)
-          | inr (may, says) ↦ says
+  | inr (long, asked) ↦ elim asked [
+    | inl (alone, e) ↦ absurd (not_alone alone)
+    | inr (_, rest) ↦ elim rest [
+      | inl (out, e) ↦ absurd (out (record { ranges = ready.ranges; opened = ready.opened }))
+      | inr (in_use, own) ↦ elim own [
+        | inl (others, e) ↦ absurd (others.no_bound bound ready.kept)
+        | inr (ours, sound) ↦ elim sound [
+          | inl (none, e) ↦ absurd (elim none [
+            | inl damaged ↦ damaged_keeps_none image r.cell r.data_id Receives bound damaged ready.kept
+            | inr empty ↦ empty (Filled key ready.keyed.counter ready.keyed.flags) ready.keyed.held
+          ])
+          | inr (whole, keyed) ↦ elim keyed [
+            | inl (refusal, (refuses, e)) ↦ absurd (may-not-refused image r key refusal ready.keyed refuses)
+            | inr (may, says) ↦ says
+          ]
         ]
       ]
     ]
@@ -165,14 +168,14 @@ one_key image place r key other k o =
 
 pub after_answer : (s r taken : RathonsiRoute) (sent image later nonce answer : List ℕ) (v : RathonsiVerdict) → AnsweredBy s sent nonce answer → SyncTakeAnswers r image nonce answer v → v.status ≡ OK
     → RouteAdvances Receives r image v.freshness taken → (key payload pdu : List ℕ) (bound freshness : ℕ) (second : RathonsiVerdict) → Secured key taken.data_id payload freshness pdu
-    → s.counter < freshness → freshness ≤ s.counter + taken.window → freshness < 2 ^ 64 → RouteReady taken Receives later key bound → ReceiveAnswers taken later pdu second
+    → s.counter < freshness → freshness ≤ s.counter + taken.window → freshness < 2 ^ 64 → ¬ IsFreshnessOnly taken → RouteReady taken Receives later key bound → ReceiveAnswers taken later pdu second
     → second ≡ bounded_answer bound (Accepted payload freshness)
-after_answer s r taken sent image later nonce answer v told answers is advances key payload pdu bound freshness second secured above near fits ready receives =
+after_answer s r taken sent image later nonce answer v told answers is advances key payload pdu bound freshness second secured above near fits own ready receives =
     let took = moved_by_key r image nonce answer v answers is in
     let same : v.freshness ≡ s.counter = one_counter took.key told.key r.data_id s.data_id nonce nonce v.freshness s.counter answer took.synced told.synced in
     let now : taken.counter ≡ v.freshness = ap (λ (t : RathonsiRoute). t.counter) advances.now in
     let frame = IsFrame-Secured key taken.data_id payload freshness pdu secured in
-    let j = judged_ready taken later pdu key bound second frame ready receives in
+    let j = judged_ready taken later pdu key bound second frame own ready receives in
     let accepted : Verdict key taken.data_id taken.counter taken.window pdu (Accepted payload freshness) =
     Verdict_of_secured key taken.data_id taken.counter taken.window payload freshness pdu secured (record { above = omega arith; near = omega arith; low_is = refl; fits = fits }) in
     let same_key : j.key ≡ key = one_key later taken.slot taken j.key key j.ready.keyed ready.keyed in

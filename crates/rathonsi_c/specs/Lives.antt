@@ -23,7 +23,8 @@ pub record Memory : Type 0 where
   pub plan : Plan
   pub routes : ℕ → RathonsiRoute
 
--- What happens. A PDU with this freshness is sent by a route, or accepted; an answer of its sender that tells this
+-- What happens. A PDU with this freshness is sent by a route, or accepted, or its freshness is given to another module,
+-- or accepted from it; an answer of its sender that tells this
 -- counter is taken by a route; a route is opened again; a field of it that doesn't say which route it is, nor its
 -- counter, nor opens it, is set; a bound is planned for a route, or an update for a slot; a plan is dropped before a
 -- write of it was begun; a plan is done, and the caller says so; the power comes back, whenever it went.
@@ -61,7 +62,8 @@ pub record OpensFilled (r : RathonsiRoute) (image : List ℕ) (opened : Rathonsi
   pub same : SameRoute r filled
   pub is_opened : Opens filled image opened
 
--- `rathonsi_route_send` or `rathonsi_route_receive` on route k, in one step or in two; or `rathonsi_sync_take`
+-- `rathonsi_route_send` or `rathonsi_route_receive` on route k, in one step or in two; or `rathonsi_sync_take`; or
+-- `rathonsi_freshness_next` or `rathonsi_freshness_accept`
 pub record GivesOut (direction : Direction) (n k freshness : ℕ) (a b : Memory) : Type 0 where
   pub changes : ChangesRoute n k a b
   pub advances : RouteAdvances direction (a.routes k) a.image freshness (b.routes k)

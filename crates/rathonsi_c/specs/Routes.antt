@@ -152,7 +152,8 @@ status_alone status = status
 abbrev pub SendAnswers : RathonsiRoute → List ℕ → List ℕ → List ℕ → ℤ → Type 0
 SendAnswers r image payload pdu status =
     IfCause (¬ TakesSend payload pdu) BAD_LENGTH
-    (RouteAnswers status_alone r Sends image (CounterAnswers r image)) status
+    (IfCause (IsFreshnessOnly r) BAD_VALUE
+    (RouteAnswers status_alone r Sends image (CounterAnswers r image))) status
 
 -- the verdict that tells a status alone
 abbrev pub no_verdict : ℤ → RathonsiVerdict
@@ -180,7 +181,8 @@ pub record JudgesPdu (r : RathonsiRoute) (image pdu : List ℕ) (answer : Rathon
 abbrev pub ReceiveAnswers : RathonsiRoute → List ℕ → List ℕ → RathonsiVerdict → Type 0
 ReceiveAnswers r image pdu answer =
     IfCause (¬ IsFrame pdu) (no_verdict BAD_LENGTH)
-    (RouteAnswers no_verdict r Receives image (JudgesPdu r image pdu)) answer
+    (IfCause (IsFreshnessOnly r) (no_verdict BAD_VALUE)
+    (RouteAnswers no_verdict r Receives image (JudgesPdu r image pdu))) answer
 
 -- the cell of a route isn't its own, or no copy of it counts, and else what the rest says
 abbrev pub CellAnswers : RathonsiRoute → List ℕ → (ℤ → Type 0) → ℤ → Type 0

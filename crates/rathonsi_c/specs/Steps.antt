@@ -12,7 +12,7 @@ use Rattle.rathonsi_c.specs.declared.route.RathonsiRoute.{RathonsiRoute}
 use Rattle.rathonsi_c.specs.declared.steps.RathonsiInput.{RathonsiInput}
 use Rattle.rathonsi_c.specs.Causes.{IfCause, IsDone}
 use Rattle.rathonsi_c.specs.Images.{ImageBound, DamagedCell, OthersCell}
-use Rattle.rathonsi_c.specs.Routes.{InUse, BoundBelow, CounterAnswers, TakesSend, status_alone, no_verdict}
+use Rattle.rathonsi_c.specs.Routes.{IsFreshnessOnly, InUse, BoundBelow, CounterAnswers, TakesSend, status_alone, no_verdict}
 use Rattle.rathonsi_c.specs.Routes.{bounded_answer}
 
 -- what the MAC of a PDU covers: the input, and zeros after it
@@ -37,7 +37,7 @@ NextFreshness r image status = BoundAnswers status_alone r Sends image (CounterA
 -- what `rathonsi_send_input` answers
 abbrev pub SendInputAnswers : RathonsiRoute → List ℕ → List ℕ → ℤ → Type 0
 SendInputAnswers r image payload status =
-    IfCause (¬ IsPayload payload) BAD_LENGTH (NextFreshness r image) status
+    IfCause (¬ IsPayload payload) BAD_LENGTH (IfCause (IsFreshnessOnly r) BAD_VALUE (NextFreshness r image)) status
 
 -- the status of why there is no freshness to send with
 abbrev pub NextRefused : RathonsiRoute → List ℕ → ℤ → Type 0
@@ -52,10 +52,11 @@ OtherInput r payload input = ¬ InputOf r.data_id payload (r.counter + 1) input
 abbrev pub SendMacAnswers : RathonsiRoute → List ℕ → List ℕ → RathonsiInput → List ℕ → ℤ → Type 0
 SendMacAnswers r image payload input pdu status =
     IfCause (¬ TakesSend payload pdu) BAD_LENGTH
+    (IfCause (IsFreshnessOnly r) BAD_VALUE
     (BoundAnswers status_alone r Sends image
     (IfCause (r.counter + 1 ≡ 2 ^ 64) EXHAUSTED
     (IfCause (BoundBelow r image Sends (r.counter + 1)) RESERVE
-    (IfCause (OtherInput r payload input) BAD_VALUE IsDone)))) status
+    (IfCause (OtherInput r payload input) BAD_VALUE IsDone))))) status
 
 -- the PDU of this payload, with the freshness above the counter and this MAC
 abbrev pub SentWith : RathonsiRoute → List ℕ → List ℕ → List ℕ → Type 0
@@ -87,7 +88,8 @@ CandidateRefused r image low status =
 abbrev pub ReceiveInputAnswers : RathonsiRoute → List ℕ → List ℕ → ℤ → Type 0
 ReceiveInputAnswers r image pdu status =
     IfCause (¬ IsFrame pdu) BAD_LENGTH
-    (BoundAnswers status_alone r Receives image (IfCause (NoCandidate r pdu) FRESHNESS_FAILURE IsDone)) status
+    (IfCause (IsFreshnessOnly r) BAD_VALUE
+    (BoundAnswers status_alone r Receives image (IfCause (NoCandidate r pdu) FRESHNESS_FAILURE IsDone))) status
 
 -- the three bytes of the PDU are the first three of this MAC, or they aren't
 abbrev pub JudgedBy : List ℕ → List ℕ → ℕ → Outcome → Type 0
@@ -109,6 +111,7 @@ pub record JudgesBy (r : RathonsiRoute) (image pdu mac : List ℕ) (verdict : Ra
 abbrev pub ReceiveMacAnswers : RathonsiRoute → List ℕ → List ℕ → RathonsiInput → List ℕ → RathonsiVerdict → Type 0
 ReceiveMacAnswers r image pdu input mac verdict =
     IfCause (¬ IsFrame pdu) (no_verdict BAD_LENGTH)
+    (IfCause (IsFreshnessOnly r) (no_verdict BAD_VALUE)
     (BoundAnswers no_verdict r Receives image
     (IfCause (NoCandidate r pdu) (no_verdict FRESHNESS_FAILURE)
-    (IfCause (¬ CandidateOf r pdu input) (no_verdict BAD_VALUE) (JudgesBy r image pdu mac)))) verdict
+    (IfCause (¬ CandidateOf r pdu input) (no_verdict BAD_VALUE) (JudgesBy r image pdu mac))))) verdict

@@ -322,6 +322,9 @@ pub extern "C" fn rathonsi_route_send(
     if payload.is_empty() || payload.len() > 60 || pdu.len() < payload.len() + 4 {
         return BAD_LENGTH;
     }
+    if route.freshness_only == 1 {
+        return BAD_VALUE;
+    }
     let sending = match may_send(route, image) {
         Ok(sending) => sending,
         Err(refusal) => return refusal.status(),
@@ -384,6 +387,9 @@ pub extern "C" fn rathonsi_route_receive(
     let Some(parts) = split(pdu) else {
         return no_verdict(BAD_LENGTH);
     };
+    if route.freshness_only == 1 {
+        return no_verdict(BAD_VALUE);
+    }
     let Ready { key, bound } = match make_ready(route, Direction::Receives, image) {
         Ok(found) => found,
         Err(refusal) => return no_verdict(refusal.status()),

@@ -110,6 +110,9 @@ pub extern "C" fn rathonsi_send_input(
     if payload.is_empty() || payload.len() > 60 {
         return BAD_LENGTH;
     }
+    if route.freshness_only == 1 {
+        return BAD_VALUE;
+    }
     match next_freshness(route, image) {
         Ok(freshness) => {
             *input = input_of(route.data_id, payload, freshness);
@@ -140,6 +143,9 @@ pub extern "C" fn rathonsi_send_mac(
 {
     if payload.is_empty() || payload.len() > 60 || pdu.len() < payload.len() + 4 {
         return BAD_LENGTH;
+    }
+    if route.freshness_only == 1 {
+        return BAD_VALUE;
     }
     let freshness = match next_freshness(route, image) {
         Ok(freshness) => freshness,
@@ -195,6 +201,9 @@ pub extern "C" fn rathonsi_receive_input(
     let Some(parts) = split(pdu) else {
         return BAD_LENGTH;
     };
+    if route.freshness_only == 1 {
+        return BAD_VALUE;
+    }
     match candidate_on(route, image, &parts) {
         Ok(Candidate { freshness, .. }) => {
             *input = input_of(route.data_id, parts.payload, freshness);
@@ -234,6 +243,9 @@ pub extern "C" fn rathonsi_receive_mac(
     let Some(parts) = split(pdu) else {
         return no_verdict(BAD_LENGTH);
     };
+    if route.freshness_only == 1 {
+        return no_verdict(BAD_VALUE);
+    }
     let Candidate { freshness, bound } = match candidate_on(route, image, &parts) {
         Ok(found) => found,
         Err(status) => return no_verdict(status),

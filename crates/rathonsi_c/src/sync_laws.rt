@@ -4,7 +4,7 @@ ghost use Rattle.freshness_routes.specs.declared.routes.Direction.TheVariants.{R
 ghost use Rattle.secured_pdu.specs.Frame.{Secured};
 ghost use Rattle.secured_pdu.specs.Sync.{Synced};
 ghost use Rattle.secured_pdu.specs.Verdict.{Accepted};
-ghost use Rattle.rathonsi_c.specs.Routes.{RouteReady, RouteAdvances, ReceiveAnswers, bounded_answer};
+ghost use Rattle.rathonsi_c.specs.Routes.{IsFreshnessOnly, RouteReady, RouteAdvances, ReceiveAnswers, bounded_answer};
 ghost use Rattle.rathonsi_c.specs.Syncing.{AnsweredBy, SyncTakeAnswers, TookAnswer};
 ghost use Rattle.rathonsi_c.specs.Lives.{Memory, Deed, PoweredUp, Lives, RisesTo, given_out};
 ghost use Rattle.rathonsi_c.specs.declared.TheConstants.{OK, RESERVE};
@@ -43,6 +43,6 @@ pub fn a_pdu_after_an_answer_is_accepted()
         → (key payload pdu : List ℕ) (bound freshness : ℕ) (second : RathonsiVerdict)
         → Secured key taken.data_id payload freshness pdu → s.counter < freshness
         → freshness ≤ s.counter + taken.window → freshness < 2 ^ 64
-        → RouteReady taken Receives later key bound → ReceiveAnswers taken later pdu second
+        → ¬ IsFreshnessOnly taken → RouteReady taken Receives later key bound → ReceiveAnswers taken later pdu second
         → second ≡ bounded_answer bound (Accepted payload freshness) }
 {}

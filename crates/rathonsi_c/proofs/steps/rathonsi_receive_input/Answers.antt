@@ -19,8 +19,11 @@ returns-in-Err-clause-answer c =
     let long : length parts.tag ≡ 3 = search rules in
     subst (λ s. ReceiveInputAnswers c.args.route.now c.args.image.now c.args.pdu.now s) (sym (to_z-of_z w32 status fits)) (inr (
       (λ out. out c.in-Some.ensures.found),
-      told_bound status_alone r Receives c.args.image.now (IfCause ((freshness : ℕ) → ¬ Ahead r.counter r.window parts.low freshness) FRESHNESS_FAILURE (λ x. ⊥)) (IfCause (NoCandidate r c.args.pdu.now) FRESHNESS_FAILURE IsDone) status (λ says. elim says [
-        | inl (none, e) ↦ inl (none_ahead c.args.pdu.now parts.payload.now parts.low parts.tag c.in-Some.ensures.parts long r none, e)
-        | inr (some, never) ↦ absurd never
-      ]) c.in-Err.ensures.refused,
+      inr (
+        c.if-route-eq1.false,
+        told_bound status_alone r Receives c.args.image.now (IfCause ((freshness : ℕ) → ¬ Ahead r.counter r.window parts.low freshness) FRESHNESS_FAILURE (λ x. ⊥)) (IfCause (NoCandidate r c.args.pdu.now) FRESHNESS_FAILURE IsDone) status (λ says. elim says [
+          | inl (none, e) ↦ inl (none_ahead c.args.pdu.now parts.payload.now parts.low parts.tag c.in-Some.ensures.parts long r none, e)
+          | inr (some, never) ↦ absurd never
+        ]) c.in-Err.ensures.refused,
+      ),
     ))

@@ -13,7 +13,7 @@ returns-in-Ok-clause-answer c =
     let covered = c.in-Ok.ensures.covered in
     inr (
       search rules,
-      next_rest c.args.route.now c.args.image.now covered.bound IsDone _ c.in-Ok.ensures.in_use covered.kept (let n = c.in-Ok.ensures.next in let k = covered.covers in omega arith) refl,
+      inr (c.if-route-eq1.false, next_rest c.args.route.now c.args.image.now covered.bound IsDone _ c.in-Ok.ensures.in_use covered.kept (let n = c.in-Ok.ensures.next in let k = covered.covers in omega arith) refl),
     )
 
 pub returns-in-Err-clause-answer : goal.returns-in-Err-clause-answer
@@ -24,5 +24,5 @@ returns-in-Err-clause-answer c =
     let fits : FitsSigned w32 status = search rules in
     subst (λ s. SendInputAnswers c.args.route.now c.args.image.now c.args.payload.now s) (sym (to_z-of_z w32 status fits)) (inr (
       search rules,
-      weaker_rest status_alone r Sends image (λ (answer : ℤ). (answer ≢ OK) × CounterAnswers r image answer) (CounterAnswers r image) status (λ says. says.1) c.in-Err.ensures.refused,
+      inr (c.if-route-eq1.false, weaker_rest status_alone r Sends image (λ (answer : ℤ). (answer ≢ OK) × CounterAnswers r image answer) (CounterAnswers r image) status (λ says. says.1) c.in-Err.ensures.refused),
     ))

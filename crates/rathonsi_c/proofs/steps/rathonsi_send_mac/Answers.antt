@@ -18,7 +18,7 @@ returns-in-Err-clause-answer c =
     let rest : ℤ → Type 0 = IfCause (OtherInput r c.args.payload.now c.args.input.now) BAD_VALUE IsDone in
     subst (λ s. SendMacAnswers c.args.route.now c.args.image.now c.args.payload.now c.args.input.now c.args.pdu.now s) (sym (to_z-of_z w32 status fits)) (inr (
       search rules,
-      told_bound status_alone r Sends image (λ (answer : ℤ). (answer ≢ OK) × CounterAnswers r image answer) (IfCause (r.counter + 1 ≡ 2 ^ 64) EXHAUSTED (IfCause (BoundBelow r image Sends (r.counter + 1)) RESERVE rest)) status (refused_counter r image rest status) c.in-Err.ensures.refused,
+      inr (c.if-route-eq1.false, told_bound status_alone r Sends image (λ (answer : ℤ). (answer ≢ OK) × CounterAnswers r image answer) (IfCause (r.counter + 1 ≡ 2 ^ 64) EXHAUSTED (IfCause (BoundBelow r image Sends (r.counter + 1)) RESERVE rest)) status (refused_counter r image rest status) c.in-Err.ensures.refused),
     ))
 
 pub returns-then-not-is_input-clause-answer : goal.returns-then-not-is_input-clause-answer
@@ -28,10 +28,13 @@ returns-then-not-is_input-clause-answer c =
     let next = c.in-Ok.ensures.next in
     inr (
       search rules,
-      next_rest r c.args.image.now covered.bound (IfCause (OtherInput r c.args.payload.now c.args.input.now) BAD_VALUE IsDone) _ c.in-Ok.ensures.in_use covered.kept (let k = covered.covers in omega arith) (inl (
-        (λ is. true≢false (sym (c.is_input.ensures.1 (subst (λ v. InputOf c.args.route.now.data_id c.args.payload.now v c.args.input.now) (sym next) is)) ∙ c.if-not-is_input.true)),
-        refl,
-      )),
+      inr (
+        c.if-route-eq1.false,
+        next_rest r c.args.image.now covered.bound (IfCause (OtherInput r c.args.payload.now c.args.input.now) BAD_VALUE IsDone) _ c.in-Ok.ensures.in_use covered.kept (let k = covered.covers in omega arith) (inl (
+          (λ is. true≢false (sym (c.is_input.ensures.1 (subst (λ v. InputOf c.args.route.now.data_id c.args.payload.now v c.args.input.now) (sym next) is)) ∙ c.if-not-is_input.true)),
+          refl,
+        )),
+      ),
     )
 
 pub returns-clause-answer : goal.returns-clause-answer
@@ -41,8 +44,11 @@ returns-clause-answer c =
     let next = c.in-Ok.ensures.next in
     inr (
       search rules,
-      next_rest r c.args.image.now covered.bound (IfCause (OtherInput r c.args.payload.now c.args.input.now) BAD_VALUE IsDone) _ c.in-Ok.ensures.in_use covered.kept (let k = covered.covers in omega arith) (inr (
-        (λ other. other (subst (λ v. InputOf c.args.route.now.data_id c.args.payload.now v c.args.input.now) next (c.is_input.ensures.0 c.if-not-is_input.false))),
-        refl,
-      )),
+      inr (
+        c.if-route-eq1.false,
+        next_rest r c.args.image.now covered.bound (IfCause (OtherInput r c.args.payload.now c.args.input.now) BAD_VALUE IsDone) _ c.in-Ok.ensures.in_use covered.kept (let k = covered.covers in omega arith) (inr (
+          (λ other. other (subst (λ v. InputOf c.args.route.now.data_id c.args.payload.now v c.args.input.now) next (c.is_input.ensures.0 c.if-not-is_input.false))),
+          refl,
+        )),
+      ),
     )
