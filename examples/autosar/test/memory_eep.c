@@ -11,7 +11,7 @@ static uint8 bytes[RATHONSI_STORE_SIZE(FVM_CELLS)];
 static const uint8 *source;
 static uint8 *target;
 static uint32 job, left, from, size;
-static boolean cut, stays;
+static boolean cut, failed, stays;
 static uint64 jobs;
 
 static Std_ReturnType begin(uint32 kind, uint32 address, uint32 length)
@@ -22,6 +22,7 @@ static Std_ReturnType begin(uint32 kind, uint32 address, uint32 length)
     from = address;
     size = length;
     left = below(3u);
+    failed = 0u;
     return E_OK;
 }
 
@@ -39,7 +40,7 @@ Std_ReturnType Eep_Write(uint32 EepromAddress, const uint8 *DataBufferPtr, uint3
 
 MemIf_JobResultType Eep_GetJobResult(void)
 {
-    return (job == IDLE) ? MEMIF_JOB_OK : MEMIF_JOB_PENDING;
+    return (job != IDLE) ? MEMIF_JOB_PENDING : failed ? MEMIF_JOB_FAILED : MEMIF_JOB_OK;
 }
 
 /* What a cut leaves: bytes that were written, bytes that weren't, and any others. */
@@ -65,7 +66,12 @@ void memory_tick(void)
     } else if (left > 0u) {
         left--;
     } else {
-        if (job == READS)
+        failed = !stays && below(1500u) == 0u;
+        if (failed && job == WRITES)
+            tear();
+        else if (failed)
+            memset(target, 0, size);
+        else if (job == READS)
             memcpy(target, &bytes[from], size);
         else
             memcpy(&bytes[from], source, size);

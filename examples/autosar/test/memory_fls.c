@@ -24,7 +24,8 @@ static Line lines[FVM_FLASH_BANKS][LINES];
 static const uint8 *source;
 static uint8 *target;
 static uint32 job, left, bank, place;
-static boolean cut, stays, unreadable;
+static boolean job_was_read;
+static boolean cut, failed, stays, unreadable;
 static uint64 jobs;
 
 static Std_ReturnType begin(uint32 kind, uint32 address)
@@ -36,6 +37,7 @@ static Std_ReturnType begin(uint32 kind, uint32 address)
     place = (address % FVM_FLASH_BANK_SIZE) / LINE;
     left = below(2u);
     unreadable = 0u;
+    failed = 0u;
     return E_OK;
 }
 
@@ -60,7 +62,7 @@ MemIf_JobResultType Fls_GetJobResult(void)
 {
     MemIf_JobResultType result = MEMIF_JOB_PENDING;
     if (job == IDLE)
-        result = unreadable ? MEMIF_JOB_FAILED : MEMIF_JOB_OK;
+        result = failed ? (job_was_read ? MEMIF_JOB_CANCELED : MEMIF_JOB_FAILED) : unreadable ? MEMIF_JOB_FAILED : MEMIF_JOB_OK;
     return result;
 }
 
@@ -107,7 +109,12 @@ void memory_tick(void)
     } else if (left > 0u) {
         left--;
     } else {
-        perform();
+        failed = !stays && below(1500u) == 0u;
+        job_was_read = job == READS;
+        if (!failed)
+            perform();
+        else if (job != READS)
+            tear();
         job = IDLE;
         jobs++;
     }

@@ -11,7 +11,7 @@ static uint8 block[RATHONSI_STORE_SIZE(FVM_CELLS)];
 static const void *source;
 static void *target;
 static uint32 job, left;
-static boolean cut, stays;
+static boolean cut, failed, stays;
 static uint64 jobs;
 
 static Std_ReturnType begin(uint32 kind)
@@ -20,6 +20,7 @@ static Std_ReturnType begin(uint32 kind)
         return E_NOT_OK;
     job = kind;
     left = below(5u);
+    failed = 0u;
     return E_OK;
 }
 
@@ -38,7 +39,7 @@ Std_ReturnType NvM_WriteBlock(NvM_BlockIdType BlockId, const void *NvM_SrcPtr)
 Std_ReturnType NvM_GetErrorStatus(NvM_BlockIdType BlockId, NvM_RequestResultType *RequestResultPtr)
 {
     (void)BlockId;
-    *RequestResultPtr = (job == IDLE) ? NVM_REQ_OK : NVM_REQ_PENDING;
+    *RequestResultPtr = (job != IDLE) ? NVM_REQ_PENDING : failed ? NVM_REQ_NOT_OK : NVM_REQ_OK;
     return E_OK;
 }
 
@@ -61,7 +62,9 @@ void memory_tick(void)
     } else if (left > 0u) {
         left--;
     } else {
-        perform();
+        failed = !stays && below(500u) == 0u;
+        if (!failed || below(2u) == 0u)
+            perform();
         job = IDLE;
         jobs++;
     }

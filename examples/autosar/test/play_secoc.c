@@ -4,8 +4,8 @@
  *
  * A unit sends two PDUs and receives three, with truncated freshness of 4, 8 and 64 bits and authenticators of 24
  * to 128 bits. Others send to it. An attacker repeats what was sent before, and forges. The power goes at any
- * moment of a job of the memory. The program ends with 1, and says why, if a freshness is given or accepted twice,
- * a forged PDU is accepted, or the unit is deaf for longer than its window and reserve explain.
+ * moment of a job of the memory, and jobs fail. The program ends with 1, and says why, if a freshness is given or
+ * accepted twice, a forged PDU is accepted, or the unit is deaf for longer than its window and reserve explain.
  */
 #include <stdio.h>
 #include <stdlib.h>
@@ -110,7 +110,7 @@ static boolean verifies(const uint8 *input, uint32 length, const uint8 *mac, uin
 /* ---- The unit: power-ups, sends, receives ------------------------------------------------------------------------- */
 
 static uint64 given[FVM_ROUTES], accepted[FVM_ROUTES], deaf[FVM_ROUTES], longest[FVM_ROUTES], starts[FVM_ROUTES];
-static uint64 sends, waits, accepts, refusals, replays, forgeries, cuts;
+static uint64 sends, waits, accepts, refusals, replays, forgeries, cuts, failures;
 
 static void main_function(void)
 {
@@ -130,9 +130,11 @@ static void power_up(void)
             main_function();
         if (memory_is_cut())
             cuts++;
+        else if (FvM_GetState() != FVM_UP && FvM_GetFault() == RATHONSI_FAILED)
+            failures++;
         else if (FvM_GetState() != FVM_UP)
             fail("the unit doesn't come up, status", (uint64)FvM_GetFault());
-    } while (memory_is_cut());
+    } while (FvM_GetState() != FVM_UP);
 }
 
 static void run(uint32 cycles)
@@ -141,6 +143,9 @@ static void run(uint32 cycles)
         main_function();
         if (memory_is_cut()) {
             cuts++;
+            power_up();
+        } else if (FvM_GetState() != FVM_UP && FvM_GetFault() == RATHONSI_FAILED) {
+            failures++;
             power_up();
         } else if (FvM_GetState() != FVM_UP) {
             fail("the unit stopped, status", (uint64)FvM_GetFault());
@@ -185,6 +190,19 @@ static void send(uint32 route)
     sends++;
 }
 
+/* An authenticator that was right is wrong with one of its bits turned, and right with one behind them turned. */
+static void altered(const Pdu *pdu, const uint8 *input, uint32 covered)
+{
+    const uint32 bits = MAC_BITS[pdu->route], bit = below(bits + 1u);
+    uint8 mac[16];
+    memcpy(mac, pdu->mac, sizeof mac);
+    if (!verifies(input, covered, mac, bits))
+        return;
+    mac[bit / 8u] ^= (uint8)(0x80u >> (bit % 8u));
+    if (verifies(input, covered, mac, bits) != (bit == bits))
+        fail("a bit of the authenticator counts wrongly", bit);
+}
+
 /* SecOC got a PDU: it asks for the freshness, checks the authenticator, and tells the verdict. */
 static boolean receive(const Pdu *pdu)
 {
@@ -203,10 +221,15 @@ static boolean receive(const Pdu *pdu)
     if (answer != E_OK)
         return 0u;
     const uint32 covered = input_of(pdu->route, pdu->payload, freshness, input);
+    if (pdu->genuine && MAC_BITS[pdu->route] < 128u)
+        altered(pdu, input, covered);
     const boolean right = verifies(input, covered, pdu->mac, MAC_BITS[pdu->route]);
     const SecOC_VerificationStatusType status = {
         id, right ? SECOC_VERIFICATIONSUCCESS : SECOC_VERIFICATIONFAILURE, id};
     FvM_VerificationStatus(status);
+    length = 64u;
+    if (SecOC_GetRxFreshness(id, pdu->truncated, TRUNCATED[pdu->route], 1u, freshness, &length) != E_NOT_OK)
+        fail("a second attempt is served, ID", id);
     return right;
 }
 
@@ -317,6 +340,10 @@ static void load_key(uint32 keyId, uint32 counter)
         main_function();
     if (answer != E_OK)
         fail("the key isn't taken, answer", answer);
+    messages[15] = (uint8)((FvM_SlotOfKey[1u] << 4u) | FvM_SlotOfKey[1u]);
+    if (Crypto_KeyElementSet(1u, CRYPTO_KE_MAC_KEY, messages, 64u) != CRYPTO_E_BUSY)
+        fail("two keys are taken at once, counter", counter);
+    messages[15] = request.m1[15];
     while ((answer = Crypto_KeyElementGet(keyId, CRYPTO_KE_MAC_PROOF, proof, &room)) == CRYPTO_E_BUSY)
         main_function();
     if (answer != E_OK || memcmp(proof, reply.m4, 32u) != 0 || memcmp(&proof[32], reply.m5, 16u) != 0)
@@ -344,11 +371,11 @@ int main(int count, char **words)
     memory_never_cut(0u);
     for (uint64 i = 0u; i < events; i++)
         event();
-    printf("%llu events: %llu sent, %llu accepted, %llu refused, %llu replays, %llu forgeries, %llu cuts, %llu waits, "
-           "%llu jobs; deaf at most %llu, %llu, %llu\n",
+    printf("%llu events: %llu sent, %llu accepted, %llu refused, %llu replays, %llu forgeries, %llu cuts, %llu failures, "
+           "%llu waits, %llu jobs; deaf at most %llu, %llu, %llu\n",
            (unsigned long long)events, (unsigned long long)sends, (unsigned long long)accepts,
            (unsigned long long)refusals, (unsigned long long)replays, (unsigned long long)forgeries,
-           (unsigned long long)cuts, (unsigned long long)waits, (unsigned long long)memory_jobs(),
+           (unsigned long long)cuts, (unsigned long long)failures, (unsigned long long)waits, (unsigned long long)memory_jobs(),
            (unsigned long long)longest[1], (unsigned long long)longest[2], (unsigned long long)longest[3]);
     return 0;
 }
