@@ -486,10 +486,10 @@ def test_a_channel_and_a_window_of_a_map(tmp_path: Path) -> None:
     assert [type(it.refused).__name__ for it in verdicts] == ["NoneType", "NoneType", "FreshnessFailure"]
 
 
-def drawn_frames(seed: int) -> list[can.Message]:
+def drawn_frames(seed: int) -> list[Any]:
     """Frames of two identifiers on three channels: PDUs in order, replays, PDUs of other channels, and other bytes."""
     drawn, sent = Random(seed), {place: 0 for place in itertools.product((0x124, 0x125), range(3))}
-    frames: list[can.Message] = []
+    frames: list[Any] = []
     for number in range(drawn.randint(1, 40)):
         canid, channel = place = drawn.choice(list(sent))
         sent[place] += drawn.choice((0, 1, 1, 1, 2))
@@ -498,7 +498,7 @@ def drawn_frames(seed: int) -> list[can.Message]:
     return frames
 
 
-def written(path: Path, frames: list[can.Message]) -> Path:
+def written(path: Path, frames: list[Any]) -> Path:
     writer = can.Logger(path)
     for message in frames:
         writer(message)
@@ -507,16 +507,12 @@ def written(path: Path, frames: list[can.Message]) -> Path:
 
 
 def told(verdicts: Any) -> list[tuple[int, str]]:
-    """Each verdict; python-can counts a comment of a log as no frame."""
+    """The number of each judged frame, with the line of `audit` for it."""
     return [(it.number, row(it)) for it in verdicts]
 
 
-@pytest.mark.parametrize("suffix", [".asc", ".blf", ".trc", ".mf4"])
+@pytest.mark.parametrize("suffix", [".asc", ".blf", ".trc"])
 def test_names_and_numbers_of_channels_judge_alike(tmp_path: Path, suffix: str) -> None:
-    if suffix == ".mf4":
-        pytest.importorskip("can.io.mf4")
-        pytest.importorskip("asammdf")
-
     def lines(*names: str) -> list[MapLine]:
         return [
             MapLine(canid, False, canid, KEY, 16 * place, 4, 8, name) for canid in (0x124, 0x125) for place, name in enumerate(names)
@@ -528,10 +524,9 @@ def test_names_and_numbers_of_channels_judge_alike(tmp_path: Path, suffix: str) 
         assert len(wanted) == len(frames)
         log = written(tmp_path / f"bus{suffix}", frames)
         numbers = ["1", "2", "3"] if suffix == ".trc" else ["0", "1", "2"]
-        names = dict(zip("abc", map(int, numbers)))
-        if suffix != ".mf4":
-            assert told(verify_log(log, lines("can0", "can1", "can2"))) == wanted
-            assert told(verify_log(log, lines("vcan0", "can1", "2" if suffix != ".trc" else "3"))) == wanted
+        names: dict[str, int | str] = dict(zip("abc", map(int, numbers)))
+        assert told(verify_log(log, lines("can0", "can1", "can2"))) == wanted
+        assert told(verify_log(log, lines("vcan0", "can1", numbers[2]))) == wanted
         assert told(verify_log(log, lines(*numbers))) == wanted
         assert told(verify_log(log, lines("a", "b", "c"), channels=names)) == wanted
         assert told(verify_log(log, lines("can2", "b", "c"), channels={"can2": int(numbers[0]), "b": numbers[1], "c": names["c"]})) == wanted
@@ -542,14 +537,15 @@ def test_a_log_of_which_no_frame_is_in_the_map(tmp_path: Path) -> None:
         return MapLine(arbitration_id, False, 0x120F, KEY, 0, 4, 256, channel)
 
     blf = written(tmp_path / "bus.blf", [frame(0x124, bytes(8), channel=1)])
-    for path, lines, why in (
+    cases: list[tuple[Path, list[MapLine], str]] = [
         (blf, [line("can0")], "came on channel 1"),
         (blf, [line("0"), line(None, 0x125)], "came on channel 1"),
         (blf, [line(None, 0x125)], "none of its identifiers"),
         (written(tmp_path / "bus.log", [frame(0x124, bytes(8), channel="can1")]), [line("can0")], "came on channel can1"),
         (blf, [], "none of its identifiers"),
         (written(tmp_path / "empty.asc", []), [line()], "none of its identifiers"),
-    ):
+    ]
+    for path, lines, why in cases:
         with pytest.raises(NothingJudged, match=why):
             list(verify_log(path, lines))
     assert len(list(verify_log(blf, [line("can0"), line("can1")]))) == 1
@@ -564,7 +560,12 @@ def test_channels_that_mean_nothing(tmp_path: Path, log: Path) -> None:
     with pytest.raises(TypeError, match="channels"):
         verify_log(log, [line("a")], channels={"a": None})  # type: ignore[dict-item]
     blf = written(tmp_path / "bus.blf", [frame(0x124, bytes(8), channel=0)])
-    for lines, names in (([line("can0"), line("vcan0")], {}), ([line("0"), line("can0")], {}), ([line("a"), line("b")], {"a": 0, "b": 0})):
+    cases: list[tuple[list[MapLine], dict[str, int | str]]] = [
+        ([line("can0"), line("vcan0")], {}),
+        ([line("0"), line("can0")], {}),
+        ([line("a"), line("b")], {"a": 0, "b": "0"}),
+    ]
+    for lines, names in cases:
         with pytest.raises(ValueError, match="no frame reaches"):
             verify_log(blf, lines, channels=names)
     # in a candump log these are three

@@ -336,7 +336,7 @@ def verify_log(
     """The verdict on each mapped data frame of a log, in its order, as it is read.
 
     `path` is a log that `LogReader` reads, by its suffix: candump (.log), ASC, BLF, TRC, CSV, SQLite (.db), also
-    with .gz; MF4, if python-can reads it. `map` is a file as of `read_map`, or lines of it; a frame belongs to the first
+    with .gz; MF4 (untested), if python-can reads it. `map` is a file as of `read_map`, or lines of it; a frame belongs to the first
     line with its identifier and channel. Each line counts for itself: its counter is `freshness`, and then the freshness
     that was accepted last. `reader` is passed on to `LogReader`.
 
