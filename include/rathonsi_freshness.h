@@ -15,8 +15,8 @@
  *   - A candidate is the only freshness of its route within the window that has these low bits.
  *   - The sender's freshness is found if it is 1 to window above the counter. If the answer is
  *     RATHONSI_RESERVE and its plan is done, the same call gives it, and it can be accepted.
- *   - While the counter of a route stays, candidates make the device write at most
- *     (window + reserve - 1) / reserve times, rounded down: see rathonsi_freshness_candidate.
+ *   - While the counter of a route stays, candidates make at most (window + reserve - 1) / reserve
+ *     plans, rounded down: see rathonsi_freshness_candidate.
  *
  * Freshness is a whole number of 64 bits here. SecOC modules pass it as bytes, the most significant
  * one first, and count lengths in bits. If the full freshness of a PDU has fewer bits in the
@@ -36,12 +36,12 @@
  *   1. The other module wants to build a PDU: call rathonsi_freshness_next.
  *      RATHONSI_OK: give it the freshness. It makes the authenticator over the full freshness, and
  *      sends as many low bits of it as it is configured to.
- *   2. RATHONSI_RESERVE: answer "busy" (E_BUSY). Plan by rathonsi_route_reserve with counter + 1, do
- *      the plan, and call rathonsi_store_done. The module asks again.
+ *   2. RATHONSI_RESERVE: answer "busy" (E_BUSY). Plan by rathonsi_route_reserve_next, do the plan, and
+ *      call rathonsi_store_done. The module asks again.
  *   3. Any other status: answer "failed" (E_NOT_OK), and report it.
  *   4. Nothing is to be done when the PDU was sent (SecOC_SPduTxConfirmation). A PDU that was built
  *      and not sent skips its freshness.
- *   To keep a PDU from waiting, reserve ahead in the background, as rathonsi_route_reserve says.
+ *   To keep a PDU from waiting, reserve ahead in the background by rathonsi_route_reserve_ahead.
  *
  * A receiver:
  *   1. The other module got a PDU: call rathonsi_freshness_candidate with the freshness bits of the
@@ -94,7 +94,7 @@ int32_t rathonsi_freshness_next(RathonsiRoute *route, const uint8_t *image, size
  *
  * RATHONSI_RESERVE comes before any authenticator is checked. So somebody without the key can make
  * the device write. This ends once the bound is at least counter + window. That takes at most
- * (window + reserve - 1) / reserve writes, rounded down: one if reserve is at least the window. It
+ * (window + reserve - 1) / reserve plans, rounded down: one if reserve is at least the window. It
  * begins anew once the counter moves: by a PDU that is accepted, by an answer that is taken, or
  * because the route is opened.
  * A receiver that is opened begins at its bound. So such PDUs may take its counter up by window +

@@ -43,8 +43,8 @@
  *   - A store has one image, one plan and one task at a time. Several stores share nothing: each
  *     has its own.
  *   - A Data ID in one direction has one cell and one route. No other route uses the cell.
- *     rathonsi_routes_open sees to it, if one call gets all routes of the store. A second cell is
- *     refused: see RATHONSI_DUPLICATE_ID.
+ *     rathonsi_routes_open sees to it, if one call gets all routes of the store. rathonsi_route_make
+ *     and rathonsi_store_grow refuse a second cell, and rathonsi_store_look names one.
  *   - An open route is not filled in with another Data ID, direction or cell.
  *   - A route has the same Data ID, direction and cell in every life. Slot, window, reserve and
  *     booted may change. The caller zeroes opened at power-up, and never sets it.
@@ -442,10 +442,10 @@ RATHONSI_CHECKED
 int32_t rathonsi_route_reserve_for(const RathonsiRoute *route, const RathonsiVerdict *verdict, const uint8_t *image,
                                    size_t image_length, RathonsiPlan *plan);
 
-/* Plans a whole reserve above the bound in the image, if that leaves the route fewer than this many
- * freshness values above its counter. A caller that makes this call after each PDU, or in the
- * background, and does the plan, never waits for one: least is what the route needs while a plan is
- * done, and at most its reserve.
+/* Plans a whole reserve above the bound in the image, at most 2^64 - 1, if the bound leaves the route
+ * fewer than this many freshness values above its counter. A sender that makes this call after each
+ * PDU, or in the background, and does the plan, never waits for one: least is what the route needs
+ * while a plan is done, and at most its reserve. A receiver waits if a PDU is further ahead.
  * RATHONSI_BUSY.
  * RATHONSI_BAD_VALUE: a number of the route is outside its range, or the route isn't open.
  * RATHONSI_WRONG_CELL, RATHONSI_DAMAGED: as for rathonsi_route_open.

@@ -50,10 +50,14 @@ static uint8 slot_of(uint32 cryptoKeyId)
     return (cryptoKeyId < FVM_KEYS) ? FvM_SlotOfKey[cryptoKeyId] : 0u;
 }
 
+/* Hands out as many bytes of a MAC as the buffer takes, and says how many. */
 static Std_ReturnType make(const Crypto_JobPrimitiveInputOutputType *io, const uint8 mac[16])
 {
     Std_ReturnType answer = E_NOT_OK;
-    if ((*io->outputLengthPtr >= 1u) && (*io->outputLengthPtr <= MAC_LENGTH)) {
+    if (*io->outputLengthPtr >= 1u) {
+        if (*io->outputLengthPtr > MAC_LENGTH) {
+            *io->outputLengthPtr = MAC_LENGTH;
+        }
         (void)memcpy(io->outputPtr, mac, *io->outputLengthPtr);
         answer = E_OK;
     }

@@ -96,7 +96,7 @@ FvM_MemoryState FvM_Memory_Poll(void)
         const MemIf_JobResultType result = Fls_GetJobResult();
         if (result != MEMIF_JOB_PENDING) {
             uint32 outcome = RATHONSI_FLASH_DONE;
-            if ((result != MEMIF_JOB_OK) && (FvM_Operation.kind == RATHONSI_FLASH_READ)) {
+            if ((result == MEMIF_JOB_FAILED) && (FvM_Operation.kind == RATHONSI_FLASH_READ)) {
                 outcome = RATHONSI_FLASH_NOTHING;
             } else if (result != MEMIF_JOB_OK) {
                 outcome = RATHONSI_FLASH_FAILED;

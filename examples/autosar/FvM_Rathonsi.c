@@ -19,6 +19,8 @@ static RathonsiRoute FvM_Route[FVM_ROUTES];
 static uint64 FvM_Candidate[FVM_ROUTES];
 /* A freshness that no bound covered when it was asked for. */
 static uint64 FvM_Wanted[FVM_ROUTES];
+/* SecOC asked for a freshness of the route in this life. Before that nothing is reserved: each power-up would skip it. */
+static boolean FvM_Asked[FVM_ROUTES];
 /* The plan is that of a key, and isn't begun yet. */
 static boolean FvM_KeyWaits;
 
@@ -87,6 +89,7 @@ static void fill_routes(void)
         FvM_Route[i].slot = 4u;
         FvM_Candidate[i] = 0u;
         FvM_Wanted[i] = 0u;
+        FvM_Asked[i] = 0u;
     }
 }
 
@@ -100,7 +103,8 @@ static uint64 due(uint32 i)
         stop(status);
     } else if (FvM_Wanted[i] > told.bound) {
         freshness = FvM_Wanted[i];
-    } else if (((told.bound - told.counter) < FvM_Routes[i].least) && (told.bound < UINT64_MAX)) {
+    } else if ((FvM_Asked[i] != 0u) && ((told.bound - told.counter) < FvM_Routes[i].least)
+               && (told.bound < UINT64_MAX)) {
         freshness = told.bound + 1u;
     } else {
         FvM_Wanted[i] = 0u;
@@ -171,17 +175,16 @@ static void take_outcome(FvM_MemoryState memory)
 void FvM_Init(void)
 {
     FVM_ENTER();
+    stop(RATHONSI_OK);
     (void)memset(&FvM_Plan, 0, sizeof FvM_Plan);
     fill_routes();
-    FvM_State = FVM_READING;
-    FvM_Writing = 0u;
     FvM_KeyWaits = 0u;
-    FvM_Fault = RATHONSI_OK;
     FVM_LEAVE();
-    if (FvM_Memory_Read(FvM_Image, sizeof FvM_Image) != E_OK) {
-        FVM_ENTER();
-        stop(RATHONSI_FAILED);
-        FVM_LEAVE();
+    /* The read is begun before FvM_MainFunction asks what became of it. */
+    if (FvM_Memory_Read(FvM_Image, sizeof FvM_Image) == E_OK) {
+        FvM_State = FVM_READING;
+    } else {
+        FvM_Fault = RATHONSI_FAILED;
     }
 }
 
@@ -238,6 +241,7 @@ static Std_ReturnType next_freshness(uint32 i, uint64 *freshness)
 {
     Std_ReturnType answer = (FvM_State == FVM_READING) ? E_BUSY : E_NOT_OK;
     if (FvM_State == FVM_UP) {
+        FvM_Asked[i] = 1u;
         const int32_t status =
             rathonsi_freshness_next(&FvM_Route[i], FvM_Image, sizeof FvM_Image, freshness);
         if (status == RATHONSI_RESERVE) {
@@ -287,6 +291,7 @@ static Std_ReturnType candidate(uint32 i, uint64 truncated, uint32 bits, uint64 
     Std_ReturnType answer = (FvM_State == FVM_READING) ? E_BUSY : E_NOT_OK;
     FvM_Candidate[i] = 0u;
     if (FvM_State == FVM_UP) {
+        FvM_Asked[i] = 1u;
         const int32_t status = rathonsi_freshness_candidate(&FvM_Route[i], FvM_Image, sizeof FvM_Image, truncated,
                                                             (uint8)bits, freshness);
         if (status == RATHONSI_RESERVE) {
@@ -336,8 +341,8 @@ void FvM_VerificationStatus(SecOC_VerificationStatusType status)
     const uint32 i = route_of(status.freshnessValueID, RATHONSI_RECEIVES);
     if (i < FVM_ROUTES) {
         FVM_ENTER();
-        if ((FvM_State == FVM_UP) && (FvM_Candidate[i] != 0u)
-            && (status.verificationStatus == SECOC_VERIFICATIONSUCCESS)) {
+        if ((FvM_State == FVM_UP) && (status.verificationStatus == SECOC_VERIFICATIONSUCCESS)) {
+            /* A success without a candidate is one of another life, or of a PDU before: 0 is refused. */
             const int32_t accepted = rathonsi_freshness_accept(&FvM_Route[i], FvM_Image, sizeof FvM_Image,
                                                                FvM_Candidate[i]);
             if (accepted != RATHONSI_OK) {
@@ -357,7 +362,9 @@ int32_t FvM_LoadKey(const RathonsiRequest *request)
     FVM_ENTER();
     if ((FvM_State == FVM_UP) && (FvM_Writing == 0u)) {
         status = rathonsi_slot_load(FvM_Uid, 0u, request, FvM_Image, sizeof FvM_Image, &FvM_Plan);
-        FvM_KeyWaits = (status == RATHONSI_OK) ? 1u : 0u;
+        if (status == RATHONSI_OK) {
+            FvM_KeyWaits = 1u;
+        }
     }
     FVM_LEAVE();
     return status;

@@ -41,7 +41,7 @@ typedef enum {
 /* Begins at power-up, and whenever all is to begin again. NvM_Init and the drivers below come before it. */
 void FvM_Init(void);
 
-/* Cyclic: reads the store, plans and writes bounds. A bound takes two calls and the time of the memory. */
+/* Cyclic: reads the store, plans and writes bounds. One job of the memory is begun or ended in each call. */
 void FvM_MainFunction(void);
 
 FvM_StateType FvM_GetState(void);

@@ -1,5 +1,5 @@
 #!/usr/bin/env python3
-"""Writes FvM_Cfg.h and FvM_Cfg.c: the routes of a freshness manager.
+"""Writes FvM_Cfg.h and FvM_Routes.c: the routes of a freshness manager.
 
     fvm_config.py --arxml FILE CELLS FOLDER     from the ECU configuration of SecOC
     fvm_config.py --bus FILE NODE CELLS FOLDER  from a bus file of Rathonsi; its Data IDs are the freshness IDs
@@ -35,12 +35,16 @@ def of_arxml(path):
             for value in container.findall("{*}PARAMETER-VALUES/{*}ECUC-NUMERICAL-PARAM-VALUE")
         }
         truncated = numbers.get("SecOCFreshnessValueTruncLength", 64)
+        if truncated < 3:
+            sys.exit(f"fvm_config: ID {numbers['SecOCFreshnessValueId']}: {truncated} bits tell too few values apart")
+        window = min(WINDOW, 2**truncated)
         yield {
             "id": numbers["SecOCFreshnessValueId"],
             "direction": direction,
             "bits": numbers["SecOCFreshnessValueLength"],
-            "window": min(WINDOW, 2**truncated),
-            "reserve": RESERVE,
+            "window": window,
+            # what one start of a sender skips is within the window of its receivers
+            "reserve": min(RESERVE, window // 2),
         }
 
 

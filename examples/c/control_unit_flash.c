@@ -257,7 +257,7 @@ static uint32_t perform(void) {
     return broken == GOES_ON && outcome == RATHONSI_FLASH_FAILED && !power_is_gone ? RATHONSI_FLASH_DONE : outcome;
 }
 
-/* What an operation doesn't use is zero: all bytes but those of the line that is programmed, and all of no operation. */
+/* What an operation doesn't use is zero: all bytes but those of the line that is programmed; of no operation all. */
 static void expect_unused(void) {
     for (uint32_t i = operation.kind == RATHONSI_FLASH_PROGRAM ? operation.length : 0; i < sizeof operation.bytes; i++)
         expect(operation.bytes[i] == 0, "an operation has bytes that it doesn't use");
@@ -560,8 +560,8 @@ static void one_event(void) {
         expect(status == RATHONSI_OK || status == RATHONSI_FRESHNESS_FAILURE, "a call is refused");
 }
 
-/* What all starts and puts since the store was made have worn: an erase for each start at most, and one for as many puts
- * as a bank takes; a copy for each erase, and a line for each put. */
+/* What all starts and puts since the store was made have worn: an erase for each start at most, and one for as many
+ * puts as a bank takes; a copy for each erase, and a line for each put. */
 static void judge_wear(void) {
     long bank_puts = (long)part.lines - CELLS - 1;
     expect(erases * bank_puts <= starts * bank_puts + puts_begun, "banks are erased too often");

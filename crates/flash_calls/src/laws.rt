@@ -78,9 +78,9 @@ pub fn a_program_finds_its_place_blank()
         → MayBegin operation b.flash }
 {}
 
-/// Over all lives a bank is erased once a start at most, and once more for as many puts as a bank takes (`bank_puts`).
-/// An erase counts as soon as it is begun, a start whenever all begins again, and a put whose line is programmed, done
-/// or cut.
+/// Over all lives all banks together are erased once a start at most, and once more for as many puts as a bank takes
+/// (`bank_puts`). An erase counts as soon as it is begun, a start whenever all begins again, and a put whose line is
+/// programmed, done or cut.
 pub fn erases_are_bounded()
     ensures { (s : FlashSizes) (deeds : List CallDeed) (erases : ℕ) (a b : CallState) → CallBegun s a
         → LivesErasing s deeds erases a b

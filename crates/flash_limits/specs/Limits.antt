@@ -21,8 +21,8 @@ pub data FlashWrite : Type 0 where
   erases_bank : (bank : ℕ) → FlashWrite
   programs_place : (bank place : ℕ) → (line : FlashLine) → FlashWrite
 
--- A design of a store: what a life does that has read the flash so. It hands out a value, and then does these writes for
--- the put of a value that it is asked. Both depend on what it was read and asked alone.
+-- A design of a store: what a life does that has read the flash so. It hands out a value, and then does these writes
+-- for the put of a value that it is asked. Both depend on what it read and was asked alone.
 pub record StoreDesign : Type 0 where
   pub hands : FlashView → ℕ
   pub writes : FlashView → ℕ → List FlashWrite
@@ -84,8 +84,8 @@ WritesTwoBanks (programs_place bank place line ∷ writes) = (bank < 2) × Write
 abbrev pub OnTwoBanks : StoreDesign → Type 0
 OnTwoBanks d = (view : FlashView) (value : ℕ) → WritesTwoBanks (d.writes view value)
 
--- What a store owes, in all lives. A start never reads nothing of both banks. After a put that was done each start hands
--- out its value; if the next put was cut, that value or the next one.
+-- What a store owes, in all lives. A start never reads nothing of both banks. After a put that was done each start
+-- hands out its value; if the next put was cut, that value or the next one.
 pub record KeepsPuts (d : StoreDesign) (start : Flash) : Type 0 where
   pub found : (lives : List FlashLife) (f : Flash) (view : FlashView) → LivesOn d lives start f → MayBeRead f view
       → ((k : ℕ) → view 0 k ≡ None) → ((k : ℕ) → view 1 k ≡ None) → ⊥

@@ -7,8 +7,8 @@
 //! So a driver has to promise more: that what was read stays, that blank places are told exactly, or that some unit may
 //! be programmed again.
 //!
-//! A life is a function of what it reads and of the put that it is asked: it has no other memory, and draws no lots. The
-//! crate has no code but these laws, so no edit of code can be tried on it.
+//! A life is a function of what it reads and of the put that it is asked: it has no other memory, and draws no lots.
+//! The crate has no code but these laws, so no edit of code can be tried on it.
 #![tactic(auto)]
 
 pub mod laws;

@@ -4,7 +4,7 @@ ghost use Rattle.flash_places.specs.MemFlash.{memory_state};
 ghost use Rattle.flash_log.specs.Stores.{IsStoreOf};
 
 use flash_log::{AttachFault, FlashLog, PutFault, attach, format};
-use flash_places::{Answer, FlashDevice, FlashLine, MemFlash};
+use flash_places::MemFlash;
 use std::alloc::Global;
 use std::process::Abort;
 use std::test::Fail;
@@ -113,38 +113,5 @@ fn a_put_is_one_call_unless_the_bank_is_full(rt: HostRuntime) -> Result<(), Fail
     let one = Ok(());
     let ends = [one, one, one, one, one, Err(PutFault::Failed)];
     assert_eq!(rt; put_six(&mut flash), Ok(ends));
-    Ok(())
-}
-
-/// What a place is read as, whose program was cut, or whose erase was: at a read that sees what it can, or not.
-fn read_after_a_cut(alloc: Global, cuts_erase: bool, sees: bool) -> Result<Answer, Fail> {
-    let mut flash = MemFlash::new(alloc, 2, 4)?;
-    if !cuts_erase {
-        flash.fail_at(1);
-    }
-    let program = flash.program(1, 2, &FlashLine::Head(7));
-    if cuts_erase {
-        flash.fail_at(1);
-    }
-    let erase = if cuts_erase { flash.erase(1) } else { Ok(()) };
-    flash.answer_by(sees as u64, true);
-    let answer = flash.look(1, 2);
-    if program.is_ok() != cuts_erase || erase.is_ok() == cuts_erase {
-        return Err(Fail::from("nothing was cut"));
-    }
-    match answer {
-        Ok(answer) => Ok(answer),
-        Err(_) => Err(Fail::from("not read")),
-    }
-}
-
-#[test]
-fn a_place_that_was_cut_is_seen_or_not(rt: HostRuntime) -> Result<(), Fail> {
-    for cuts_erase in [false, true] {
-        let seen = read_after_a_cut(rt.alloc(), cuts_erase, true)?;
-        assert_eq!(rt; seen, Answer::Whole(FlashLine::Head(7)));
-        let unseen = read_after_a_cut(rt.alloc(), cuts_erase, false)?;
-        assert_eq!(rt; unseen, Answer::Nothing);
-    }
     Ok(())
 }

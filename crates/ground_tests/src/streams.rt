@@ -4,8 +4,8 @@ use bus_port::MemSource;
 use line_stream::{LineTaker, StreamFault, stream_lines};
 use std::alloc::{AllocError, Global};
 
-/// Notes its calls: of a line the last digit of its number, its first five bytes, `w` if it has 4,096 and `l` if it has
-/// 4,097, and `;`; of a pause `|`; of the end of the log `.`. It ends the log at a line or a pause of this number.
+/// Notes its calls: of a line its number, 9 for any above 4, its first five bytes, `w` if it has 4,096 and `l` if it
+/// has 4,097, and `;`; of a pause `|`; of the end of the log `.`. It ends the log at a line or a pause of this number.
 #[derive(Drop)]
 struct Notes {
     text: Vec<u8>,
@@ -35,7 +35,14 @@ impl LineTaker for Notes {
     ghost ends = { λ _ _ _. Unit {0} };
 
     fn take(&mut self, number: u64, line: &[u8]) -> Result<(), u8> {
-        self.note(&[b'0' + (number % 10) as u8]);
+        let digit = match number {
+            1 => b'1',
+            2 => b'2',
+            3 => b'3',
+            4 => b'4',
+            _ => b'9',
+        };
+        self.note(&[digit]);
         self.note(&line[..line.len().min(5)]);
         match line.len() {
             4096 => self.note(b"w"),

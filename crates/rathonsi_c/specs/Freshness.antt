@@ -72,8 +72,8 @@ pub record WritesForCandidate (r : RathonsiRoute) (image next : List ℕ) : Type
   pub done : PlanDone image plan next emptied
 
 -- every bound of the route in the first image is covered in the second
-abbrev pub KeepsBound : RathonsiRoute → List ℕ → List ℕ → Type 0
-KeepsBound r image later =
+abbrev pub BoundStaysCovered : RathonsiRoute → List ℕ → List ℕ → Type 0
+BoundStaysCovered r image later =
     (bound : ℕ) → ImageBound image r.cell r.data_id Receives bound → BoundCovers r later Receives bound
 
 -- so many times, one after the other; whatever happens in between lowers no bound
@@ -81,4 +81,4 @@ abbrev pub CandidateWrites : ℕ → RathonsiRoute → List ℕ → Type 0
 CandidateWrites zero r image = Unit {0}
 CandidateWrites (suc n) r image =
     (next : List ℕ) × (WritesForCandidate r image next
-    × ((later : List ℕ) × (KeepsBound r next later × CandidateWrites n r later)))
+    × ((later : List ℕ) × (BoundStaysCovered r next later × CandidateWrites n r later)))

@@ -1,0 +1,462 @@
+#!/usr/bin/env python3
+"""Runs the rows of checks/rows/*.toml over the built programs (crates/NAME/out/NAME), each in a folder of its own.
+
+    python3 -m pytest checks/test_rows.py -n auto -k "gateway and stop"
+    python3 checks/test_rows.py gateway stop
+
+The second form needs no pytest: it runs the rows whose ids have each of these texts. checks/rows/README.md has the form
+of a row. A row passes if each command's output, standard error, status and files are exactly those that it names.
+"""
+import concurrent.futures
+import contextlib
+import difflib
+import functools
+import importlib.util
+import itertools
+import os
+import pty
+import re
+import shlex
+import shutil
+import string
+import subprocess
+import sys
+import tempfile
+import threading
+import time
+import tomllib
+import tty
+from pathlib import Path
+
+import watch_model
+
+CHECKS = Path(__file__).resolve().parent
+TOP = CHECKS.parent
+# a standard output with room for N bytes is a file that may grow to this many
+ROOM = 65536
+SECONDS = 120
+VERSION = re.search(r"^## ([0-9.]+)", (TOP / "CHANGELOG.md").read_text(), re.MULTILINE)[1]
+BUILDING = threading.Lock()
+BASH = {
+    "stdin": 'exec 0<&-; exec "$@"',
+    "stdout": 'exec 1>&-; exec "$@"',
+    "stderr": 'exec 2>&-; exec "$@"',
+    "room": f"trap '' XFSZ; ulimit -f {ROOM // 1024}; exec \"$@\"",
+}
+FIELDS = set(
+    "run input lines output error status room closed full pieces read_fails_after env refuses_allocations columns "
+    "after bytes makes unchanged reads_folder last_word same prompt first size copies judge answers times other".split()
+)
+
+
+class Names(dict):
+    """Texts by name, each of which may cite others as $name."""
+
+    def __getitem__(self, name):
+        return self.filled(super().__getitem__(name))
+
+    def filled(self, text):
+        return string.Template(text).substitute(self)
+
+
+def whole_of(parts):
+    """What the tables of a row say of it, and its commands: one without `run` goes on with the command before it."""
+    about, steps = {}, []
+    for part in [parts] if isinstance(parts, dict) else parts:
+        own = {name: value for name, value in part.items() if name in ("names", "files", "has", "each")}
+        rest = {name: value for name, value in part.items() if name not in own}
+        about.update({name: {**about[name], **it} if name in about else it for name, it in own.items()})
+        if "run" in rest or "judge" in rest:
+            steps.append(rest)
+        elif rest:
+            steps[-1].update(rest)
+    return about, steps
+
+
+class Row:
+    """One row: its id, its steps, and the names and files that they cite."""
+
+    def __init__(self, table, key, parts, case):
+        about, self.steps = whole_of(parts)
+        self.names = Names({"top": str(TOP), "version": VERSION, **table["names"], **about.get("names", {}), **case})
+        told = string.Template(key).substitute(case)
+        self.id = f"{table['program']}/{re.sub('[^A-Za-z0-9_.]+', '-', told).strip('-')}"
+        self.files = {**table["files"], **about.get("files", {})}
+        self.has = about.get("has", [])
+        unknown = {name for step in self.steps for name in step} - FIELDS
+        if unknown or not self.steps:
+            raise ValueError(f"{self.id}: {sorted(unknown) or 'no command'}")
+
+    def bytes_of(self, spec):
+        """The bytes of a text, of a table that says how they are made, or of a list of these."""
+        if isinstance(spec, bytes):
+            return spec
+        if isinstance(spec, str):
+            return self.names.filled(spec).encode("latin-1")
+        if isinstance(spec, list):
+            return b"".join(map(self.bytes_of, spec))
+        number = lambda name: int(self.names.filled(str(spec[name])))
+        if "repeat" in spec:
+            return self.bytes_of(spec["repeat"]) * number("times")
+        if "zeros" in spec:
+            return bytes(number("zeros"))
+        if "hex" in spec:
+            return bytes.fromhex(self.names.filled(spec["hex"]))
+        if "counted" in spec:
+            text = self.names.filled(spec["counted"])
+            numbers = range(number("from"), number("to") + 1)
+            return "".join(text % ((it,) * text.count("%")) for it in numbers).encode("latin-1")
+        if "each" in spec:
+            own = self.names
+            filled = [Names({**own, **case}).filled(spec["form"]) for case in cases(self.names.filled(spec["each"]))]
+            return "".join(filled).encode("latin-1")
+        if "model" in spec:
+            return self.modelled(spec)
+        if "wide" in spec:
+            # a bus of nodes with so many routes each: the first sends what the others receive
+            routes = [{"counted": f"${it}_route", "from": 1, "to": spec["wide"]} for it in ("sending", "receiving")]
+            nodes = [[self.names["wide_node"] % at, routes[at > 1]] for at in range(1, spec.get("nodes", 8) + 1)]
+            return self.bytes_of([f"version = {spec['version']}\n", *nodes])
+        if "of" in spec:
+            whole = self.bytes_of(self.files[self.names.filled(spec["of"])])
+        elif "made" in spec:
+            whole = (self.folder / self.names.filled(spec["made"])).read_bytes()
+        elif "text" in spec:
+            whole = self.bytes_of(spec["text"])
+        else:
+            whole = (TOP / self.names.filled(spec["file"])).read_bytes()
+        if "uncommented" in spec:
+            whole = b"".join(line for line in whole.splitlines(True) if not line.startswith(b"#"))
+        for old, new in spec.get("replace", {}).items():
+            whole = whole.replace(self.bytes_of(old), self.bytes_of(new))
+        for place, digits in spec.get("changed", {}).items():
+            start, new = int(self.names.filled(place)), bytes.fromhex(self.names.filled(digits))
+            whole = whole[:start] + new + whole[start + len(new) :]
+        return whole[number("from") if "from" in spec else 0 : number("to") if "to" in spec else None]
+
+    def modelled(self, spec):
+        """What a model prints, a program of checks/; the files that its arguments name are made before."""
+        name, *words = self.names.filled(spec["model"]).split()
+        if not importlib.util.find_spec("cryptography"):
+            raise Missing("rows beside models (python3-cryptography)")
+        self.make(words)
+        given = self.bytes_of(spec.get("input", ""))
+        command = [sys.executable, CHECKS / name, *words]
+        return subprocess.run(command, cwd=self.folder, input=given, stdout=subprocess.PIPE, check=True).stdout
+
+    def words(self, step):
+        return shlex.split(self.names.filled(step.get("run") or step["judge"]))
+
+    def judged(self, step):
+        """The commands of a step with `judge`: `watch` prints these answers and what its model counts behind them, as
+        objects, too; with `times`, both with times; and with `other`, `audit` prints them and this number."""
+        words, given = self.names.filled(step["judge"]), self.bytes_of(step.get("input", ""))
+        mapped, logged = (given if it == "-" else read(self.folder / it) for it in shlex.split(words))
+        answers = self.bytes_of(step["answers"])
+        totals, status = watch_model.totals(mapped, logged, answers)
+        assert status == int(self.names.filled(str(step.get("status", status)))), f"{self.id}: status {status} is counted"
+        told = {"": answers + totals, " --json": watch_model.objects(answers + totals)}
+        for option, text in told.items():
+            times = (" --time", watch_model.timed(text, logged)) if "times" in step else ("", text)
+            yield {"run": f"watch{option}{times[0]} {words}", "input": given, "output": times[1], "status": status}
+        if "other" in step:
+            other = self.names.filled(f"other {step['other']}\n").encode()
+            yield {"run": f"audit {words}", "input": given, "output": answers + other}
+
+    def make(self, names):
+        """Makes those files of the row that have one of these names."""
+        for name in dict.fromkeys(names):
+            folder, spec = self.folder, self.files.get(name)
+            if spec is None or os.path.lexists(folder / name):
+                continue
+            kind = spec.get("kind") if isinstance(spec, dict) else None
+            if kind == "folder":
+                (folder / name).mkdir()
+            elif kind == "fifo":
+                os.mkfifo(folder / name)
+                if "fed" in spec:
+                    threading.Thread(target=feed, args=(folder / name, self.bytes_of(spec["fed"])), daemon=True).start()
+            else:
+                (folder / name).write_bytes(self.bytes_of(spec))
+            if isinstance(spec, dict) and "mode" in spec:
+                os.chmod(folder / name, int(spec["mode"], 8))
+
+    def transcript(self, step):
+        """Input and output of a step with `lines`: each `INPUT => ANSWER`, whose answers are numbered."""
+        lines = self.bytes_of(step["lines"]).decode("latin-1")
+        parts = [line.partition(" => ") for line in lines.splitlines()]
+        answers = [answer for _, arrow, answer in parts if arrow]
+        given = "\n".join(given for given, _, _ in parts) + ("\n" if lines.endswith("\n") else "")
+        return given.encode("latin-1"), "".join(f"{at} {it}\n" for at, it in enumerate(answers, 1)).encode("latin-1")
+
+    def wanted_of(self, step):
+        """Input and output of a step."""
+        if "lines" in step:
+            return self.transcript(step)
+        return self.bytes_of(step.get("input", "")), self.bytes_of(step.get("output", ""))
+
+    def run_step(self, step, folder, room):
+        """Runs a command; raises AssertionError if anything differs."""
+        given, wanted = self.wanted_of(step)
+        before = {name: read(folder / name) for name in map(self.names.filled, step.get("unchanged", []))}
+        there = set(os.listdir(folder))
+        run = Run(self, step, folder, room, given)
+        if "refuses_allocations" in step:
+            run.refuses_each(wanted)
+            return
+        status, output, error = run.started()
+        if "columns" in step:
+            output = b"".join(b" ".join(line.split(b" ")[: step["columns"]]) + b"\n" for line in output.splitlines())
+        if "first" in step:
+            output = b"".join(output.splitlines(True)[: step["first"]])
+        if "room" in step:
+            wanted = wanted[: run.number("room")]
+        told = self.bytes_of(step.get("error", ""))
+        same = [difference("standard output", wanted, output), difference("standard error", told, error)]
+        if status != int(self.names.filled(str(step.get("status", 0)))):
+            same.append(f"status {status}, wanted {step.get('status', 0)}")
+        same += [difference(name, old, read(folder / name)) for name, old in before.items()]
+        for name, it in step.get("after", {}).items():
+            same.append(difference(name, self.bytes_of(it), read(folder / self.names.filled(name))))
+        for it in step.get("same", []):
+            one, other = (read(folder / name) for name in self.names.filled(it).split())
+            same.append(difference(it, other, one))
+        for it in step.get("bytes", []):
+            name, start, digits = self.names.filled(it).split()
+            held = read(folder / name)[int(start) :][: len(digits) // 2].hex()
+            same.append(difference(f"{name} from {start}", digits.encode(), held.encode()))
+        made = set(os.listdir(folder)) - there
+        if made != ({self.names.filled(step["makes"])} if "makes" in step else set()):
+            same.append(f"files that were made: {sorted(made)}")
+        for it in step.get("size", []):
+            name, size = self.names.filled(it).split()
+            same.append(difference(f"size of {name}", size.encode(), str((folder / name).stat().st_size).encode()))
+        found = "\n".join(filter(None, same))
+        assert not found, f"{self.id}: {' '.join(self.words(step))}\n{found}"
+        for name, spec in step.get("copies", {}).items():
+            (folder / self.names.filled(name)).write_bytes(self.bytes_of(spec))
+
+    def play(self):
+        with tempfile.TemporaryDirectory(prefix="rows-") as place:
+            folder, room = Path(place, "work"), Path(place, "room")
+            folder.mkdir()
+            room.mkdir()
+            self.folder = folder
+            words = [word for step in self.steps for word in self.words(step)]
+            self.make([*words, *map(self.names.filled, self.has)])
+            for step in self.steps:
+                for command in self.judged(step) if "judge" in step else [step]:
+                    self.run_step(command, folder, room)
+
+
+class Run:
+    """One command: its program, streams and environment."""
+
+    def __init__(self, row, step, folder, room, given):
+        self.row, self.step, self.folder, self.room, self.given = row, step, folder, room, given
+        words = row.words(step)
+        last = [row.bytes_of(step["last_word"])] if "last_word" in step else []
+        program = os.fsencode(TOP / "crates" / words[0] / "out" / words[0])
+        self.command = [program, *(it.encode("latin-1") for it in words[1:]), *last]
+        self.env = {**os.environ, **dict(row.names.filled(it).split("=", 1) for it in step.get("env", []))}
+        if "env" in step:
+            self.env["LD_PRELOAD"] = shim("failing_file")
+        for name in [step["closed"]] if "closed" in step else ["room"] if "room" in step else []:
+            self.command = [b"bash", b"-c", BASH[name].encode(), b"bash", *self.command]
+
+    def number(self, name):
+        return int(self.row.names.filled(str(self.step[name])))
+
+    def stream(self, name):
+        """An open file for standard output or standard error."""
+        if self.step.get("full") == name:
+            return open("/dev/full", "wb")
+        file = open(self.room / name, "wb")
+        if name == "stdout" and "room" in self.step:
+            file.write(bytes(ROOM - self.number("room")))
+            file.flush()
+        return file
+
+    def stdin(self):
+        """What is read: a file; a pipe that gives it in two pieces; or a terminal whose other end is closed."""
+        if "pieces" in self.step:
+            return subprocess.PIPE
+        if "reads_folder" in self.step:
+            return os.open(self.folder, os.O_RDONLY)
+        if "read_fails_after" not in self.step:
+            (self.room / "stdin").write_bytes(self.given)
+            return open(self.room / "stdin", "rb")
+        ours, theirs = pty.openpty()
+        tty.setraw(theirs)
+        os.write(theirs, self.given[: self.number("read_fails_after")])
+        os.close(theirs)
+        return ours
+
+    def started(self):
+        """Runs the command; its status, output and standard error."""
+        stdin, files = self.stdin(), [self.stream("stdout"), self.stream("stderr")]
+        streams = {"stdin": stdin, "stdout": files[0], "stderr": files[1]}
+        child = subprocess.Popen(self.command, cwd=self.folder, env=self.env, **streams)
+        try:
+            if "pieces" in self.step:
+                cut = self.number("pieces")
+                child.stdin.write(self.given[:cut])
+                child.stdin.flush()
+                time.sleep(0.05)
+                child.stdin.write(self.given[cut:])
+                child.stdin.close()
+            first = begun = time.monotonic()
+            while "prompt" in self.step and child.poll() is None and not os.fstat(files[0].fileno()).st_size:
+                time.sleep(0.005)
+                first = time.monotonic()
+            status = child.wait(SECONDS)
+            assert first - begun <= time.monotonic() - first, "the first line comes late"
+        finally:
+            child.kill()
+            child.wait()
+            for it in [*files, *([] if stdin == subprocess.PIPE else [stdin])]:
+                os.close(it) if isinstance(it, int) else it.close()
+        output, error = (read(self.room / it) if self.step.get("full") != it else b"" for it in ("stdout", "stderr"))
+        return status, output[ROOM - self.number("room") :] if "room" in self.step else output, error
+
+    def refuses_each(self, wanted):
+        """One of the first allocations is refused, each in turn: the command ends with 7 and says nothing, or does all
+        without it; it is seen to end with 7. Then none is refused, and it does all."""
+        self.env["LD_PRELOAD"] = shim("failing_malloc")
+        seen = False
+        for at in [*range(1, self.step["refuses_allocations"] + 1), 0]:
+            self.env["FAIL_AT"] = str(at)
+            ended = self.started()
+            seen = seen or ended == (7, b"", b"")
+            right = [(0, wanted, b"")] + ([(7, b"", b"")] if at else [])
+            assert ended in right, f"{self.row.id}: allocation {at} is refused: status {ended[0]}"
+        assert seen, f"{self.row.id}: never ended with 7"
+
+
+def feed(path, given):
+    with contextlib.suppress(OSError):
+        path.write_bytes(given)
+
+
+def read(path):
+    try:
+        return path.read_bytes()
+    except OSError as fault:
+        return f"({fault.strerror})".encode()
+
+
+def difference(name, wanted, found):
+    """What differs, or None."""
+    if wanted == found:
+        return None
+    lines = [re.sub(r"(.{200}).+", r"\1 ..", it.decode("latin-1")).splitlines() for it in (wanted, found)]
+    differing = difflib.unified_diff(*lines, f"{name} wanted", name, lineterm="", n=1)
+    return "\n".join(itertools.islice(differing, 12)) or f"{name}: line ends differ, or the ends of long lines"
+
+
+class Missing(Exception):
+    """What a row wants and isn't installed."""
+
+
+@functools.cache
+def built_shims():
+    """The folder of the shims that are built, which goes when the run ends."""
+    return tempfile.TemporaryDirectory(prefix="rows-shims-")
+
+
+def shim(name):
+    """The shared object of checks/shims/NAME.c, built once a process."""
+    compiler = shutil.which(os.environ.get("CC", "cc"))
+    if not compiler:
+        raise Missing("rows of calls that fail (a C compiler)")
+    with BUILDING:
+        built = Path(built_shims().name, f"{name}.so")
+        if not built.exists():
+            source = CHECKS / "shims" / f"{name}.c"
+            subprocess.run([compiler, "-O1", "-shared", "-fPIC", "-o", built, source, "-ldl"], check=True)
+    return str(built)
+
+
+def cases(table):
+    """The cases of a table of columns; <1..4> or <keep,old> in a cell stands for each of these."""
+    head, *lines = [[cell.strip() for cell in line.split("|")] for line in table.strip().splitlines()]
+    for line in lines:
+        for values in itertools.product(*map(alternatives, line)):
+            if len(values) != len(head):
+                raise ValueError(f"a table with the columns {head} has the line {line}")
+            yield dict(zip(head, values))
+
+
+def alternatives(cell):
+    """The texts that a cell stands for."""
+    choice = re.search(r"<([^<>]*)>", cell)
+    if not choice:
+        return [re.sub(r"\\([nrt])", lambda it: {"n": "\n", "r": "\r", "t": "\t"}[it[1]], cell)]
+    span = re.fullmatch(r"(\d+)\.\.(\d+)", choice[1])
+    each = map(str, range(int(span[1]), int(span[2]) + 1)) if span else choice[1].split(",")
+    return [text for it in each for text in alternatives(cell[: choice.start()] + it + cell[choice.end() :])]
+
+
+
+def rows():
+    """Every row of every table."""
+    common = tomllib.loads((CHECKS / "rows" / "common.toml").read_text())
+    for path in sorted(CHECKS.glob("rows/*.toml")):
+        if path.stem == "common":
+            continue
+        table = tomllib.loads(path.read_text())
+        whole = {name: {**common.get(name, {}), **table.get(name, {})} for name in ("names", "files", "tables")}
+        for key, fields in table["rows"].items():
+            each = [list(cases(whole["tables"].get(it, it))) for it in whole_of(fields)[0].get("each", [])]
+            for chosen in itertools.product(*each):
+                case = {name: value for it in chosen for name, value in it.items()}
+                yield Row({"program": path.stem, **whole}, key, fields, case)
+
+
+def by_id():
+    found = {}
+    for row in rows():
+        if found.setdefault(row.id, row) is not row:
+            raise ValueError(f"two rows have the id {row.id}")
+    return found
+
+
+ROWS = by_id()
+
+
+def pytest_generate_tests(metafunc):
+    metafunc.parametrize("row", ROWS.values(), ids=ROWS.keys())
+
+
+def test_row(row):
+    try:
+        row.play()
+    except Missing as what:
+        import pytest
+
+        pytest.skip(str(what))
+
+
+def outcome(row):
+    """"passed", why it is skipped, or what differs."""
+    try:
+        row.play()
+    except Missing as what:
+        return f"skipped: {what}"
+    except Exception as fault:
+        return f"FAILED: {row.id}: {fault}"
+    return "passed"
+
+
+def main(texts):
+    chosen = [row for row in ROWS.values() if all(it in row.id for it in texts)]
+    with concurrent.futures.ThreadPoolExecutor(os.cpu_count()) as pool:
+        outcomes = list(pool.map(outcome, chosen))
+    said = [it for it in dict.fromkeys(outcomes) if it != "passed"]
+    failed = sum(it.startswith("FAILED") for it in outcomes)
+    print(*said, f"rows: {outcomes.count('passed')} passed, {failed} failed", sep="\n")
+    return bool(failed)
+
+
+if __name__ == "__main__":
+    sys.exit(main(sys.argv[1:]))
