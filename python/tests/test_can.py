@@ -2,6 +2,7 @@
 
 import asyncio
 import gzip
+import itertools
 import shutil
 import threading
 import time
@@ -19,7 +20,7 @@ can = pytest.importorskip("can")
 import model
 import rathonsi
 from memories import KEY, Memory, opened
-from rathonsi.can import Frame, MapLine, SecuredBus, read_map, verify_log
+from rathonsi.can import Frame, MapLine, NothingJudged, SecuredBus, read_map, verify_log
 
 EXAMPLES = Path(__file__).resolve().parents[2] / "examples"
 SENDS, RECEIVES = rathonsi.SENDS, rathonsi.RECEIVES
@@ -485,6 +486,93 @@ def test_a_channel_and_a_window_of_a_map(tmp_path: Path) -> None:
     assert [type(it.refused).__name__ for it in verdicts] == ["NoneType", "NoneType", "FreshnessFailure"]
 
 
+def drawn_frames(seed: int) -> list[Any]:
+    """Frames of two identifiers on three channels: PDUs in order, replays, PDUs of other channels, and other bytes."""
+    drawn, sent = Random(seed), {place: 0 for place in itertools.product((0x124, 0x125), range(3))}
+    frames: list[Any] = []
+    for number in range(drawn.randint(1, 40)):
+        canid, channel = place = drawn.choice(list(sent))
+        sent[place] += drawn.choice((0, 1, 1, 1, 2))
+        pdu = drawn.choice((model.protect(KEY, canid, 16 * channel + sent[place], drawn.randbytes(4)), drawn.randbytes(8)))
+        frames.append(frame(canid, pdu, timestamp=1000 + number / 100, channel=channel))
+    return frames
+
+
+def written(path: Path, frames: list[Any]) -> Path:
+    writer = can.Logger(path)
+    for message in frames:
+        writer(message)
+    writer.stop()
+    return path
+
+
+def told(verdicts: Any) -> list[tuple[int, str]]:
+    """The number of each judged frame, with the line of `audit` for it."""
+    return [(it.number, row(it)) for it in verdicts]
+
+
+@pytest.mark.parametrize("suffix", [".asc", ".blf", ".trc"])
+def test_names_and_numbers_of_channels_judge_alike(tmp_path: Path, suffix: str) -> None:
+    def lines(*names: str) -> list[MapLine]:
+        return [
+            MapLine(canid, False, canid, KEY, 16 * place, 4, 8, name) for canid in (0x124, 0x125) for place, name in enumerate(names)
+        ]
+
+    for seed in range(20):
+        frames = drawn_frames(seed)
+        wanted = told(verify_log(written(tmp_path / "bus.log", frames), lines("can0", "can1", "can2")))
+        assert len(wanted) == len(frames)
+        log = written(tmp_path / f"bus{suffix}", frames)
+        numbers = ["1", "2", "3"] if suffix == ".trc" else ["0", "1", "2"]
+        names: dict[str, int | str] = dict(zip("abc", map(int, numbers)))
+        assert told(verify_log(log, lines("can0", "can1", "can2"))) == wanted
+        assert told(verify_log(log, lines("vcan0", "can1", numbers[2]))) == wanted
+        assert told(verify_log(log, lines(*numbers))) == wanted
+        assert told(verify_log(log, lines("a", "b", "c"), channels=names)) == wanted
+        assert told(verify_log(log, lines("can2", "b", "c"), channels={"can2": int(numbers[0]), "b": numbers[1], "c": names["c"]})) == wanted
+
+
+def test_a_log_of_which_no_frame_is_in_the_map(tmp_path: Path) -> None:
+    def line(channel: str | None = None, arbitration_id: int = 0x124) -> MapLine:
+        return MapLine(arbitration_id, False, 0x120F, KEY, 0, 4, 256, channel)
+
+    blf = written(tmp_path / "bus.blf", [frame(0x124, bytes(8), channel=1)])
+    cases: list[tuple[Path, list[MapLine], str]] = [
+        (blf, [line("can0")], "came on channel 1"),
+        (blf, [line("0"), line(None, 0x125)], "came on channel 1"),
+        (blf, [line(None, 0x125)], "none of its identifiers"),
+        (written(tmp_path / "bus.log", [frame(0x124, bytes(8), channel="can1")]), [line("can0")], "came on channel can1"),
+        (blf, [], "none of its identifiers"),
+        (written(tmp_path / "empty.asc", []), [line()], "none of its identifiers"),
+    ]
+    for path, lines, why in cases:
+        with pytest.raises(NothingJudged, match=why):
+            list(verify_log(path, lines))
+    assert len(list(verify_log(blf, [line("can0"), line("can1")]))) == 1
+
+
+def test_channels_that_mean_nothing(tmp_path: Path, log: Path) -> None:
+    def line(channel: str) -> MapLine:
+        return MapLine(0x124, False, 0x120F, KEY, 0, 4, 256, channel)
+
+    with pytest.raises(ValueError, match="no line of the map has the channel b"):
+        verify_log(log, [line("a")], channels={"b": 1})
+    with pytest.raises(TypeError, match="channels"):
+        verify_log(log, [line("a")], channels={"a": None})  # type: ignore[dict-item]
+    blf = written(tmp_path / "bus.blf", [frame(0x124, bytes(8), channel=0)])
+    cases: list[tuple[list[MapLine], dict[str, int | str]]] = [
+        ([line("can0"), line("vcan0")], {}),
+        ([line("0"), line("can0")], {}),
+        ([line("a"), line("b")], {"a": 0, "b": "0"}),
+    ]
+    for lines, names in cases:
+        with pytest.raises(ValueError, match="no frame reaches"):
+            verify_log(blf, lines, channels=names)
+    # in a candump log these are three
+    three = [frame(0x124, bytes(8), channel=it) for it in ("can0", "vcan0")]
+    assert len(list(verify_log(written(tmp_path / "bus.log", three), [line("can0"), line("vcan0"), line("0")]))) == 2
+
+
 WRONG_MAPS = {
     "few words": f"124 120f {KEY.hex()} {0:016x}",
     "many words": f"124 120f {KEY.hex()} {0:016x} 4 256 - more",
@@ -538,7 +626,8 @@ def test_lines_of_a_map_that_no_frame_reaches(log: Path) -> None:
     for lines in ([line(), line()], [line(), line("can0")], [line("can0"), line("can1"), line("can0")]):
         with pytest.raises(ValueError, match="no frame reaches"):
             verify_log(log, lines)
-    list(verify_log(log, [line("can0"), line("can1"), line(), line(None, 0x125), line(None, 0x124, True)]))
+    with pytest.raises(NothingJudged):
+        list(verify_log(log, [line("can0"), line("can1"), line(), line(None, 0x125), line(None, 0x124, True)]))
 
 
 def test_a_malformed_log_raises_when_it_is_read(log: Path) -> None:

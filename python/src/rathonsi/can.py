@@ -2,17 +2,20 @@
 
 import re
 import threading
-from collections.abc import Callable, Iterable, Iterator
+from collections.abc import Callable, Iterable, Iterator, Mapping
 from dataclasses import dataclass
 from itertools import takewhile
 from os import PathLike
 from typing import Any, Final, Optional, SupportsIndex
 
 from can.bus import BusABC, BusState
+from can.io.canutils import CanutilsLogReader
 from can.io.generic import MessageReader
 from can.io.player import LogReader
+from can.io.trc import TRCReader
 from can.message import Message
 from can.typechecking import CanFilters
+from can.util import channel2int
 
 from ._arguments import PAYLOAD_MOST, TRAILER, data_id_number, freshness_number, key_bytes, number, truth
 from ._errors import BadLength, Refused
@@ -205,7 +208,7 @@ class MapLine:
     key: 16 bytes; `repr` doesn't show it
     freshness: the freshness that was accepted last before the log, 64 bits
     window: 1 to 256
-    channel: the channel of the frames, as `str` gives it; None is any
+    channel: the channel of the frames, a name or a number; None is any
     """
 
     arbitration_id: int
@@ -229,6 +232,10 @@ class MapLine:
 
     def __repr__(self) -> str:
         return f"MapLine({self.arbitration_id:#x}, is_extended_id={self.is_extended_id}, data_id={self.data_id:#06x})"
+
+
+class NothingJudged(ValueError):
+    """No frame of a log belongs to a line of the map. It says on which channels mapped identifiers came, if any did."""
 
 
 @dataclass(frozen=True, slots=True)
@@ -320,19 +327,68 @@ def _map_line(*words: str) -> MapLine:
 
 
 def verify_log(
-    path: str | PathLike[str], map: str | PathLike[str] | Iterable[MapLine], **reader: Any
+    path: str | PathLike[str],
+    map: str | PathLike[str] | Iterable[MapLine],
+    *,
+    channels: Mapping[str, int | str] | None = None,
+    **reader: Any,
 ) -> Iterator[FrameVerdict]:
     """The verdict on each mapped data frame of a log, in its order, as it is read.
 
     `path` is a log that `LogReader` reads, by its suffix: candump (.log), ASC, BLF, TRC, CSV, SQLite (.db), also
-    with .gz. `map` is a file as of `read_map`, or lines of it; a frame belongs to the first line with its identifier
-    and channel. Channels of ASC and BLF are numbers from 0: a map for them says `0`, not `can0`. `reader` is passed
-    on to `LogReader`. Each line counts for itself: its counter is `freshness`, and then the freshness that was
-    accepted last. ValueError, OSError, at the call itself: of the map, or of a log that can't be opened. What
-    `LogReader` raises of a malformed log comes when its frame is read.
+    with .gz; MF4 (untested), if python-can reads it. `map` is a file as of `read_map`, or lines of it; a frame belongs to the first
+    line with its identifier and channel. Each line counts for itself: its counter is `freshness`, and then the freshness
+    that was accepted last. `reader` is passed on to `LogReader`.
+
+    In a candump log a channel is its name, as in `watch`. Other logs number their channels: the number that ends a name
+    counts them from 0, so `can0` is the first one. A channel that is digits is the number that python-can gives.
+    `channels` names them otherwise: a channel of the map, and the one of the log, as in `{"can0": 4}`.
+
+    ValueError, OSError, at the call itself: of the map, of `channels`, or of a log that can't be opened. What
+    `LogReader` raises of a malformed log comes when its frame is read. NothingJudged, at the end: no frame of the log
+    belongs to a line of the map.
     """
     lines = _lines_of(map)
-    return _verdicts(LogReader(path, **reader), lines)
+    log = LogReader(path, **reader)
+    try:
+        places = _places(lines, channels or {}, log)
+    except (ValueError, TypeError):
+        log.stop()
+        raise
+    return _verdicts(log, lines, places)
+
+
+# an identifier, whether it has 29 bits, and a channel, as `str` gives that of a frame; None is any
+_Place = tuple[int, bool, str | None]
+
+
+def _places(lines: list[MapLine], channels: Mapping[str, int | str], log: MessageReader) -> list[_Place]:
+    """What the frames of each line have in this log."""
+    unknown = set(channels) - {line.channel for line in lines}
+    if unknown:
+        raise ValueError(f"channels: no line of the map has the channel {min(unknown)}")
+    if not all(isinstance(it, (int, str)) for it in channels.values()):
+        raise TypeError("channels: numbers or names are wanted")
+    places: list[_Place] = []
+    for line in lines:
+        place = (line.arbitration_id, line.is_extended_id, _channel_in(log, line.channel, channels))
+        if place in places:
+            raise ValueError(f"no frame reaches this line of {line.arbitration_id:x}: in the log an earlier one has its channel")
+        places.append(place)
+    return places
+
+
+def _channel_in(log: MessageReader, name: str | None, channels: Mapping[str, int | str]) -> str | None:
+    """The channel of a frame in this log, as `str` gives it, which the map calls so."""
+    if name is None:
+        return None
+    if name in channels:
+        return str(channels[name])
+    number = None if isinstance(log, CanutilsLogReader) or name.isdigit() else channel2int(name)
+    if number is None:
+        return name
+    # python-can counts those of a TRC from 1, and those of the others from 0
+    return str(number + 1 if isinstance(log, TRCReader) else number)
 
 
 def _lines_of(map: str | PathLike[str] | Iterable[MapLine]) -> list[MapLine]:
@@ -346,16 +402,24 @@ def _lines_of(map: str | PathLike[str] | Iterable[MapLine]) -> list[MapLine]:
     return lines
 
 
-def _verdicts(log: MessageReader, lines: list[MapLine]) -> Iterator[FrameVerdict]:
+def _verdicts(log: MessageReader, lines: list[MapLine], places: list[_Place]) -> Iterator[FrameVerdict]:
     counters = [line.freshness for line in lines]
+    others: set[str] = set()
+    judged = False
     with log:
         for count, message in enumerate(log, 1):
-            which = _line_of(message, lines)
+            which = _line_of(message, places)
             if which is not None:
                 verdict = _verdict(count, message, lines[which], counters[which])
                 if verdict.accepted is not None:
                     counters[which] = verdict.accepted.freshness
+                judged = True
                 yield verdict
+            elif not judged and _carries_data(message) and any(_has_identifier(message, place) for place in places):
+                others.add(str(message.channel))
+    if not judged:
+        came = f"its identifiers came on channel {', '.join(sorted(others))}" if others else "none of its identifiers came"
+        raise NothingJudged(f"no frame of the log belongs to a line of the map: {came}")
 
 
 def _verdict(count: int, message: Message, line: MapLine, counter: int) -> FrameVerdict:
@@ -366,11 +430,14 @@ def _verdict(count: int, message: Message, line: MapLine, counter: int) -> Frame
     return FrameVerdict(count, message, line, accepted, None)
 
 
-def _line_of(message: Message, lines: list[MapLine]) -> int | None:
+def _has_identifier(message: Message, place: _Place) -> bool:
+    return place[:2] == (message.arbitration_id, message.is_extended_id)
+
+
+def _line_of(message: Message, places: list[_Place]) -> int | None:
     if not _carries_data(message):
         return None
-    for which, line in enumerate(lines):
-        if (line.arbitration_id, line.is_extended_id) == (message.arbitration_id, message.is_extended_id):
-            if line.channel is None or line.channel == str(message.channel):
-                return which
+    for which, place in enumerate(places):
+        if _has_identifier(message, place) and place[2] in (None, str(message.channel)):
+            return which
     return None
