@@ -112,7 +112,7 @@ static void set_up(void) {
     update.counter = 1;
     memcpy(update.key, key, 16);
     set(rathonsi_store_make(image, sizeof image));
-    RathonsiRoute route = {0, 0x1234, 14, 128, 256, 4, RATHONSI_SENDS, 0, 0, {0}};
+    RathonsiRoute route = {0, 0x1234, 14, 128, 256, 4, RATHONSI_SENDS, 0, 0, 0, {0}};
     sender = receiver = route;
     receiver.cell = 15;
     receiver.direction = RATHONSI_RECEIVES;

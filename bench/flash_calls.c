@@ -83,7 +83,7 @@ static void put(void) {
 
 static void make_image(void) {
     memset(&plan, 0, sizeof plan);
-    route = (RathonsiRoute){0, 1, 14, 1, 256, 4, RATHONSI_SENDS, 0, 0, {0}};
+    route = (RathonsiRoute){0, 1, 14, 1, 256, 4, RATHONSI_SENDS, 0, 0, 0, {0}};
     freshness = 0;
     expect(rathonsi_store_make(image, sizeof image), "make");
     expect(rathonsi_route_make(&route, 0, image, sizeof image), "route_make");

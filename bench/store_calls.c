@@ -153,8 +153,8 @@ static void make_store(void)
     memset(empty, 255, sizeof empty);
     memset(&plan, 0, sizeof plan);
     memcpy(update.key, key, 16);
-    sender = (RathonsiRoute){0, ID, 14, 1, 256, 4, RATHONSI_SENDS, 0, 0, {0}};
-    receiver = (RathonsiRoute){0, ID, 15, 1, 256, 4, RATHONSI_RECEIVES, 0, 0, {0}};
+    sender = (RathonsiRoute){0, ID, 14, 1, 256, 4, RATHONSI_SENDS, 0, 0, 0, {0}};
+    receiver = (RathonsiRoute){0, ID, 15, 1, 256, 4, RATHONSI_RECEIVES, 0, 0, 0, {0}};
     if (rathonsi_store_make(image, sizeof image) != RATHONSI_OK || rathonsi_route_make(&sender, 1u << 30, image, sizeof image) != RATHONSI_OK
         || rathonsi_route_make(&receiver, 1u << 30, image, sizeof image) != RATHONSI_OK
         || rathonsi_she_make_update(empty, 16, &update, &request) != RATHONSI_OK

@@ -149,7 +149,7 @@ static void loaded(int is_first) {
 static void make_store(void) {
     expect(rathonsi_store_make(image, SIZE) == RATHONSI_OK);
     for (int i = 0; i < ROUTES; i++) {
-        RathonsiRoute route = {0, 0, 0, 16, 256, SLOT, RATHONSI_SENDS, 1, 0, {0}};
+        RathonsiRoute route = {0, 0, 0, 16, 256, SLOT, RATHONSI_SENDS, 1, 0, 0, {0}};
         route.data_id = (uint16_t)(0x120e + i);
         route.cell = (uint16_t)(RATHONSI_SLOT_CELLS + (unsigned)i);
         route.direction = i < SENDERS ? RATHONSI_SENDS : RATHONSI_RECEIVES;
