@@ -4,6 +4,7 @@ ghost use Rattle.std.specs.List.{list_any};
 ghost use Rattle.std.specs.Prelude.{◌≡◌, ◌==◌, ◌≢◌, ◌+◌, ◌≤◌, [], map, length, codes, IsFalse, IfOk, IfSome, All, AllPairs};
 ghost use Rattle.toml.specs.View.{view, table_view};
 ghost use Rattle.freshness_routes.specs.Config.{IsRoute};
+ghost use Rattle.freshness_routes.specs.declared.config.TheConstants.{MOST_ROUTES};
 ghost use Rattle.bus_config.specs.Values.{whole_in, start_in};
 ghost use Rattle.bus_config.specs.Rows.{route_in_row, window_in, optional, next_route as next_route_in};
 ghost use Rattle.bus_config.specs.BusFile.{routes_from};
@@ -102,7 +103,7 @@ pub(crate) fn read_routes(
     node: u8,
     rows: &[Value],
 ) -> Result<Vec<Route>, ConfigFault>
-    requires { length rows.now ≤ 256 }
+    requires { length rows.now ≤ MOST_ROUTES }
     ensures exact { AnswersAsList (routes_from node [] (map view rows.now)) result }
     ensures counted { IfOk result (λ routes. length routes.items ≡ length rows.now) }
     ensures are_routes { IfOk result (λ routes. All IsRoute routes.items) }

@@ -1,5 +1,6 @@
 //! The kinds of reasons for which a frame fails, and the tries of each.
 ghost use Rattle.std.specs.Prelude.{◌≡◌, ◌<◌, ◌≤◌, ◌^◌, length, slice_get, option_map, unwrap_or, IfSome};
+ghost use Rattle.secured_pdu.specs.declared.frame.TheConstants.{WIDEST_WINDOW};
 ghost use Rattle.explain_commands.specs.declared.kinds.ReasonKind.TheVariants as kind;
 ghost use Rattle.explain_commands.specs.Trials.{accepted_freshness};
 ghost use Rattle.explain_commands.specs.Explaining.{frame_at};
@@ -112,7 +113,7 @@ impl<'a> Model for Case<'a> {
 
     ghost invariant = { λ c. (length c.numbers.now ≡ length c.lines.now) × (length c.counters.now ≡ length c.lines.now)
         × (length c.lines.now ≤ 256) × (length c.bytes.now ≤ 64)
-        × (c.receiver.size ≤ 60) × (c.receiver.window ≤ 256) };
+        × (c.receiver.size ≤ 60) × (c.receiver.window ≤ WIDEST_WINDOW) };
 }
 
 /// What a receiver of a line of the map knows that accepted this freshness last.
@@ -120,7 +121,7 @@ pub fn receiver_of(line: &MapLine, counter: u64) -> KnownReceiver
     ensures value { result ≡ receiver_of line.now counter }
     ensures some { 1 ≤ result.size }
     ensures size { result.size ≤ 60 }
-    ensures window { result.window ≤ 256 }
+    ensures window { result.window ≤ WIDEST_WINDOW }
 {
     KnownReceiver {
         key: line.key,

@@ -5,6 +5,7 @@ ghost use Rattle.cut_disk.specs.Images.{firm};
 ghost use Rattle.cell_store.specs.declared.kinds.Version.TheVariants.{One};
 ghost use Rattle.cell_store.specs.Layout.{part, twin_layout};
 ghost use Rattle.cell_store.specs.Twin.{twin_size};
+ghost use Rattle.freshness_routes.specs.declared.config.TheConstants.{MOST_ROUTES};
 ghost use Rattle.store_plan.specs.Growing.{with_number};
 ghost use Rattle.store_growing.specs.RouteCells.{route_cell};
 ghost use Rattle.store_growing.specs.GrowingStores.{OfBytes, GrowsStore, NotGrown, CanBeGrown, with_cell, with_cells};
@@ -35,7 +36,7 @@ pub fn grow_store<D: Disk>(
     wanted: Layout,
     routes: &[Route],
 ) -> Result<u16, GrowFault>
-    requires { length routes.now ≤ 256 }
+    requires { length routes.now ≤ MOST_ROUTES }
     ensures count { IfOk result (λ n. n ≡ route_cell (length routes.now)) }
     ensures could { OnOk result (OfBytes (D.state disk.old) (λ x. CanBeGrown wanted routes.now (D.state disk.old))) }
     ensures wants { OnOk result (wanted ≡ twin_layout One) }
@@ -60,7 +61,7 @@ fn grow_image<D: Disk>(
     wanted: Layout,
     routes: &[Route],
 ) -> Result<u16, GrowFault>
-    requires few { length routes.now ≤ 256 }
+    requires few { length routes.now ≤ MOST_ROUTES }
     requires room { twin_size (route_cell (length routes.now) + 1) ≤ length image.old }
     requires sized { length image.old ≡ (D.state disk.old).size }
     ensures count { IfOk result (λ n. n ≡ route_cell (length routes.now)) }
@@ -145,7 +146,7 @@ fn write_lacking<D: Disk>(
     routes: &[Route],
     there: u16,
 ) -> Result<(), DiskFailed>
-    requires few { length routes.now ≤ 256 }
+    requires few { length routes.now ≤ MOST_ROUTES }
     requires there { there ≤ length routes.now }
     requires room { twin_size (route_cell (length routes.now)) ≤ length image.now }
     requires sized { length image.now ≡ (D.state disk.old).size }

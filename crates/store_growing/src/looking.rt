@@ -3,6 +3,7 @@ ghost use Rattle.std.specs.Prelude.{◌≡◌, ◌<◌, ◌≤◌, ◌+◌, ◌�
 ghost use Rattle.cell_store.specs.declared.kinds.Kind.TheVariants.{Twin};
 ghost use Rattle.cell_store.specs.Layout.{part};
 ghost use Rattle.cell_store.specs.Twin.{twin_size, first_at, is_live};
+ghost use Rattle.freshness_routes.specs.declared.config.TheConstants.{MOST_ROUTES};
 ghost use Rattle.store_growing.specs.StoreHeaders.{cells_counted, HasFirstHead};
 ghost use Rattle.store_growing.specs.RouteCells.{route_cell, HoldsRoute, IsErased, IsFree, FreeFrom, CanGrow, HasSlot};
 ghost use Rattle.store_growing.specs.RouteCells.{HaveSlots, RefusesBytes};
@@ -21,7 +22,7 @@ pub(crate) const SLOT_COUNT: u16 = 14;
 /// How many of the routes, from the first on, have their cells in these bytes of a store with its fourteen slots; or
 /// why the others can't get theirs.
 pub(crate) fn routes_there(image: &[u8], routes: &[Route]) -> Result<u16, GrowFault>
-    requires few { length routes.now ≤ 256 }
+    requires few { length routes.now ≤ MOST_ROUTES }
     requires room { twin_size (route_cell (length routes.now) + 1) ≤ length image.now }
     requires head { HasFirstHead Twin image.now }
     ensures found { IfOk result (CanGrow routes.now image.now) }
@@ -69,7 +70,7 @@ fn slot_there(image: &[u8], cell: u16) -> Result<(), GrowFault>
 
 /// How many of the routes, from the first on, have their cells.
 fn held_first(image: &[u8], routes: &[Route]) -> u16
-    requires few { length routes.now ≤ 256 }
+    requires few { length routes.now ≤ MOST_ROUTES }
     requires room { twin_size (route_cell (length routes.now)) ≤ length image.now }
     ensures { HaveJust routes.now image.now result }
 {
@@ -96,7 +97,7 @@ fn holds_route(image: &[u8], cell: u16, route: &Route) -> bool
 
 /// The first of these places whose cell can't be written.
 fn used_from(image: &[u8], from: u16, to: u16) -> Option<u16>
-    requires few { to ≤ 256 }
+    requires few { to ≤ MOST_ROUTES }
     requires room { twin_size (route_cell to) ≤ length image.now }
     ensures { MatchOption result (FreeFrom image.now from to) (UsedAt image.now from to) }
 {
