@@ -9,8 +9,8 @@ use Rattle.seal_parts.specs.declared.UnitContent.{UnitContent}
 use Rattle.seal_parts.specs.declared.UnitContent.TheVariants.{Mark}
 use Rattle.seal_parts.specs.declared.UnitAnswer.{UnitAnswer}
 use Rattle.seal_parts.specs.declared.mem_part.MemUnit.{MemUnit}
-use Rattle.seal_parts.specs.Parts.{PartUnit, PartFlash, Fits, MayProgram, SameBanks, ErasesBank, MayBeLeft, stays, shows, CutsErasing, SameButUnit, ProgramsUnit, CutsProgramming, MayAnswer, ReadsUnit, after_answer, blank_unit, whole_unit}
-use Rattle.seal_parts.specs.Memory.{unit_number, unit_of, unit_in, part_of}
+use Rattle.seal_parts.specs.Parts.{PartUnit, PartFlash, FitsUnit, MayProgram, SameBanks, ErasesBank, MayBeLeft, stays, shows, CutsBankErase, SameButUnit, ProgramsUnit, CutsProgramming, MayAnswer, ReadsUnit, unit_after, blank_unit, whole_unit}
+use Rattle.seal_parts.specs.Memory.{unit_number, unit_of, unit_in, part_in}
 use Rattle.seal_parts.proofs.Units.{same_number, IsOther}
 
 -- ---- units of a list
@@ -53,15 +53,15 @@ pub inside_bank : (places k : ℕ) (kind : UnitKind) → k < places → k * 5 + 
 inside_bank places k kind below = (let n = number_below kind in omega (arith, below, n))
 
 pub unit_inside : (places : ℕ) (erased : List Bool) (held : List MemUnit) (bank k : ℕ) (kind : UnitKind) → k < places
-    → (part_of places erased held).unit bank k kind ≡ unit_in held (at_unit places bank k kind)
+    → (part_in places erased held).unit bank k kind ≡ unit_in held (at_unit places bank k kind)
 unit_inside places erased held bank k kind below = ap (λ (b : Bool). if b then unit_in held (at_unit places bank k kind) else blank_unit) (lt-ltb k places below)
 
 pub unit_behind : (places : ℕ) (erased : List Bool) (held : List MemUnit) (bank k : ℕ) (kind : UnitKind) → places ≤ k
-    → (part_of places erased held).unit bank k kind ≡ blank_unit
+    → (part_in places erased held).unit bank k kind ≡ blank_unit
 unit_behind places erased held bank k kind far = ap (λ (b : Bool). if b then unit_in held (at_unit places bank k kind) else blank_unit) (le-ltb k places far)
 
 pub all_blank : (places n : ℕ) (erased : List Bool) (held : List MemUnit) (u : MemUnit) → unit_of u ≡ blank_unit → held ≡ replicate n u → (bank k : ℕ) (kind : UnitKind)
-    → (part_of places erased held).unit bank k kind ≡ blank_unit
+    → (part_in places erased held).unit bank k kind ≡ blank_unit
 all_blank places n erased held u is e bank k kind = elim (cases_lt k places) [
   | inl below ↦ unit_inside places erased held bank k kind below ∙ (ap (λ (us : List MemUnit). unit_in us (at_unit places bank k kind)) e ∙ unit_blank n (at_unit places bank k kind) u is)
   | inr far ↦ unit_behind places erased held bank k kind far
@@ -77,7 +77,7 @@ apart size bank other k ne below = elim (cases_lt other bank) [
 -- two lists that agree at a unit
 module _ (places : ℕ) (old new : List MemUnit) (erased later : List Bool) where
   same_unit : (bank k : ℕ) (kind : UnitKind) → (k < places → unit_in new (at_unit places bank k kind) ≡ unit_in old (at_unit places bank k kind))
-      → (part_of places later new).unit bank k kind ≡ (part_of places erased old).unit bank k kind
+      → (part_in places later new).unit bank k kind ≡ (part_in places erased old).unit bank k kind
   same_unit bank k kind same = elim (cases_lt k places) [
     | inl below ↦ unit_inside places later new bank k kind below ∙ (same below ∙ sym (unit_inside places erased old bank k kind below))
     | inr far ↦ unit_behind places later new bank k kind far ∙ sym (unit_behind places erased old bank k kind far)
@@ -85,14 +85,14 @@ module _ (places : ℕ) (old new : List MemUnit) (erased later : List Bool) wher
 
   module _ (bank : ℕ) (rest : (k : ℕ) → (k < bank * (places * 5)) ⊎ (bank * (places * 5) + places * 5 ≤ k) → unit_in new k ≡ unit_in old k)
       (others : (other : ℕ) → other ≢ bank → get_or later other false ≡ get_or erased other false) where
-    same_banks : SameBanks bank (part_of places erased old) (part_of places later new)
+    same_banks : SameBanks bank (part_in places erased old) (part_in places later new)
     same_banks = record {
       units = λ other k kind ne. same_unit other k kind (λ below. rest (at_unit places other k kind) (apart (places * 5) bank other (k * 5 + unit_number kind) ne (inside_bank places k kind below)));
       erased = others;
     }
 
     pub erase_done : ((k : ℕ) → bank * (places * 5) ≤ k → k < bank * (places * 5) + places * 5 → unit_in new k ≡ blank_unit) → get_or later bank false ≡ true
-        → ErasesBank bank (part_of places erased old) (part_of places later new)
+        → ErasesBank bank (part_in places erased old) (part_in places later new)
     erase_done made is = record {
       blank = λ k kind. elim (cases_lt k places) [
         | inl below ↦ unit_inside places later new bank k kind below
@@ -105,10 +105,10 @@ module _ (places : ℕ) (old new : List MemUnit) (erased later : List Bool) wher
 
     pub erase_cut : ((k : ℕ) (kind : UnitKind) → k * 5 + unit_number kind < places * 5
         → MayBeLeft kind (unit_in old (at_unit places bank k kind)).content (unit_in new (at_unit places bank k kind)).content) → get_or later bank false ≡ false
-        → CutsErasing bank (part_of places erased old) (part_of places later new)
+        → CutsBankErase bank (part_in places erased old) (part_in places later new)
     erase_cut left is = record {
       left = λ k kind. elim (cases_lt k places) [
-        | inl below ↦ subst (λ (u : PartUnit). MayBeLeft kind u.content ((part_of places later new).unit bank k kind).content) (sym (unit_inside places erased old bank k kind below))
+        | inl below ↦ subst (λ (u : PartUnit). MayBeLeft kind u.content ((part_in places later new).unit bank k kind).content) (sym (unit_inside places erased old bank k kind below))
             (subst (λ (u : PartUnit). MayBeLeft kind (unit_in old (at_unit places bank k kind)).content u.content) (sym (unit_inside places later new bank k kind below))
             (left k kind (inside_bank places k kind below)))
         | inr far ↦ stays (ap (λ (u : PartUnit). u.content) (unit_behind places later new bank k kind far ∙ sym (unit_behind places erased old bank k kind far)))
@@ -136,13 +136,13 @@ module _ (places bank start : ℕ) (old new : List MemUnit) (erased : List Bool)
   out_of = subst (λ z. (k : ℕ) → (k < z) ⊎ (z + places * 5 ≤ k) → unit_in new k ≡ unit_in old k) is rest
 
   pub bank_erased : ((k : ℕ) → start ≤ k → k < start + places * 5 → unit_in new k ≡ blank_unit)
-      → ErasesBank bank (part_of places erased old) (part_of places (set erased bank true) new)
+      → ErasesBank bank (part_in places erased old) (part_in places (set erased bank true) new)
   bank_erased made = erase_done places old new erased (set erased bank true) bank out_of (λ other ne. flag_other erased bank other true ne)
       (subst (λ z. (k : ℕ) → z ≤ k → k < z + places * 5 → unit_in new k ≡ blank_unit) is made) (flag_set erased bank true few)
 
   pub bank_cut : ((k : ℕ) (kind : UnitKind) → k * 5 + unit_number kind < places * 5
       → MayBeLeft kind (unit_in old (start + (k * 5 + unit_number kind))).content (unit_in new (start + (k * 5 + unit_number kind))).content)
-      → CutsErasing bank (part_of places erased old) (part_of places (set erased bank false) new)
+      → CutsBankErase bank (part_in places erased old) (part_in places (set erased bank false) new)
   bank_cut left = erase_cut places old new erased (set erased bank false) bank out_of (λ other ne. flag_other erased bank other false ne)
       (subst (λ z. (k : ℕ) (kind : UnitKind) → k * 5 + unit_number kind < places * 5
       → MayBeLeft kind (unit_in old (z + (k * 5 + unit_number kind))).content (unit_in new (z + (k * 5 + unit_number kind))).content) is left) (flag_set erased bank false few)
@@ -177,19 +177,19 @@ other_index places bank place kind b k o inside below ne e = elim (cases_eq b ba
 ]
 
 module _ (places bank place at : ℕ) (kind : UnitKind) (is : at ≡ at_unit places bank place kind) (inside : place < places) where
-  pub at_place : (erased : List Bool) (held : List MemUnit) → (part_of places erased held).unit bank place kind ≡ unit_in held at
+  pub at_place : (erased : List Bool) (held : List MemUnit) → (part_in places erased held).unit bank place kind ≡ unit_in held at
   at_place erased held = unit_inside places erased held bank place kind inside ∙ ap (λ k. unit_in held k) (sym is)
 
   pub same_but_unit : (erased : List Bool) (old new : List MemUnit) → ((k : ℕ) → k ≢ at → unit_in new k ≡ unit_in old k)
-      → SameButUnit bank place kind (part_of places erased old) (part_of places erased new)
+      → SameButUnit bank place kind (part_in places erased old) (part_in places erased new)
   same_but_unit erased old new rest = record {
     units = λ b k o ne. same_unit places old new erased erased b k o (λ below. rest (at_unit places b k o) (λ e. other_index places bank place kind b k o inside below ne (e ∙ is)));
     erased = λ other. refl;
   }
 
   module _ (class : PartClass) (erased : List Bool) (held : List MemUnit) (content : UnitContent) (u : MemUnit) (below : at < length held)
-      (may : MayProgram class kind (part_of places erased held) bank place) (fits : Fits kind content) where
-    pub program_done : unit_of u ≡ whole_unit content → ProgramsUnit class bank place kind content (part_of places erased held) (part_of places erased (set held at u))
+      (may : MayProgram class kind (part_in places erased held) bank place) (fits : FitsUnit kind content) where
+    pub program_done : unit_of u ≡ whole_unit content → ProgramsUnit class bank place kind content (part_in places erased held) (part_in places erased (set held at u))
     program_done now = record {
       may = may;
       fits = fits;
@@ -197,7 +197,7 @@ module _ (places bank place at : ℕ) (kind : UnitKind) (is : at ≡ at_unit pla
       same = same_but_unit erased held (set held at u) (λ k ne. unit_other held at k u ne);
     }
 
-    pub program_cut : u.content ≡ Some content → CutsProgramming class bank place kind content (part_of places erased held) (part_of places erased (set held at u))
+    pub program_cut : u.content ≡ Some content → CutsProgramming class bank place kind content (part_in places erased held) (part_in places erased (set held at u))
     program_cut now = record {
       may = may;
       fits = fits;
@@ -206,11 +206,11 @@ module _ (places bank place at : ℕ) (kind : UnitKind) (is : at ≡ at_unit pla
     }
 
   pub read_at : (class : PartClass) (erased : List Bool) (old new : List MemUnit) (answer : UnitAnswer) → ((k : ℕ) → k ≢ at → unit_in new k ≡ unit_in old k)
-      → MayAnswer class (get_or erased bank false) (unit_in old at) answer → unit_in new at ≡ after_answer class answer (unit_in old at)
-      → ReadsUnit class bank place kind answer (part_of places erased old) (part_of places erased new)
+      → MayAnswer class (get_or erased bank false) (unit_in old at) answer → unit_in new at ≡ unit_after class answer (unit_in old at)
+      → ReadsUnit class bank place kind answer (part_in places erased old) (part_in places erased new)
   read_at class erased old new answer rest may now = record {
     may = subst (λ (u : PartUnit). MayAnswer class (get_or erased bank false) u answer) (sym (at_place erased old)) may;
-    now = at_place erased new ∙ (now ∙ ap (λ (u : PartUnit). after_answer class answer u) (sym (at_place erased old)));
+    now = at_place erased new ∙ (now ∙ ap (λ (u : PartUnit). unit_after class answer u) (sym (at_place erased old)));
     same = same_but_unit erased old new rest;
   }
 
@@ -220,7 +220,7 @@ pub firm_unit : (content : UnitContent) (is_cut : Bool) → is_cut ≡ false →
 firm_unit content true e = absurd (cc)
 firm_unit content false e = refl
 
-fits_mark : (kind : UnitKind) → unit_number kind ≢ 2 → Fits kind Mark
+fits_mark : (kind : UnitKind) → unit_number kind ≢ 2 → FitsUnit kind Mark
 fits_mark Guard ne = tt
 fits_mark SecondGuard ne = tt
 fits_mark Line ne = absurd (ne refl)

@@ -7,7 +7,7 @@ use Rattle.seal_parts.specs.declared.UnitKind.{UnitKind}
 use Rattle.seal_parts.specs.declared.UnitContent.{UnitContent}
 use Rattle.seal_parts.specs.declared.UnitAnswer.{UnitAnswer}
 use Rattle.seal_parts.specs.declared.UnitAnswer.TheVariants.{Whole, Blank, Nothing}
-use Rattle.seal_parts.specs.Parts.{PartUnit, PartFlash, PartView, IsGuard, MayProgram, is_blank, is_open, Fits, ProgramsUnit, CutsProgramming, MayAnswer, is_whole, is_told, is_nothing, after_answer, ReadsAll, blank_unit, whole_unit}
+use Rattle.seal_parts.specs.Parts.{PartUnit, PartFlash, PartView, IsGuard, MayProgram, is_blank, is_open, FitsUnit, ProgramsUnit, CutsProgramming, MayAnswer, is_whole, is_told, is_nothing, unit_after, ReadsPart, blank_unit, whole_unit}
 use Rattle.seal_parts.specs.Designs.{PartWrite, programs_unit, PartDesign, PartLife, cut_life, LivesOnPart, PartLives, DoesPartWrites, CutsPartWrites, MayDoPartWrites, KeepsDuties, NoFalseAlarm, LosesUnit}
 use Rattle.seal_parts.proofs.Units.{IsUnit, IsOther, at_tells, set_unit, set_here, set_there}
 
@@ -18,7 +18,7 @@ lives_then class d (first ∷ lives) life start f g run once = (run.0, (run.1.0,
 
 -- ---- what was read may be read again
 
-read_again : (class : PartClass) (e : Bool) (u : PartUnit) (a : UnitAnswer) → MayAnswer class e u a → MayAnswer class e (after_answer class a u) a
+read_again : (class : PartClass) (e : Bool) (u : PartUnit) (a : UnitAnswer) → MayAnswer class e u a → MayAnswer class e (unit_after class a u) a
 read_again Guards e u (Whole x) h = h
 read_again Guards e u Blank h = h
 read_again Guards e u Nothing h = h
@@ -29,7 +29,7 @@ read_again Settled e u (Whole x) h = is_whole x refl refl
 read_again Settled e u Blank h = h
 read_again Settled e u Nothing h = h
 
-after_nothing : (class : PartClass) (u : PartUnit) → after_answer class Nothing u ≡ u
+after_nothing : (class : PartClass) (u : PartUnit) → unit_after class Nothing u ≡ u
 after_nothing Guards u = refl
 after_nothing Blanks u = refl
 after_nothing Settled u = refl
@@ -46,15 +46,15 @@ abbrev pub loose_unit : UnitContent → PartUnit
 loose_unit content = record { content = Some content; firm = false }
 
 module _ (class : PartClass) (other : class ≡ Blanks → ⊥) (d : PartDesign) (start f g : PartFlash) (lives : List PartLife) (view : PartView) (value bank place : ℕ) (kind : UnitKind)
-    (content : UnitContent) (rest : List PartWrite) (keeps : KeepsDuties class d start) (run : PartLives class d lives start f) (reads : ReadsAll class f view g)
+    (content : UnitContent) (rest : List PartWrite) (keeps : KeepsDuties class d start) (run : PartLives class d lives start f) (reads : ReadsPart class f view g)
     (is : d.writes view value ≡ programs_unit bank place kind content ∷ rest) where
   abbrev c : PartFlash
   c = set_unit bank place kind (loose_unit content) g
 
   abbrev after : PartFlash
-  after = record { unit = λ b k o. after_answer class (view b k o) (c.unit b k o); is_erased = c.is_erased }
+  after = record { unit = λ b k o. unit_after class (view b k o) (c.unit b k o); is_erased = c.is_erased }
 
-  may_first : MayProgram class kind g bank place × Fits kind content
+  may_first : MayProgram class kind g bank place × FitsUnit kind content
   may_first = (subst (λ (ws : List PartWrite). MayDoPartWrites class ws g) is (keeps lives f g view value run reads)).0
 
   still : (b k : ℕ) (o : UnitKind) → MayAnswer class (g.is_erased b) (g.unit b k o) (view b k o)
@@ -95,7 +95,7 @@ module _ (class : PartClass) (other : class ≡ Blanks → ⊥) (d : PartDesign)
         (record { may = may_be_read; now = λ b k o. refl; erased = λ b. refl }))).0.0
 
     is_loose : after.unit bank place kind ≡ loose_unit content
-    is_loose = ap (λ (a : UnitAnswer). after_answer class a (c.unit bank place kind)) unseen
+    is_loose = ap (λ (a : UnitAnswer). unit_after class a (c.unit bank place kind)) unseen
         ∙ (after_nothing class (c.unit bank place kind) ∙ set_here bank place kind (loose_unit content) g bank place kind (refl, (refl, refl)))
 
     is_guard : (class ≡ Guards) × IsGuard kind
@@ -111,7 +111,7 @@ module _ (class : PartClass) (other : class ≡ Blanks → ⊥) (d : PartDesign)
   ]
 
 pub first_program : (class : PartClass) (d : PartDesign) (start f g : PartFlash) (lives : List PartLife) (view : PartView) (value bank place : ℕ) (kind : UnitKind)
-    (content : UnitContent) (rest : List PartWrite) → KeepsDuties class d start → PartLives class d lives start f → ReadsAll class f view g
+    (content : UnitContent) (rest : List PartWrite) → KeepsDuties class d start → PartLives class d lives start f → ReadsPart class f view g
     → d.writes view value ≡ programs_unit bank place kind content ∷ rest → (class ≡ Blanks) ⊎ ((class ≡ Guards) × IsGuard kind)
 first_program Guards d start f g lives view value bank place kind content rest keeps run reads is =
     inr (guard_or_told Guards (λ e. absurd (cc)) d start f g lives view value bank place kind content rest keeps run reads is)
@@ -131,8 +131,8 @@ lost_is_cut class bank place kind content g h lost p loses = record {
 }
 
 pub loss_not_told : (class : PartClass) (d : PartDesign) (start f g h lost after : PartFlash) (lives : List PartLife) (view now : PartView) (value bank place : ℕ) (kind : UnitKind)
-    (content : UnitContent) → NoFalseAlarm class d start → PartLives class d lives start f → ReadsAll class f view g → d.writes view value ≡ programs_unit bank place kind content ∷ []
-    → DoesPartWrites class (d.writes view value) g h → LosesUnit bank place kind h lost → ReadsAll class lost now after → d.tells_loss now ≡ false
+    (content : UnitContent) → NoFalseAlarm class d start → PartLives class d lives start f → ReadsPart class f view g → d.writes view value ≡ programs_unit bank place kind content ∷ []
+    → DoesPartWrites class (d.writes view value) g h → LosesUnit bank place kind h lost → ReadsPart class lost now after → d.tells_loss now ≡ false
 loss_not_told class d start f g h lost after lives view now value bank place kind content alarm run reads is does loses again =
     let done : DoesPartWrites class (programs_unit bank place kind content ∷ []) g h = subst (λ (ws : List PartWrite). DoesPartWrites class ws g h) is does in
     let p : ProgramsUnit class bank place kind content g h = subst (λ (z : PartFlash). ProgramsUnit class bank place kind content g z) (sym done.1.1) done.1.0 in

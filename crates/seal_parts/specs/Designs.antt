@@ -3,7 +3,7 @@ use Rattle.std.specs.Prelude.{◌≡◌, ◌⊎◌, ℕ, Bool, false, None, List
 use Rattle.seal_parts.specs.declared.PartClass.{PartClass}
 use Rattle.seal_parts.specs.declared.UnitKind.{UnitKind}
 use Rattle.seal_parts.specs.declared.UnitContent.{UnitContent}
-use Rattle.seal_parts.specs.Parts.{PartFlash, PartView, SameButUnit, MayProgram, Fits, ErasesBank, CutsErasing, ProgramsUnit, CutsProgramming, ReadsAll}
+use Rattle.seal_parts.specs.Parts.{PartFlash, PartView, SameButUnit, MayProgram, FitsUnit, ErasesBank, CutsBankErase, ProgramsUnit, CutsProgramming, ReadsPart}
 
 pub data PartWrite : Type 0 where
   erases_bank : (bank : ℕ) → PartWrite
@@ -20,14 +20,14 @@ pub record PartDesign : Type 0 where
 
 abbrev pub MayWritePart : PartClass → PartWrite → PartFlash → Type 0
 MayWritePart class (erases_bank bank) f = Unit {0}
-MayWritePart class (programs_unit bank place kind content) f = MayProgram class kind f bank place × Fits kind content
+MayWritePart class (programs_unit bank place kind content) f = MayProgram class kind f bank place × FitsUnit kind content
 
 abbrev pub DoesPartWrite : PartClass → PartWrite → PartFlash → PartFlash → Type 0
 DoesPartWrite class (erases_bank bank) f g = ErasesBank bank f g
 DoesPartWrite class (programs_unit bank place kind content) f g = ProgramsUnit class bank place kind content f g
 
 abbrev pub CutsPartWrite : PartClass → PartWrite → PartFlash → PartFlash → Type 0
-CutsPartWrite class (erases_bank bank) f g = CutsErasing bank f g
+CutsPartWrite class (erases_bank bank) f g = CutsBankErase bank f g
 CutsPartWrite class (programs_unit bank place kind content) f g = CutsProgramming class bank place kind content f g
 
 -- all of these writes are done
@@ -55,9 +55,9 @@ pub data PartLife : Type 0 where
 
 abbrev pub LivesOnPart : PartClass → PartDesign → PartLife → PartFlash → PartFlash → Type 0
 LivesOnPart class d (whole_life view value) f h =
-    (g : PartFlash) × (ReadsAll class f view g × DoesPartWrites class (d.writes view value) g h)
+    (g : PartFlash) × (ReadsPart class f view g × DoesPartWrites class (d.writes view value) g h)
 LivesOnPart class d (cut_life view value) f h =
-    (g : PartFlash) × (ReadsAll class f view g × CutsPartWrites class (d.writes view value) g h)
+    (g : PartFlash) × (ReadsPart class f view g × CutsPartWrites class (d.writes view value) g h)
 
 abbrev pub PartLives : PartClass → PartDesign → List PartLife → PartFlash → PartFlash → Type 0
 PartLives class d [] f h = h ≡ f
@@ -66,12 +66,12 @@ PartLives class d (life ∷ lives) f h = (g : PartFlash) × (LivesOnPart class d
 -- in no life a unit is programmed that may not be
 abbrev pub KeepsDuties : PartClass → PartDesign → PartFlash → Type 0
 KeepsDuties class d start = (lives : List PartLife) (f g : PartFlash) (view : PartView) (value : ℕ)
-    → PartLives class d lives start f → ReadsAll class f view g → MayDoPartWrites class (d.writes view value) g
+    → PartLives class d lives start f → ReadsPart class f view g → MayDoPartWrites class (d.writes view value) g
 
 -- A start says that a put was lost only if one was: never on a flash that keeps its duties.
 abbrev pub NoFalseAlarm : PartClass → PartDesign → PartFlash → Type 0
 NoFalseAlarm class d start = (lives : List PartLife) (f g : PartFlash) (view : PartView)
-    → PartLives class d lives start f → ReadsAll class f view g → d.tells_loss view ≡ false
+    → PartLives class d lives start f → ReadsPart class f view g → d.tells_loss view ≡ false
 
 -- this unit is read no more; all else is as before
 pub record LosesUnit (bank place : ℕ) (kind : UnitKind) (f g : PartFlash) : Type 0 where

@@ -23,8 +23,8 @@ unit_in (u ∷ us) zero = unit_of u
 unit_in (u ∷ us) (suc k) = unit_in us k
 
 -- banks of so many places, one after the other, and blank units after each
-abbrev pub part_of : ℕ → List Bool → List MemUnit → PartFlash
-part_of places erased held = record {
+abbrev pub part_in : ℕ → List Bool → List MemUnit → PartFlash
+part_in places erased held = record {
   unit = λ bank k kind. if nat_lt k places then unit_in held (bank * (places * 5) + (k * 5 + unit_number kind)) else blank_unit;
   is_erased = λ bank. get_or erased bank false;
 }

@@ -5,12 +5,12 @@ use Rattle.basics.specs.FaultCount.{last_count}
 use Rattle.seal_parts.specs.declared.PartClass.{PartClass}
 use Rattle.seal_parts.specs.declared.mem_part.MemUnit.{MemUnit}
 use Rattle.seal_parts.specs.Parts.{blank_unit}
-use Rattle.seal_parts.specs.Memory.{unit_number, unit_in, part_of}
+use Rattle.seal_parts.specs.Memory.{unit_number, unit_in, part_in}
 use Rattle.seal_parts.specs.State.{IsPart}
 
 pub memory_is_a_part : (class : PartClass) (banks places faults : ℕ) (erased : List Bool) (held : List MemUnit) → 2 ≤ banks → banks ≤ 16
     → faults ≤ last_count → places < 2 ^ 16
-    → IsPart (record { flash = part_of places erased held; class = class; banks = banks; places = places; faults = faults })
+    → IsPart (record { flash = part_in places erased held; class = class; banks = banks; places = places; faults = faults })
 memory_is_a_part class banks places faults erased held two few counted fits = record {
   two = two;
   few = few;

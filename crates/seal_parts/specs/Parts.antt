@@ -33,11 +33,11 @@ IsGuard SecondGuard = Unit {0}
 IsGuard kind = ⊥
 
 -- a line is programmed into the unit of the line, and a mark into each other one
-abbrev pub Fits : UnitKind → UnitContent → Type 0
-Fits Line (Holds line) = Unit {0}
-Fits Line Mark = ⊥
-Fits kind (Holds line) = ⊥
-Fits kind Mark = Unit {0}
+abbrev pub FitsUnit : UnitKind → UnitContent → Type 0
+FitsUnit Line (Holds line) = Unit {0}
+FitsUnit Line Mark = ⊥
+FitsUnit kind (Holds line) = ⊥
+FitsUnit kind Mark = Unit {0}
 
 -- ---- the first place of the class: what may be programmed
 
@@ -63,10 +63,10 @@ pub record ErasesBank (bank : ℕ) (f g : PartFlash) : Type 0 where
 pub data MayBeLeft (kind : UnitKind) (old new : Option UnitContent) : Type 0 where
   stays : new ≡ old → MayBeLeft kind old new
   goes : new ≡ None → MayBeLeft kind old new
-  shows : Fits kind Mark → new ≡ Some Mark → MayBeLeft kind old new
+  shows : FitsUnit kind Mark → new ≡ Some Mark → MayBeLeft kind old new
 
 -- The power goes within an erase, or it fails: no unit of the bank need be firm.
-pub record CutsErasing (bank : ℕ) (f g : PartFlash) : Type 0 where
+pub record CutsBankErase (bank : ℕ) (f g : PartFlash) : Type 0 where
   pub left : (k : ℕ) (kind : UnitKind) → MayBeLeft kind (f.unit bank k kind).content (g.unit bank k kind).content
   pub erased : g.is_erased bank ≡ false
   pub others : SameBanks bank f g
@@ -81,7 +81,7 @@ pub record SameButUnit (bank place : ℕ) (kind : UnitKind) (f g : PartFlash) : 
 pub record ProgramsUnit (class : PartClass) (bank place : ℕ) (kind : UnitKind) (content : UnitContent)
     (f g : PartFlash) : Type 0 where
   pub may : MayProgram class kind f bank place
-  pub fits : Fits kind content
+  pub fits : FitsUnit kind content
   pub now : g.unit bank place kind ≡ whole_unit content
   pub same : SameButUnit bank place kind f g
 
@@ -89,7 +89,7 @@ pub record ProgramsUnit (class : PartClass) (bank place : ℕ) (kind : UnitKind)
 pub record CutsProgramming (class : PartClass) (bank place : ℕ) (kind : UnitKind) (content : UnitContent)
     (f g : PartFlash) : Type 0 where
   pub may : MayProgram class kind f bank place
-  pub fits : Fits kind content
+  pub fits : FitsUnit kind content
   pub left : ((g.unit bank place kind).content ≡ Some content) ⊎ ((g.unit bank place kind).content ≡ None)
   pub same : SameButUnit bank place kind f g
 
@@ -108,24 +108,24 @@ pub data MayAnswer (class : PartClass) (erased : Bool) (u : PartUnit) (answer : 
       → MayAnswer class erased u answer
 
 -- on a part of settled reads a content that was read is firm from then on
-abbrev pub after_answer : PartClass → UnitAnswer → PartUnit → PartUnit
-after_answer Settled (Whole content) u = whole_unit content
-after_answer class answer u = u
+abbrev pub unit_after : PartClass → UnitAnswer → PartUnit → PartUnit
+unit_after Settled (Whole content) u = whole_unit content
+unit_after class answer u = u
 
 -- one unit is read
 pub record ReadsUnit (class : PartClass) (bank place : ℕ) (kind : UnitKind) (answer : UnitAnswer)
     (f g : PartFlash) : Type 0 where
   pub may : MayAnswer class (f.is_erased bank) (f.unit bank place kind) answer
-  pub now : g.unit bank place kind ≡ after_answer class answer (f.unit bank place kind)
+  pub now : g.unit bank place kind ≡ unit_after class answer (f.unit bank place kind)
   pub same : SameButUnit bank place kind f g
 
 -- what a start has read: each unit once
 abbrev pub PartView : Type 0
 PartView = ℕ → ℕ → UnitKind → UnitAnswer
 
-pub record ReadsAll (class : PartClass) (f : PartFlash) (view : PartView) (g : PartFlash) : Type 0 where
+pub record ReadsPart (class : PartClass) (f : PartFlash) (view : PartView) (g : PartFlash) : Type 0 where
   pub may : (bank k : ℕ) (kind : UnitKind) → MayAnswer class (f.is_erased bank) (f.unit bank k kind) (view bank k kind)
-  pub now : (bank k : ℕ) (kind : UnitKind) → g.unit bank k kind ≡ after_answer class (view bank k kind) (f.unit bank k kind)
+  pub now : (bank k : ℕ) (kind : UnitKind) → g.unit bank k kind ≡ unit_after class (view bank k kind) (f.unit bank k kind)
   pub erased : (bank : ℕ) → g.is_erased bank ≡ f.is_erased bank
 
 pub record SamePart (f g : PartFlash) : Type 0 where

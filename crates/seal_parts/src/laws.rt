@@ -1,7 +1,7 @@
 //! What no store on a part can do: each function has an empty body, and its contract is the law.
 ghost use Rattle.std.specs.Prelude.{◌≡◌, ◌⊎◌, ℕ, false, List, [], ◌∷◌};
 ghost use Rattle.seal_parts.specs.declared.PartClass.TheVariants.{Guards, Blanks};
-ghost use Rattle.seal_parts.specs.Parts.{PartFlash, PartView, IsGuard, ReadsAll};
+ghost use Rattle.seal_parts.specs.Parts.{PartFlash, PartView, IsGuard, ReadsPart};
 ghost use Rattle.seal_parts.specs.Designs.{PartWrite, programs_unit, PartDesign, PartLife, PartLives, DoesPartWrites};
 ghost use Rattle.seal_parts.specs.Designs.{KeepsDuties, NoFalseAlarm, LosesUnit};
 
@@ -13,7 +13,7 @@ use crate::{PartClass, UnitContent, UnitKind};
 pub fn the_first_program_is_of_a_guard_or_of_what_was_told_blank()
     ensures { (class : PartClass) (d : PartDesign) (start f g : PartFlash) (lives : List PartLife) (view : PartView)
         (value bank place : ℕ) (kind : UnitKind) (content : UnitContent) (rest : List PartWrite)
-        → KeepsDuties class d start → PartLives class d lives start f → ReadsAll class f view g
+        → KeepsDuties class d start → PartLives class d lives start f → ReadsPart class f view g
         → d.writes view value ≡ programs_unit bank place kind content ∷ rest
         → (class ≡ Blanks) ⊎ ((class ≡ Guards) × IsGuard kind) }
 {}
@@ -23,8 +23,8 @@ pub fn the_first_program_is_of_a_guard_or_of_what_was_told_blank()
 pub fn the_loss_of_a_put_of_one_program_is_not_told()
     ensures { (class : PartClass) (d : PartDesign) (start f g h lost after : PartFlash) (lives : List PartLife)
         (view now : PartView) (value bank place : ℕ) (kind : UnitKind) (content : UnitContent)
-        → NoFalseAlarm class d start → PartLives class d lives start f → ReadsAll class f view g
+        → NoFalseAlarm class d start → PartLives class d lives start f → ReadsPart class f view g
         → d.writes view value ≡ programs_unit bank place kind content ∷ []
         → DoesPartWrites class (d.writes view value) g h → LosesUnit bank place kind h lost
-        → ReadsAll class lost now after → d.tells_loss now ≡ false }
+        → ReadsPart class lost now after → d.tells_loss now ≡ false }
 {}

@@ -4,14 +4,14 @@
 //! confirms. A guard and a confirm are **marks**: always the same bytes. A unit is read as its content, or as nothing.
 //! If its program or its bank's erase was cut, each read may answer anew, for ever. What a part promises beside is its
 //! [`PartClass`]. It says what may be programmed (`MayProgram`), what a read may answer (`MayAnswer`) and what a read
-//! leaves (`after_answer`), and nothing else.
+//! leaves (`unit_after`), and nothing else.
 //!
 //! What no store on such a part can do stands in [`laws`]. [`MemPart`] is a part in memory that plays each class.
 #![tactic(auto)]
 
 ghost use Rattle.std.specs.Prelude.{◌≡◌, ◌<◌, IfOk, OnOk, OnErr};
 ghost use Rattle.basics.specs.FaultCount.{Rose};
-ghost use Rattle.seal_parts.specs.Parts.{MayProgram, Fits, ErasesBank, CutsErasing, ProgramsUnit, CutsProgramming};
+ghost use Rattle.seal_parts.specs.Parts.{MayProgram, FitsUnit, ErasesBank, CutsBankErase, ProgramsUnit, CutsProgramming};
 ghost use Rattle.seal_parts.specs.Parts.{ReadsUnit, SamePart};
 ghost use Rattle.seal_parts.specs.State.{PartState, PartRuns, IsPart};
 
@@ -60,7 +60,7 @@ pub enum DeedBody {
 
 /// A deed of the log of a bank.
 #[derive(Clone, Copy, Debug, PartialEq, Eq, Drop)]
-pub struct Deed {
+pub struct LogDeed {
     /// The place of the deed that this one follows, or none: it follows the copy.
     pub prev: Option<u32>,
     pub body: DeedBody,
@@ -70,7 +70,7 @@ pub struct Deed {
 #[derive(Clone, Copy, Debug, PartialEq, Eq, Drop)]
 pub enum LineBody {
     Copies(u16, [u8; 32]),
-    Does(Deed),
+    Does(LogDeed),
 }
 
 /// A line carries the generation of its bank.
@@ -126,7 +126,7 @@ pub trait SealPart {
         ensures count { OnOk result ((state self.new).faults ≡ (state self.old).faults) }
         ensures failed { OnErr result (Rose (state self.old).faults (state self.new).faults) }
         ensures done { OnOk result (ErasesBank bank (state self.old).flash (state self.new).flash) }
-        ensures cut { OnErr result (CutsErasing bank (state self.old).flash (state self.new).flash) };
+        ensures cut { OnErr result (CutsBankErase bank (state self.old).flash (state self.new).flash) };
 
     /// Programs a unit: a mark, or a line.
     fn program(
@@ -139,7 +139,7 @@ pub trait SealPart {
         requires bank_inside { bank < (state self.old).banks }
         requires place_inside { place < (state self.old).places }
         requires may { MayProgram (state self.old).class unit (state self.old).flash bank place }
-        requires fits { Fits unit content.now }
+        requires fits { FitsUnit unit content.now }
         ensures runs { PartRuns (state self.old) (state self.new) }
         ensures count { OnOk result ((state self.new).faults ≡ (state self.old).faults) }
         ensures failed { OnErr result (Rose (state self.old).faults (state self.new).faults) }

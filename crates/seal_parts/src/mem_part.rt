@@ -1,7 +1,7 @@
 //! A part in memory.
 ghost use Rattle.std.specs.Prelude.{◌≡◌, ◌≢◌, ◌⊎◌, ◌+◌, ◌*◌, ◌%◌, ◌^◌, ◌<◌, ◌≤◌, ℕ, length, get_or, false, true, Some, None, not, is_ok, IfOk, OnOk, OnErr};
 ghost use Rattle.basics.specs.FaultCount.{last_count};
-ghost use Rattle.seal_parts.specs.Parts.{blank_unit, MayAnswer, MayBeLeft, after_answer};
+ghost use Rattle.seal_parts.specs.Parts.{blank_unit, MayAnswer, MayBeLeft, unit_after};
 ghost use Rattle.seal_parts.specs.Memory.{unit_in, unit_number};
 ghost use Rattle.seal_parts.specs.declared.PartClass.TheVariants.{Blanks, Settled};
 ghost use Rattle.seal_parts.specs.declared.UnitContent.TheVariants.{Mark};
@@ -116,7 +116,7 @@ impl MemPart {
 impl SealPart for MemPart {
     ghost use Rattle.basics.specs.FaultCount.{Rose};
     ghost use Rattle.cut_disk.specs.Arming.{fails, after_call};
-    ghost use Rattle.seal_parts.specs.Parts.{MayProgram, Fits, ErasesBank, CutsErasing, ProgramsUnit, CutsProgramming};
+    ghost use Rattle.seal_parts.specs.Parts.{MayProgram, FitsUnit, ErasesBank, CutsBankErase, ProgramsUnit, CutsProgramming};
     ghost use Rattle.seal_parts.specs.Parts.{ReadsUnit, SamePart};
     ghost use Rattle.seal_parts.specs.State.{PartRuns};
     ghost use Rattle.seal_parts.specs.MemPart.{memory_part};
@@ -144,7 +144,7 @@ impl SealPart for MemPart {
         ensures exactly { is_ok result ≡ not (fails self.old.arms) }
         ensures arms { self.new.arms ≡ after_call self.old.arms }
         ensures done { OnOk result (ErasesBank bank (memory_part self.old).flash (memory_part self.new).flash) }
-        ensures cut { OnErr result (CutsErasing bank (memory_part self.old).flash (memory_part self.new).flash) }
+        ensures cut { OnErr result (CutsBankErase bank (memory_part self.old).flash (memory_part self.new).flash) }
     {
         let units = self.places as usize * 5;
         let start = start_of(bank, self.banks, units);
@@ -170,7 +170,7 @@ impl SealPart for MemPart {
         requires bank_inside { bank < self.old.banks }
         requires place_inside { place < self.old.places }
         requires may { MayProgram self.old.class unit (memory_part self.old).flash bank place }
-        requires fits { Fits unit content.now }
+        requires fits { FitsUnit unit content.now }
         ensures runs { PartRuns (memory_part self.old) (memory_part self.new) }
         ensures count { OnOk result (self.new.faults ≡ self.old.faults) }
         ensures failed { OnErr result (Rose self.old.faults self.new.faults) }
@@ -336,7 +336,7 @@ fn see(
     ensures same { length held.new.items ≡ length held.old.items }
     ensures rest { (k : ℕ) → k ≢ at → unit_in held.new.items k ≡ unit_in held.old.items k }
     ensures may { MayAnswer class is_erased (unit_in held.old.items at) result }
-    ensures now { unit_in held.new.items at ≡ after_answer class result (unit_in held.old.items at) }
+    ensures now { unit_in held.new.items at ≡ unit_after class result (unit_in held.old.items at) }
 {
     let was = held[at];
     match was.content {

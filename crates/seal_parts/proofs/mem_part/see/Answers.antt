@@ -6,7 +6,7 @@ use Rattle.seal_parts.specs.declared.UnitContent.{UnitContent}
 use Rattle.seal_parts.specs.declared.UnitAnswer.{UnitAnswer}
 use Rattle.seal_parts.specs.declared.UnitAnswer.TheVariants.{Whole, Blank, Nothing}
 use Rattle.seal_parts.specs.declared.mem_part.MemUnit.{MemUnit}
-use Rattle.seal_parts.specs.Parts.{PartUnit, MayAnswer, is_whole, is_told, is_nothing, after_answer, blank_unit}
+use Rattle.seal_parts.specs.Parts.{PartUnit, MayAnswer, is_whole, is_told, is_nothing, unit_after, blank_unit}
 use Rattle.seal_parts.specs.Memory.{unit_in, unit_of}
 use Rattle.seal_parts.proofs.ListLaws.{unit_set, unit_other, unit_get}
 use Rattle.seal_parts.proofs.mem_part.see.Goals as goal
@@ -34,17 +34,17 @@ see_nothing : (class : PartClass) (e : Bool) (u : PartUnit) (w : MemUnit) → u 
 see_nothing class e u w is none other =
     is_nothing (inl (ap (λ (x : PartUnit). x.content) is ∙ none)) (λ cls erased blank. other cls erased (ap (λ (x : PartUnit). x.firm) (sym is ∙ blank))) refl
 
-after_other : (class : PartClass) (a : UnitAnswer) (u : PartUnit) → class ≢ Settled → after_answer class a u ≡ u
+after_other : (class : PartClass) (a : UnitAnswer) (u : PartUnit) → class ≢ Settled → unit_after class a u ≡ u
 after_other Guards a u ne = refl
 after_other Blanks a u ne = refl
 after_other Settled a u ne = absurd (ne refl)
 
-after_nothing : (class : PartClass) (u : PartUnit) → after_answer class Nothing u ≡ u
+after_nothing : (class : PartClass) (u : PartUnit) → unit_after class Nothing u ≡ u
 after_nothing Guards u = refl
 after_nothing Blanks u = refl
 after_nothing Settled u = refl
 
-after_blank : (class : PartClass) (u : PartUnit) → after_answer class Blank u ≡ u
+after_blank : (class : PartClass) (u : PartUnit) → unit_after class Blank u ≡ u
 after_blank Guards u = refl
 after_blank Blanks u = refl
 after_blank Settled u = refl
@@ -64,7 +64,7 @@ returns-then-settles-clause-may c = is_whole c.in-Some.content (has_content _ c.
 
 pub returns-then-settles-clause-now : goal.returns-then-settles-clause-now
 returns-then-settles-clause-now c = unit_set c.args.held.now.items c.args.at _ c.requires
-    ∙ sym (ap (λ (z : PartClass). after_answer z (Whole c.in-Some.content) (unit_in c.args.held.now.items c.args.at)) (c.settles.ensures.is c.if-settles.true))
+    ∙ sym (ap (λ (z : PartClass). unit_after z (Whole c.in-Some.content) (unit_in c.args.held.now.items c.args.at)) (c.settles.ensures.is c.if-settles.true))
 
 pub returns-else-settles-clause-may : goal.returns-else-settles-clause-may
 returns-else-settles-clause-may c = is_whole c.in-Some.content (has_content _ c.index-was.result.now c.in-Some.content (unit_at _ _ c.index-was.result.now c.requires c.index-was.ensures) c.in-Some.is) refl
