@@ -28,10 +28,8 @@ any_default (p ∷ ps) zero d e below = refl
 any_default (p ∷ ps) (suc i) d e below = any_default ps i d e (omega arith)
 
 -- what was read at an index is what was read of the place
-pub read_of : (s : LogSizes) (ps : List PlaceRead) (bank k i start : ℕ) (p : PlaceRead) → start ≡ bank * s.places → i ≡ start + k → i < length ps → p ≡ get_or ps i p
-    → reads_in s ps bank k ≡ p
-read_of s ps bank k i start p at is below read =
-    ap (λ j. get_or ps j no_read) (let e : bank * s.places + k ≡ i = omega (arith, at, is) in e) ∙ (any_default ps i no_read p below ∙ sym read)
+pub read_of : (s : LogSizes) (ps : List PlaceRead) (bank k : ℕ) (d : PlaceRead) → bank * s.places + k < length ps → get_or ps (bank * s.places + k) d ≡ reads_in s ps bank k
+read_of s ps bank k d below = any_default ps (bank * s.places + k) d no_read below
 
 -- ---- the same places under another name
 
@@ -176,10 +174,13 @@ module _ (In Now : ℕ → ℕ → Type 0) (r : LogReads) (bank place : ℕ) (gr
 
 module _ (s : LogSizes) (r : LogReads) (bank place later : ℕ) (is : later ≡ suc place) (inside : bank < s.banks) (from : s.cells ≤ place) (below : place < s.places) where
   seen_grows : (b k : ℕ) → IsSeen s bank place b k → IsSeen s bank later b k
-  seen_grows b k seen = (seen.0, elim seen.1 [
-    | inl before ↦ inl before
-    | inr here ↦ inr (here.0, (let h = here.1 in omega (arith, h, is)))
-  ])
+  seen_grows b k seen = (
+    seen.0,
+    elim seen.1 [
+      | inl before ↦ inl before
+      | inr here ↦ inr (here.0, (let h = here.1 in omega (arith, h, is)))
+    ],
+  )
 
   seen_only : (b k : ℕ) → IsSeen s bank later b k → IsSeen s bank place b k ⊎ ((b ≡ bank) × (k ≡ place))
   seen_only b k seen = elim seen.1 [
@@ -210,13 +211,16 @@ seen_begins s r bank first best is h = same_places (IsSeen s bank 0) (IsSeen s b
 pub seen_ends : (s : LogSizes) (r : LogReads) (bank last later : ℕ) (best : Latest) → s.places ≤ last → later ≡ suc bank → LatestSeen s r bank last best → LatestSeen s r later 0 best
 seen_ends s r bank last later best far is h = same_places (IsSeen s bank last) (IsSeen s later 0) r
     (λ b k seen. (seen.0, elim seen.1 [ inl before ↦ inl (omega (arith, before, is)) | inr here ↦ inl (let x = here.0 in omega (arith, x, is)) ]))
-    (λ b k seen. (seen.0, elim seen.1 [
-      | inl before ↦ elim (cases_lt b bank) [
-        | inl less ↦ inl less
-        | inr more ↦ inr ((omega (arith, before, is, more)), (let y = seen.0.1.1 in omega (arith, y, far)))
-      ]
-      | inr here ↦ absurd (let x = here.1 in omega (arith, x))
-    ])) best h
+    (λ b k seen. (
+      seen.0,
+      elim seen.1 [
+        | inl before ↦ elim (cases_lt b bank) [
+          | inl less ↦ inl less
+          | inr more ↦ inr ((omega (arith, before, is, more)), (let y = seen.0.1.1 in omega (arith, y, far)))
+        ]
+        | inr here ↦ absurd (let x = here.1 in omega (arith, x))
+      ],
+    )) best h
 
 pub seen_all : (s : LogSizes) (r : LogReads) (bank : ℕ) (best : Latest) → s.banks ≤ bank → LatestSeen s r bank 0 best → LatestIs s r best
 seen_all s r bank best far h = same_places (IsSeen s bank 0) (IsDeedPlace s) r (λ b k seen. seen.0) (λ b k inside. (inside, inl (let x = inside.0 in omega (arith, x, far)))) best h

@@ -85,15 +85,18 @@ fn latest_to(reads: &[PlaceRead], sizes: LogSizes, bank: u8, best: Latest) -> La
     let start = bank as usize * sizes.places as usize;
     let mut best = best;
     for place in sizes.cells as u32..sizes.places {
-        if let Some((generation, deed)) = deed_in(&reads[start + place as usize]) {
-            let found = FoundDeed {
-                bank,
-                place,
-                generation,
-                deed,
-            };
-            best = later(best, found);
-        }
+        best = match deed_in(&reads[start + place as usize]) {
+            Some((generation, deed)) => later(
+                best,
+                FoundDeed {
+                    bank,
+                    place,
+                    generation,
+                    deed,
+                },
+            ),
+            None => best,
+        };
     }
     best
 }

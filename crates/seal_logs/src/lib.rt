@@ -9,7 +9,6 @@ ghost use Rattle.std.specs.Prelude.{◌≡◌, ◌*◌, length};
 mod finding;
 
 pub use finding::{FoundDeed, Latest, find_latest, lacks_line, next_free};
-
 use seal_parts::SealLine;
 
 /// How many banks a log goes round, how many places a bank has, and how many cells the store has.
