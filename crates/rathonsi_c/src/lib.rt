@@ -19,6 +19,7 @@ mod keys;
 pub mod laws;
 mod looking;
 mod macs;
+mod opened;
 mod opening;
 mod refusals;
 mod reserving;

@@ -15,6 +15,7 @@ ghost use Rattle.rathonsi_c.specs.Routes.{ReceiveAnswers, OpenAnswers, IsFarAhea
 ghost use Rattle.rathonsi_c.specs.Causes.{IsDone};
 
 use crate::images::slot_at;
+use crate::opened::{is_open, move_counter};
 use crate::refusals::Refusal;
 use crate::secoc::{RathonsiVerdict, refusal as no_verdict};
 use crate::{
@@ -52,8 +53,8 @@ pub struct RathonsiRoute {
     pub opened: u8,
     /// 1: another module makes and checks its authenticators, and asks for the freshness alone. 0: this library does.
     pub freshness_only: u8,
-    /// Fills the struct up; not read.
-    pub unused: [u8; 3],
+    /// The check value of an open route over its Data ID, direction, cell and counter. The calls alone write it.
+    pub check: [u8; 3],
 }
 
 /// The direction of a route whose numbers are within their ranges.
@@ -135,7 +136,7 @@ pub fn make_ready(route: &RathonsiRoute, wanted: Direction, image: &[u8]) -> Res
     let Some(direction) = direction_of(route) else {
         return Err(Refusal::BadValue);
     };
-    if direction != wanted || route.opened != 1 {
+    if direction != wanted || !is_open(route) {
         return Err(Refusal::BadValue);
     }
     let bound = match bound_of(route, wanted, image) {
@@ -191,8 +192,8 @@ pub extern "C" fn rathonsi_route_open(route: &mut RathonsiRoute, image: &[u8]) -
     };
     match bound_of(route, direction, image) {
         Ok(bound) => {
-            route.counter = bound;
             route.opened = 1;
+            move_counter(route, bound);
             OK
         }
         Err(refusal) => {
@@ -268,7 +269,7 @@ fn kept_for(route: &RathonsiRoute, image: &[u8], plan: &Plan) -> Result<Kept, i3
     let Some(direction) = direction_of(route) else {
         return Err(BAD_VALUE);
     };
-    if route.opened != 1 {
+    if !is_open(route) {
         return Err(BAD_VALUE);
     }
     match bound_of(route, direction, image) {
@@ -340,7 +341,7 @@ pub extern "C" fn rathonsi_route_send(
         return BAD_LENGTH;
     };
     pdu[..size].copy_from_slice(&frame[..size]);
-    route.counter = sending.freshness;
+    move_counter(route, sending.freshness);
     OK
 }
 
@@ -403,7 +404,7 @@ pub extern "C" fn rathonsi_route_receive(
     );
     let verdict = answer(judgement, bound, parts.payload);
     if verdict.status == OK {
-        route.counter = verdict.freshness;
+        move_counter(route, verdict.freshness);
     }
     verdict
 }
