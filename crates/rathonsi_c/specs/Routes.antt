@@ -207,11 +207,20 @@ CellAnswers r image rest status =
 abbrev pub OpenAnswers : RathonsiRoute → List ℕ → ℤ → Type 0
 OpenAnswers r image status = IfCause (OutOfRanges r) BAD_VALUE (CellAnswers r image IsDone) status
 
--- what `rathonsi_route_advance` answers, and `rathonsi_route_reserve` where the freshness isn't too far ahead
-abbrev pub AdvanceAnswers : RathonsiRoute → List ℕ → Plan → (ℤ → Type 0) → ℤ → Type 0
-AdvanceAnswers r image plan rest status =
+-- the causes for which nothing is planned for a route, and else what the rest says
+abbrev pub PlanAnswers : RathonsiRoute → List ℕ → Plan → (ℤ → Type 0) → ℤ → Type 0
+PlanAnswers r image plan rest status =
     IfCause (¬ IsEmptyPlan plan) BUSY
     (IfCause (OutOfRanges r ⊎ ¬ IsOpened r) BAD_VALUE (CellAnswers r image rest)) status
+
+-- once the bound ahead of this freshness is the counter, no freshness is above it
+abbrev pub LeavesNothing : RathonsiRoute → ℕ → Type 0
+LeavesNothing r freshness = bound_ahead r.reserve freshness + 1 ≡ 2 ^ 64
+
+-- what `rathonsi_route_advance` answers
+abbrev pub AdvanceAnswers : RathonsiRoute → List ℕ → ℕ → Plan → ℤ → Type 0
+AdvanceAnswers r image freshness plan status =
+    PlanAnswers r image plan (IfCause (LeavesNothing r freshness) EXHAUSTED IsDone) status
 
 -- the freshness is further above the bound in the image than any window reaches
 pub record IsFarAhead (r : RathonsiRoute) (image : List ℕ) (freshness : ℕ) : Type 0 where
@@ -223,4 +232,4 @@ pub record IsFarAhead (r : RathonsiRoute) (image : List ℕ) (freshness : ℕ) :
 -- what `rathonsi_route_reserve` answers
 abbrev pub ReserveAnswers : RathonsiRoute → List ℕ → ℕ → Plan → ℤ → Type 0
 ReserveAnswers r image freshness plan status =
-    AdvanceAnswers r image plan (IfCause (IsFarAhead r image freshness) BAD_VALUE IsDone) status
+    PlanAnswers r image plan (IfCause (IsFarAhead r image freshness) BAD_VALUE IsDone) status

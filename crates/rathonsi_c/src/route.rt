@@ -11,7 +11,7 @@ ghost use Rattle.rathonsi_c.specs.Refused.{BoundRefused, KeyRefused, RouteRefuse
 ghost use Rattle.rathonsi_c.specs.Routes.{InRanges, OutOfRanges, InUse, BoundCovers, is_booted, RouteReady};
 ghost use Rattle.rathonsi_c.specs.Routes.{Opens, closed};
 ghost use Rattle.rathonsi_c.specs.Routes.{RouteAdvances, Reserves, SentBy, bounded_answer, SendAnswers};
-ghost use Rattle.rathonsi_c.specs.Routes.{ReceiveAnswers, OpenAnswers, IsFarAhead, AdvanceAnswers, ReserveAnswers};
+ghost use Rattle.rathonsi_c.specs.Routes.{ReceiveAnswers, OpenAnswers, IsFarAhead, PlanAnswers, AdvanceAnswers, ReserveAnswers};
 ghost use Rattle.rathonsi_c.specs.Causes.{IsDone};
 
 use crate::images::slot_at;
@@ -19,8 +19,8 @@ use crate::opened::{is_open, move_counter};
 use crate::refusals::Refusal;
 use crate::secoc::{RathonsiVerdict, refusal as no_verdict};
 use crate::{
-    BAD_LENGTH, BAD_VALUE, BUSY, DAMAGED, FRESHNESS_FAILURE, OK, RESERVE, VERIFICATION_FAILURE,
-    WRONG_CELL,
+    BAD_LENGTH, BAD_VALUE, BUSY, DAMAGED, EXHAUSTED, FRESHNESS_FAILURE, OK, RESERVE,
+    VERIFICATION_FAILURE, WRONG_CELL,
 };
 use freshness_routes::{MOST_RESERVE, bound_ahead};
 use freshness_store::{Direction, bound_bytes, bound_in};
@@ -230,7 +230,8 @@ pub extern "C" fn rathonsi_route_reserve(
 
 /// What `rathonsi_route_reserve` does, however far ahead the freshness is. Its plan done, `rathonsi_route_open` moves
 /// the counter to the bound: so a sender goes on above the freshness of another, which it replaces. `BUSY`,
-/// `BAD_VALUE`, `WRONG_CELL`, `DAMAGED`: the first that applies.
+/// `BAD_VALUE`, `WRONG_CELL`, `DAMAGED`, `EXHAUSTED` (that bound would be 2^64 - 1: no freshness is above it): the
+/// first that applies.
 #[unsafe(no_mangle)]
 pub extern "C" fn rathonsi_route_advance(
     route: &RathonsiRoute,
@@ -238,15 +239,19 @@ pub extern "C" fn rathonsi_route_advance(
     image: &[u8],
     plan: &mut Plan,
 ) -> i32
-    ensures answer { AdvanceAnswers route.now image.now plan.old IsDone result }
+    ensures answer { AdvanceAnswers route.now image.now freshness plan.old result }
     ensures reserved { result ≡ OK → Reserves route.now image.now freshness plan.old plan.new }
     ensures fits { result ≡ OK → IsEmptyPlan plan.new ⊎ PlanFits (length image.now) plan.new }
     ensures unchanged { result ≢ OK → plan.new ≡ plan.old }
 {
-    match kept_for(route, image, plan) {
-        Ok(kept) => raise(route, kept, freshness, image, plan),
-        Err(status) => status,
+    let kept = match kept_for(route, image, plan) {
+        Ok(kept) => kept,
+        Err(status) => return status,
+    };
+    if bound_ahead(route.reserve, freshness) == u64::MAX {
+        return EXHAUSTED;
     }
+    raise(route, kept, freshness, image, plan)
 }
 
 // The direction of a route, and the bound that the image keeps for it.
@@ -261,7 +266,7 @@ fn kept_for(route: &RathonsiRoute, image: &[u8], plan: &Plan) -> Result<Kept, i3
     ensures kept { IfOk result (λ k. InUse route.now k.direction
         × ImageBound image.now route.now.cell route.now.data_id k.direction k.bound) }
     ensures empty { IfOk result (λ _. IsEmptyPlan plan.now) }
-    ensures refused { IfErr result (AdvanceAnswers route.now image.now plan.now (λ _. ⊥)) }
+    ensures refused { IfErr result (PlanAnswers route.now image.now plan.now (λ _. ⊥)) }
 {
     if !is_empty(plan) {
         return Err(BUSY);
