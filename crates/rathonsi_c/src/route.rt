@@ -14,6 +14,7 @@ ghost use Rattle.rathonsi_c.specs.Routes.{RouteAdvances, Reserves, SentBy, bound
 ghost use Rattle.rathonsi_c.specs.Routes.{ReceiveAnswers, OpenAnswers, IsFarAhead, PlanAnswers, AdvanceAnswers, ReserveAnswers};
 ghost use Rattle.rathonsi_c.specs.Causes.{IsDone};
 
+use crate::faults::field_outside;
 use crate::images::slot_at;
 use crate::opened::{is_open, move_counter};
 use crate::refusals::Refusal;
@@ -22,7 +23,7 @@ use crate::{
     BAD_LENGTH, BAD_VALUE, BUSY, DAMAGED, EXHAUSTED, FRESHNESS_FAILURE, OK, RESERVE,
     VERIFICATION_FAILURE, WRONG_CELL,
 };
-use freshness_routes::{MOST_RESERVE, bound_ahead};
+use freshness_routes::bound_ahead;
 use freshness_store::{Direction, bound_bytes, bound_in};
 use key_slots::{Purpose, Slot, usable};
 use secured_pdu::{Judgement, WIDEST_WINDOW, build, judge, split};
@@ -62,26 +63,10 @@ pub fn direction_of(route: &RathonsiRoute) -> Option<Direction>
     ensures some { IfSome result (InRanges route.now) }
     ensures none { IfNone result (OutOfRanges route.now) }
 {
-    let RathonsiRoute {
-        cell,
-        reserve,
-        window,
-        slot,
-        direction,
-        booted,
-        freshness_only,
-        ..
-    } = *route;
-    if cell < 14 || reserve < 1 || reserve > MOST_RESERVE {
+    if field_outside(route) != 0 {
         return None;
     }
-    if window < 1 || window > WIDEST_WINDOW || slot < 4 || slot > 13 {
-        return None;
-    }
-    if booted > 1 || freshness_only > 1 {
-        return None;
-    }
-    match direction {
+    match route.direction {
         1 => Some(Direction::Sends),
         2 => Some(Direction::Receives),
         _ => None,

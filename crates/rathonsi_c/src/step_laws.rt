@@ -69,5 +69,5 @@ pub fn each_status_has_its_number()
 
 /// The number of the version, as `rathonsi.h` has it: major, minor and patch, a byte each.
 pub fn the_version_has_its_number()
-    ensures { VERSION ≡ 0 * 2 ^ 16 + 18 * 2 ^ 8 + 0 }
+    ensures { VERSION ≡ 0 * 2 ^ 16 + 19 * 2 ^ 8 + 0 }
 {}
