@@ -267,9 +267,10 @@ typedef struct RathonsiRoute {
      * rathonsi_freshness.h. Else 0. The same in every life. */
     uint8_t freshness_only;
     /* The check value of an open route: 1 + (counter + 3 * who) mod 16777213 in three bytes, big-endian.
-     * who is direction * 2^32 + cell * 2^16 + data_id. The calls alone write it. So a route is refused if
-     * its memory was never initialised, and if one of these four was set by hand. No struct of zeros
-     * or of bytes ff has it. */
+     * who is direction * 2^32 + cell * 2^16 + data_id. The calls alone write it. An open route is refused
+     * if one of these four alone was set by hand, unless the counter was moved by a multiple of
+     * 16,777,213: that is proved. A struct of zeros or of bytes ff is never open, and one of random
+     * bytes is in one of 2^32. */
     uint8_t check[3];
 } RathonsiRoute;
 
