@@ -1,5 +1,5 @@
 //! Which routes are open. A check value stands beside `opened`, over what an open route may not change but by a call.
-ghost use Rattle.std.specs.Prelude.{◌≡◌, ◌↔◌, ◌+◌, ◌%◌, ◌<◌, ℕ, IsTrue};
+ghost use Rattle.std.specs.Prelude.{◌≡◌, ◌↔◌, ◌^◌, ◌<◌, IsTrue};
 ghost use Rattle.rathonsi_c.specs.Routes.{IsOpened, at_counter, check_number, check_of};
 
 use crate::route::RathonsiRoute;
