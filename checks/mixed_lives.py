@@ -500,6 +500,7 @@ def main(words):
     return file_lives.over_disks(name, libraries, mixed_lives(lives, seed))
 
 
+sys.path.insert(0, str(TOP / "checks" / "models"))
 try:
     import bus_model
 except ImportError:

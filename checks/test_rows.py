@@ -28,10 +28,11 @@ import tomllib
 import tty
 from pathlib import Path
 
-import watch_model
-
 CHECKS = Path(__file__).resolve().parent
 TOP = CHECKS.parent
+sys.path.insert(0, str(CHECKS / "models"))
+import watch_model  # noqa: E402
+
 # a standard output with room for N bytes is a file that may grow to this many
 ROOM = 65536
 SECONDS = 120
@@ -135,13 +136,13 @@ class Row:
         return whole[number("from") if "from" in spec else 0 : number("to") if "to" in spec else None]
 
     def modelled(self, spec):
-        """What a model prints, a program of checks/; the files that its arguments name are made before."""
+        """What a model prints, a program of checks/models; the files that its arguments name are made before."""
         name, *words = self.names.filled(spec["model"]).split()
         if not importlib.util.find_spec("cryptography"):
             raise Missing("rows beside models (python3-cryptography)")
         self.make(words)
         given = self.bytes_of(spec.get("input", ""))
-        command = [sys.executable, CHECKS / name, *words]
+        command = [sys.executable, CHECKS / "models" / name, *words]
         return subprocess.run(command, cwd=self.folder, input=given, stdout=subprocess.PIPE, check=True).stdout
 
     def words(self, step):
