@@ -38,6 +38,8 @@ ROOM = 65536
 SECONDS = 120
 VERSION = re.search(r"^## ([0-9.]+)", (TOP / "CHANGELOG.md").read_text(), re.MULTILINE)[1]
 BUILDING = threading.Lock()
+# a store's file is its owner's alone, else `station` says so
+os.umask(0o077)
 BASH = {
     "stdin": 'exec 0<&-; exec "$@"',
     "stdout": 'exec 1>&-; exec "$@"',
@@ -261,7 +263,7 @@ class Run:
         self.command = [program, *(it.encode("latin-1") for it in words[1:]), *last]
         self.env = {**os.environ, **dict(row.names.filled(it).split("=", 1) for it in step.get("env", []))}
         if "env" in step:
-            self.env["LD_PRELOAD"] = shim("failing_file")
+            self.env["LD_PRELOAD"] = shim("file_record" if "FILE_NAME" in self.env else "failing_file")
         for name in [step["closed"]] if "closed" in step else ["room"] if "room" in step else []:
             self.command = [b"bash", b"-c", BASH[name].encode(), b"bash", *self.command]
 
