@@ -42,6 +42,8 @@ VERSION = re.search(r"^## ([0-9.]+)", (TOP / "CHANGELOG.md").read_text(), re.MUL
 BUILDING = threading.Lock()
 # the gate of a cell that counts
 LIVE = 0xA7
+# so that a program that makes a file itself says that nobody else may read it
+os.umask(0o022)
 BASH = {
     "stdin": 'exec 0<&-; exec "$@"',
     "stdout": 'exec 1>&-; exec "$@"',
@@ -135,7 +137,8 @@ class Row:
             return self.bytes_of([f"version = {spec['version']}\n", *nodes])
         if "store" in spec:
             kind, version = self.names.filled(spec["store"]).split()
-            whole = stored(int(kind), int(version), *(self.names.filled(spec.get(it, "")) for it in ("cells", "puts")))
+            cells, puts = (self.bytes_of(spec.get(it, "")).decode() for it in ("cells", "puts"))
+            whole = stored(int(kind), int(version), cells, puts)
         elif "of" in spec:
             whole = self.bytes_of(self.files[self.names.filled(spec["of"])])
         elif "made" in spec:
@@ -176,7 +179,7 @@ class Row:
         mapped, logged = (given if it == "-" else read(self.folder / it) for it in shlex.split(words))
         answers = self.bytes_of(step["answers"])
         totals, status = watch_model.totals(mapped, logged, answers)
-        assert status == int(self.names.filled(str(step.get("status", status)))), f"{self.id}: status {status} is counted"
+        assert str(status) == self.names.filled(str(step.get("status", status))), f"{self.id}: {status} is counted"
         told = {"": answers + totals, " --json": watch_model.objects(answers + totals)}
         for option, text in told.items():
             times = (" --time", watch_model.timed(text, logged)) if "times" in step else ("", text)
@@ -192,6 +195,7 @@ class Row:
             if spec is None or os.path.lexists(folder / name):
                 continue
             kind = spec.get("kind") if isinstance(spec, dict) else None
+            (folder / name).parent.mkdir(exist_ok=True)
             if kind == "folder":
                 (folder / name).mkdir()
             elif kind == "socket":
@@ -202,7 +206,7 @@ class Row:
                 if "fed" in spec:
                     threading.Thread(target=feed, args=(folder / name, self.bytes_of(spec["fed"])), daemon=True).start()
             else:
-                (folder / name).write_bytes(self.bytes_of(spec))
+                write(folder / name, self.bytes_of(spec))
             if isinstance(spec, dict) and "mode" in spec:
                 os.chmod(folder / name, int(spec["mode"], 8))
             if isinstance(spec, dict) and "owner" in spec and not os.getuid():
@@ -225,18 +229,16 @@ class Row:
     def run_step(self, step, folder, room):
         """Runs a command; raises AssertionError if anything differs."""
         given, wanted = self.wanted_of(step)
+        # a command changes no file but those that its arguments name, and not those of `unchanged`
         there, words = set(os.listdir(folder)), self.words(step)
-        # a command may change only files that its arguments name, and not those of `unchanged`
-        stay = [*map(self.names.filled, step.get("unchanged", [])), *there.difference(words, map(os.path.basename, words))]
+        stay = there.difference(words, map(os.path.basename, words))
+        stay.update(map(self.names.filled, step.get("unchanged", [])))
         before = {name: read(folder / name) for name in stay}
         run = Run(self, step, folder, room, given)
         if "refuses_allocations" in step:
             run.refuses_each(wanted)
             return
-        if "together" in step:
-            run.started_together()
-            return
-        status, output, error = run.started()
+        status, output, error = run.started_together(wanted) if "together" in step else run.started()
         if "columns" in step:
             output = b"".join(b" ".join(line.split(b" ")[: step["columns"]]) + b"\n" for line in output.splitlines())
         if "first" in step:
@@ -264,12 +266,12 @@ class Row:
         kinds = {name: (it.st_mode, it.st_nlink) for name, it in made.items()}
         same += [f"{name}: mode {it[0]:o}, {it[1]} links" for name, it in kinds.items() if it != (0o100600, 1)]
         for it in step.get("size", []):
-            name, size = self.names.filled(it).split()
+            name, size = shlex.split(self.names.filled(it))
             same.append(difference(f"size of {name}", size.encode(), str((folder / name).stat().st_size).encode()))
         found = "\n".join(filter(None, same))
         assert not found, f"{self.id}: {' '.join(self.words(step))}\n{found}"
         for name, spec in step.get("copies", {}).items():
-            (folder / self.names.filled(name)).write_bytes(self.bytes_of(spec))
+            write(folder / self.names.filled(name), self.bytes_of(spec))
 
     def commands(self):
         """The steps of the row, each with its names: one with `for` is done for each case of this table, in turn."""
@@ -304,7 +306,7 @@ class Run:
         self.command = [program, *(it.encode("latin-1") for it in words[1:]), *last]
         self.env = {**os.environ, **dict(row.names.filled(it).split("=", 1) for it in step.get("env", []))}
         if "env" in step:
-            self.env["LD_PRELOAD"] = shim("failing_file")
+            self.env["LD_PRELOAD"] = shim("file_record" if "FILE_NAME" in self.env else "failing_file")
         if not os.path.exists(program):
             raise FileNotFoundError(f"{words[0]} isn't built: bin/{words[0]}")
         if "through" in step:
@@ -371,12 +373,13 @@ class Run:
         output, error = (read(self.room / it) if self.step.get("full") != it else b"" for it in ("stdout", "stderr"))
         return status, output[ROOM - self.number("room") :] if "room" in self.step else output, error
 
-    def started_together(self):
+    def started_together(self, wanted):
         """Runs so many of the command at once, whose answers nobody reads."""
         quiet = dict.fromkeys(("stdin", "stdout", "stderr"), subprocess.DEVNULL)
         begun = [subprocess.Popen(self.command, cwd=self.folder, **quiet) for _ in range(self.step["together"])]
         for it in begun:
             it.wait(SECONDS)
+        return 0, wanted, b""
 
     def refuses_each(self, wanted):
         """One of the first allocations is refused, each in turn: the command ends with 7 and says nothing, or does all
@@ -395,6 +398,12 @@ class Run:
 def feed(path, given):
     with contextlib.suppress(OSError):
         path.write_bytes(given)
+
+
+def write(path, given):
+    """Writes a file that its owner alone may read, as the programs make theirs: `station` says if it is otherwise."""
+    with open(path, "wb", opener=lambda it, how: os.open(it, how, 0o600)) as file:
+        file.write(given)
 
 
 def read(path):
@@ -495,7 +504,8 @@ def rows():
         if path.stem == "common":
             continue
         table = tomllib.loads(path.read_text())
-        whole = {name: {**common.get(name, {}), **table.get(name, {})} for name in ("names", "files", "tables", "forms")}
+        parts = ("names", "files", "tables", "forms")
+        whole = {name: {**common.get(name, {}), **table.get(name, {})} for name in parts}
         for key, fields in table["rows"].items():
             about, _ = whole_of(fields, whole["forms"])
             each = [list(cases(whole["tables"].get(it, it))) for it in about.get("each", [])]
@@ -541,7 +551,7 @@ def outcome(row):
 
 def main(texts):
     chosen = [row for row in ROWS.values() if all(it in row.id for it in texts)]
-    pool = concurrent.futures.ThreadPoolExecutor(os.cpu_count())
+    pool = concurrent.futures.ThreadPoolExecutor(len(os.sched_getaffinity(0)))
     try:
         outcomes = list(pool.map(outcome, chosen))
     except KeyboardInterrupt:
