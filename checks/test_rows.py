@@ -157,7 +157,8 @@ class Row:
             whole = whole[:start] + new + whole[start + len(new) :]
         if "length" in spec:
             whole = whole[: number("length")].ljust(number("length"), b"\0")
-        return whole[number("from") if "from" in spec else 0 : number("to") if "to" in spec else None]
+        whole = whole[number("from") if "from" in spec else 0 : number("to") if "to" in spec else None]
+        return framed(self.names.filled(spec["frame"]), whole) if "frame" in spec else whole
 
     def modelled(self, spec):
         """What a model prints, a program of checks/models; the files that its arguments name are made before."""
@@ -278,6 +279,8 @@ class Row:
         for step in self.steps:
             for case in cases(self.names.filled(step["for"])) if "for" in step else [{}]:
                 names = Names({**self.names, **case})
+                chosen = {name: names.filled(step[name]) for name in ("full", "closed") if name in step}
+                step = {name: it for name, it in {**step, **chosen}.items() if it != ""}
                 yield step, Names({**names, **{name: names.filled(it) for name, it in step.get("with", {}).items()}})
 
     def play(self):
@@ -474,6 +477,14 @@ def stored(kind, version, cells, puts):
         start += before + 32
         whole[start : start + len(new)] = new
     return bytes(whole)
+
+
+def framed(flags, data):
+    """A frame of these hexadecimal digits: a classic one, or one of CAN FD, of the next length that CAN FD has."""
+    if len(data) <= 16:
+        return b"#" + data
+    length = next(it for it in (12, 16, 20, 24, 32, 48, 64) if len(data) <= 2 * it)
+    return f"##{flags}".encode() + data.ljust(2 * length, b"0")
 
 
 def cases(table):
