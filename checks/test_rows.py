@@ -130,6 +130,9 @@ class Row:
             return "".join(filled).encode("latin-1")
         if "model" in spec:
             return self.modelled(spec)
+        if "numbered" in spec:
+            lines = self.bytes_of(spec["numbered"]).splitlines(True)
+            return b"".join(b"%d %s" % (at, it) for at, it in enumerate(lines, 1))
         if "wide" in spec:
             # a bus of nodes with so many routes each: the first sends what the others receive
             routes = [{"counted": f"${it}_route", "from": 1, "to": spec["wide"]} for it in ("sending", "receiving")]
@@ -151,6 +154,8 @@ class Row:
             whole = b"".join(line for line in whole.splitlines(True) if not line.startswith(b"#"))
         for old, new in spec.get("replace", {}).items():
             whole = whole.replace(self.bytes_of(old), self.bytes_of(new))
+        for old, new in spec.get("patterns", {}).items():
+            whole = re.sub(old.encode(), new.encode(), whole, flags=re.MULTILINE)
         changes = [it.split(":") for it in self.names.filled(spec.get("changes", "")).split()]
         for place, digits in [*spec.get("changed", {}).items(), *changes]:
             start, new = int(self.names.filled(place)), bytes.fromhex(self.names.filled(digits))
@@ -280,8 +285,8 @@ class Row:
             for case in cases(self.names.filled(step["for"])) if "for" in step else [{}]:
                 names = Names({**self.names, **case})
                 chosen = {name: names.filled(step[name]) for name in ("full", "closed") if name in step}
-                step = {name: it for name, it in {**step, **chosen}.items() if it != ""}
-                yield step, Names({**names, **{name: names.filled(it) for name, it in step.get("with", {}).items()}})
+                whole = {name: it for name, it in {**step, **chosen}.items() if it != ""}
+                yield whole, Names({**names, **{name: names.filled(it) for name, it in step.get("with", {}).items()}})
 
     def play(self):
         with tempfile.TemporaryDirectory(prefix="row-", dir=rooms()) as place:
