@@ -130,6 +130,9 @@ class Row:
             return "".join(filled).encode("latin-1")
         if "model" in spec:
             return self.modelled(spec)
+        if "numbered" in spec:
+            lines = self.bytes_of(spec["numbered"]).splitlines(True)
+            return b"".join(b"%d %s" % (at, it) for at, it in enumerate(lines, 1))
         if "wide" in spec:
             # a bus of nodes with so many routes each: the first sends what the others receive
             routes = [{"counted": f"${it}_route", "from": 1, "to": spec["wide"]} for it in ("sending", "receiving")]
@@ -151,13 +154,16 @@ class Row:
             whole = b"".join(line for line in whole.splitlines(True) if not line.startswith(b"#"))
         for old, new in spec.get("replace", {}).items():
             whole = whole.replace(self.bytes_of(old), self.bytes_of(new))
+        for old, new in spec.get("patterns", {}).items():
+            whole = re.sub(old.encode(), new.encode(), whole, flags=re.MULTILINE)
         changes = [it.split(":") for it in self.names.filled(spec.get("changes", "")).split()]
         for place, digits in [*spec.get("changed", {}).items(), *changes]:
             start, new = int(self.names.filled(place)), bytes.fromhex(self.names.filled(digits))
             whole = whole[:start] + new + whole[start + len(new) :]
         if "length" in spec:
             whole = whole[: number("length")].ljust(number("length"), b"\0")
-        return whole[number("from") if "from" in spec else 0 : number("to") if "to" in spec else None]
+        whole = whole[number("from") if "from" in spec else 0 : number("to") if "to" in spec else None]
+        return framed(self.names.filled(spec["frame"]), whole) if "frame" in spec else whole
 
     def modelled(self, spec):
         """What a model prints, a program of checks/models; the files that its arguments name are made before."""
@@ -278,7 +284,9 @@ class Row:
         for step in self.steps:
             for case in cases(self.names.filled(step["for"])) if "for" in step else [{}]:
                 names = Names({**self.names, **case})
-                yield step, Names({**names, **{name: names.filled(it) for name, it in step.get("with", {}).items()}})
+                chosen = {name: names.filled(step[name]) for name in ("full", "closed") if name in step}
+                whole = {name: it for name, it in {**step, **chosen}.items() if it != ""}
+                yield whole, Names({**names, **{name: names.filled(it) for name, it in step.get("with", {}).items()}})
 
     def play(self):
         with tempfile.TemporaryDirectory(prefix="row-", dir=rooms()) as place:
@@ -474,6 +482,14 @@ def stored(kind, version, cells, puts):
         start += before + 32
         whole[start : start + len(new)] = new
     return bytes(whole)
+
+
+def framed(flags, data):
+    """A frame of these hexadecimal digits: a classic one, or one of CAN FD, of the next length that CAN FD has."""
+    if len(data) <= 16:
+        return b"#" + data
+    length = next(it for it in (12, 16, 20, 24, 32, 48, 64) if len(data) <= 2 * it)
+    return f"##{flags}".encode() + data.ljust(2 * length, b"0")
 
 
 def cases(table):
