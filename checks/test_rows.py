@@ -284,9 +284,10 @@ class Row:
         for step in self.steps:
             for case in cases(self.names.filled(step["for"])) if "for" in step else [{}]:
                 names = Names({**self.names, **case})
-                chosen = {name: names.filled(step[name]) for name in ("full", "closed") if name in step}
-                whole = {name: it for name, it in {**step, **chosen}.items() if it != ""}
-                yield whole, Names({**names, **{name: names.filled(it) for name, it in step.get("with", {}).items()}})
+                # which stream is full or closed may be told by a case, and none by an empty word
+                streams = {name: names.filled(step[name]) for name in ("full", "closed") if name in step}
+                rest = {name: it for name, it in step.items() if name not in streams}
+                yield {**rest, **{name: it for name, it in streams.items() if it}}, Names({**names, **{name: names.filled(it) for name, it in step.get("with", {}).items()}})
 
     def play(self):
         with tempfile.TemporaryDirectory(prefix="row-", dir=rooms()) as place:
