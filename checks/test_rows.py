@@ -185,7 +185,7 @@ class Row:
         mapped, logged = (given if it == "-" else read(self.folder / it) for it in shlex.split(words))
         answers = self.bytes_of(step["answers"])
         totals, status = watch_model.totals(mapped, logged, answers)
-        assert str(status) == self.names.filled(str(step.get("status", status))), f"{self.id}: {status} is counted"
+        assert str(status) == self.names.filled(str(step.get("status", status))), f"{status} is counted"
         told = {"": answers + totals, " --json": watch_model.objects(answers + totals)}
         for option, text in told.items():
             times = (" --time", watch_model.timed(text, logged)) if "times" in step else ("", text)
@@ -275,7 +275,7 @@ class Row:
             name, size = shlex.split(self.names.filled(it))
             same.append(difference(f"size of {name}", size.encode(), str((folder / name).stat().st_size).encode()))
         found = "\n".join(filter(None, same))
-        assert not found, f"{self.id}: {' '.join(self.words(step))}\n{found}"
+        assert not found, f"{' '.join(self.words(step))}\n{found}"
         for name, spec in step.get("copies", {}).items():
             write(folder / self.names.filled(name), self.bytes_of(spec))
 
@@ -400,8 +400,8 @@ class Run:
             ended = self.started()
             seen = seen or ended == (7, b"", b"")
             right = [(0, wanted, b"")] + ([(7, b"", b"")] if at else [])
-            assert ended in right, f"{self.row.id}: allocation {at} is refused: status {ended[0]}"
-        assert seen, f"{self.row.id}: never ended with 7"
+            assert ended in right, f"allocation {at} is refused: status {ended[0]}"
+        assert seen, "never ended with 7"
 
 
 def feed(path, given):
@@ -442,7 +442,7 @@ def rooms():
     """The folder of all that is made here. However this process ends, another one that waits for its end removes it."""
     room = tempfile.mkdtemp(prefix="rows-")
     remover = 'cat; rm -rf "$0" || { sleep 5; rm -rf "$0"; }'
-    rooms.remover = subprocess.Popen(["sh", "-c", remover, room], stdin=subprocess.PIPE, start_new_session=True)
+    rooms.remover = subprocess.Popen(["/bin/sh", "-c", remover, room], stdin=subprocess.PIPE, start_new_session=True)
     return room
 
 
@@ -568,6 +568,11 @@ def outcome(row):
 
 def main(texts):
     chosen = [row for row in ROWS.values() if all(it in row.id for it in texts)]
+    try:
+        rooms()
+    except OSError as fault:
+        print(f"FAILED: {fault}\nrows: 0 passed, 1 failed")
+        return 1
     pool = concurrent.futures.ThreadPoolExecutor(len(os.sched_getaffinity(0)))
     try:
         outcomes = list(pool.map(outcome, chosen))
