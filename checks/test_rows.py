@@ -2,10 +2,10 @@
 """Runs the rows of checks/rows/*.toml over the built programs (crates/NAME/out/NAME), each in a folder of its own.
 
     python3 -m pytest checks/test_rows.py -n auto -k "gateway and stop"
-    python3 checks/test_rows.py gateway stop
+    python3 checks/test_rows.py [--try] gateway stop
 
-The second form needs no pytest: it runs the rows whose ids have each of these texts. checks/rows/README.md has the form
-of a row. A row passes if each command's output, standard error, status and files are exactly those that it names.
+The second form needs no pytest: it runs the rows whose ids have each of these texts, with `--try` over programs that
+bin/try builds, which aren't proved. checks/rows/README.md has the form of a row. A row passes if each command's output, standard error, status and files are exactly those that it names.
 """
 import concurrent.futures
 import contextlib
@@ -311,13 +311,15 @@ class Run:
         self.row, self.step, self.folder, self.room, self.given = row, step, folder, room, given
         words = row.words(step)
         last = [row.bytes_of(step["last_word"])] if "last_word" in step else []
-        program = os.fsencode(TOP / "crates" / words[0] / "out" / words[0])
+        program = os.fsencode(program_of(words[0]))
         self.command = [program, *(it.encode("latin-1") for it in words[1:]), *last]
         self.env = {**os.environ, **dict(row.names.filled(it).split("=", 1) for it in step.get("env", []))}
         if "env" in step:
             self.env["LD_PRELOAD"] = shim("file_record" if "FILE_NAME" in self.env else "failing_file")
         if not os.path.exists(program):
-            raise FileNotFoundError(f"{words[0]} isn't built: bin/{words[0]}")
+            raise FileNotFoundError(f"{words[0]} isn't built: bin/{words[0]} proves and builds it; or take --try")
+        if OVER_TRIED and "refuses_allocations" in step:
+            raise Missing(f"{row.id} (the proved program)")
         if "through" in step:
             through = shlex.split(row.names.filled(step["through"]))
             tried = {"cwd": folder, "stdout": subprocess.DEVNULL, "stderr": subprocess.DEVNULL}
@@ -446,6 +448,24 @@ def rooms():
     return room
 
 
+# whether the rows run over programs that aren't proved
+OVER_TRIED = False
+
+
+@functools.cache
+def tried(name):
+    """The program as bin/try builds and keeps it."""
+    subprocess.run([TOP / "bin" / "try", name], stdin=subprocess.DEVNULL, capture_output=True)
+    return max(TOP.glob(f"crates/{name}/out/tried/*"), key=os.path.getmtime, default="")
+
+
+def program_of(name):
+    if not OVER_TRIED:
+        return TOP / "crates" / name / "out" / name
+    with BUILDING:
+        return tried(name)
+
+
 def shim(name):
     """The shared object of checks/shims/NAME.c, built once a process."""
     compiler = shutil.which(os.environ.get("CC", "cc"))
@@ -567,6 +587,10 @@ def outcome(row):
 
 
 def main(texts):
+    global OVER_TRIED
+    if texts[:1] == ["--try"]:
+        OVER_TRIED, texts = True, texts[1:]
+        os.environ["ASAN_OPTIONS"] = "verify_asan_link_order=0"
     chosen = [row for row in ROWS.values() if all(it in row.id for it in texts)]
     try:
         rooms()
