@@ -1,9 +1,11 @@
-"""The picture of `chart` a second time: reads a bus file, a script and the lines of its replay, and prints the run's sequence chart as an SVG.
+"""The picture of `chart`, drawn by another program: the run's sequence chart as an SVG.
+
+It reads a bus file, a script and the lines of its replay, which it takes as they are. Every number in the picture is an
+integer formula of a node (from 0), a row (from 1) and counts of letters. Every text in it is made of letters, digits,
+space, `.`, `,`, `-` and `_`, so that nothing is to be escaped. It looks for no fault of its inputs. It made the charts
+of examples/. checks/chart compares with it, byte for byte.
 
     chart_design.py BUS SCRIPT LINES
-
-Every number in the picture is an integer formula of a node (from 0), a row (from 1) and counts of letters. Every text in it is made of
-letters, digits, space, `.`, `,`, `-` and `_`, so that nothing is to be escaped.
 """
 import sys
 import tomllib

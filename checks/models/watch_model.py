@@ -1,8 +1,10 @@
 #!/usr/bin/env python3
-"""What `watch` prints behind its answers, and as objects of JSON, and with times, by another program.
+"""What `watch` prints after its answers, as objects of JSON, and with times, computed by another program.
 
-Nothing is judged here: the frames are counted by the answers that are given, and the other lines by the forms of
-`candump -L`.
+Nothing is judged here: the answers are given. It counts the frames of each line of the map by these answers, and the
+other lines of a log by the forms of `candump -L` (docs/formats.md). Of these it makes the totals and the status. It
+writes answers and totals again as objects, and puts the time and the channel before each answer. It looks for no fault
+of the map. checks/test_rows.py takes it as a module, for the rows of checks/rows/watch.toml that have `judge`.
 """
 import json
 import re

@@ -1,6 +1,10 @@
 #!/usr/bin/env python3
-"""What `bus_replay replay B F` prints, computed apart from it: from the layouts and rules of docs/formats.md, over disks of plain bytes,
-with the AES and the CMAC of the Python package `cryptography`. It looks for no fault of the bus file or the script, and is slow.
+"""What `bus_replay replay B F` prints, computed by another program.
+
+It follows the layouts and rules of docs/formats.md over disks of plain bytes. AES and CMAC are those of the Python
+package `cryptography`. It has no code in common with the program. It looks for no fault of the bus file or the script,
+and is slow. The rows of checks/rows/bus_replay_runs.toml compare with it, and so do the lives of three programs and the
+drawn calls of `station`.
 
 bus_model.py B F             prints the lines of the script F over the bus B
 bus_model.py --make N SEED B prints a script of N events drawn for the bus B

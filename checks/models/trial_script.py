@@ -1,5 +1,9 @@
 #!/usr/bin/env python3
-"""Writes the script of a trial over a bus file, from the rules of docs/formats.md and from nothing of the programs.
+"""The events of `bus_replay trial`, drawn by another program, and the summary of a run.
+
+It follows the rules of docs/formats.md: the generator of numbers, what each draw means, and what is counted. It knows
+nothing of the programs and looks for no fault. A replay of the events it prints (by bus_model.py, or by the program)
+gives the lines that it sums up. The rows of checks/rows/bus_replay_runs.toml and checks/chart take it.
 
 trial_script.py BUS COUNT SEED: the canonical lines of the events.
 trial_script.py summary: reads the lines of a replay and writes their summary.

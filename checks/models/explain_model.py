@@ -1,8 +1,15 @@
 #!/usr/bin/env python3
-"""explain_model.py MAP LOG: what `explain` prints, and its status in the last line; by the CMAC of Python's `cryptography`.
+"""What `explain` prints, by the CMAC of Python's `cryptography`; and logs.
 
-It looks for no fault of the map. As a module it makes PDUs, too (checks/explain_rows, checks/explain_trial).
+explain_model.py MAP LOG   what `explain MAP LOG` prints. It looks for no fault of the map
+explain_model.py --log     a log of the frames that standard input names, a line each:
+                           CAN KEY ID PAYLOAD FRESH [HOW..]. FRESH is a sum such as 70000+2. HOW is swap_id,
+                           swap_freshness or last (how the PDU is made), bit=19 (inverted), to=9 (cut short),
+                           more=3 (bytes behind it), times=2 or classic. A line that begins with = is copied
+
+checks/drawn imports it.
 """
+import pathlib
 import re
 import sys
 
@@ -234,7 +241,24 @@ def filled(map_text, log_text, first=1, last=1 << 32):
     return text, status
 
 
+def logged(text):
+    """The lines of a log for a line that names a frame."""
+    can, key, data_id, payload, fresh, *hows = text.split()
+    how = dict(it.partition("=")[::2] for it in hows)
+    made = {name: True for name in ("swap_id", "swap_freshness", "last") if name in how}
+    data = pdu(bytes.fromhex(key), int(data_id, 16), bytes.fromhex(payload), sum(int(it, 0) for it in fresh.split("+")), **made)
+    data = inverted(data, int(how["bit"])) if "bit" in how else data
+    data = data[: int(how.get("to", 64))] + bytes(int(how.get("more", 0)))
+    return f"(1.0) can0 {can}{'#' if 'classic' in how else '##1'}{data.hex()}\n" * int(how.get("times", 1))
+
+
+def main(words):
+    if words == ["--log"]:
+        for line in sys.stdin.read().splitlines():
+            sys.stdout.write(line[1:] + "\n" if line.startswith("=") else logged(line))
+    else:
+        sys.stdout.buffer.write(explained(*(pathlib.Path(it).read_bytes() for it in words))[0])
+
+
 if __name__ == "__main__":
-    with open(sys.argv[1], "rb") as map_file, open(sys.argv[2], "rb") as log_file:
-        printed, status = explained(map_file.read(), log_file.read())
-    sys.stdout.buffer.write(printed + b"%d\n" % status)
+    main(sys.argv[1:])
