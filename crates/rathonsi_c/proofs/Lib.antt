@@ -9,6 +9,7 @@ pub mod DiskLaws
 pub mod SyncLaws
 pub mod PieceLaws
 pub mod StepLaws
+pub mod OpenedLaws
 pub mod GrowthLaws
 pub mod GrowthCalls
 pub mod GrowthAll
