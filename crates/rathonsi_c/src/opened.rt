@@ -1,5 +1,5 @@
 //! Which routes are open. A check value stands beside `opened`, over what an open route may not change but by a call.
-ghost use Rattle.std.specs.Prelude.{◌≡◌, ◌↔◌, ◌+◌, ◌%◌, ◌<◌, ℕ, IsTrue};
+ghost use Rattle.std.specs.Prelude.{◌≡◌, ◌↔◌, ◌^◌, ◌<◌, IsTrue};
 ghost use Rattle.rathonsi_c.specs.Routes.{IsOpened, at_counter, check_number, check_of};
 
 use crate::route::RathonsiRoute;
@@ -12,9 +12,13 @@ fn number_of(id: u16, direction: u8, cell: u16, counter: u64) -> u32
     ensures value { result ≡ check_number id direction cell counter }
     ensures fits { result < 2 ^ 24 }
 {
-    let who = (u64::from(direction) * 65536 + u64::from(cell)) * 65536 + u64::from(id);
-    let rest = (counter % CHECK_PRIME + 3 * who) % CHECK_PRIME;
-    rest as u32 + 1
+    // 2^24 is the prime and 3: numbers of 32 bits are enough.
+    let low = (counter % 16_777_216) as u32;
+    let middle = (counter / 16_777_216 % 16_777_216) as u32;
+    let high = (counter / 281_474_976_710_656) as u32;
+    let near = u32::from(cell % 256) * 65536 + u32::from(id);
+    let far = u32::from(direction) * 256 + u32::from(cell / 256);
+    (low + 3 * (middle + near) + 9 * (high + far)) % 16_777_213 + 1
 }
 
 // The check value of an open route with these.
