@@ -97,6 +97,7 @@ pub struct Case<'a> {
 
 impl<'a> Model for Case<'a> {
     ghost use Rattle.std.specs.Prelude.{◌≡◌, ◌≤◌, length};
+    ghost use Rattle.secured_pdu.specs.declared.frame.TheConstants.{WIDEST_WINDOW};
     ghost use Rattle.explain_commands.specs.Reasons.{Failing};
 
     ghost Value = { Failing };
