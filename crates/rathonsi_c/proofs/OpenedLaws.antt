@@ -27,4 +27,5 @@ pub cell_apart : (i d l c l' : ℕ) → l < 2 ^ 16 → l' < 2 ^ 16 → check_of 
 cell_apart i d l c l' x y e = omega (arith, same_check i d l c i d l' c e, x, y)
 
 pub no_zeros : (i d l c : ℕ) → check_of i d l c ≢ replicate 3 0
+unfolding bytes_of
 no_zeros i d l c e = absurd (omega (arith, same_number 3 (check_number i d l c) 0 (check_below i d l c) (omega arith) e))
