@@ -10,7 +10,7 @@ use Rattle.rathonsi_c.specs.declared.route.RathonsiRoute.{RathonsiRoute}
 use Rattle.rathonsi_c.specs.Images.{ImageBound}
 use Rattle.rathonsi_c.specs.Routes.{InRanges, RouteAdvances}
 use Rattle.rathonsi_c.specs.Lives.{Memory, Deed, sends, accepts, takes, opens, sets, reserves, loads, drops, finishes, powers_up, SameRoute, OpensFilled, ChangesRoute, PlanDone, DoesDeed, Lives, PoweredUp}
-use Rattle.rathonsi_c.specs.Freshness.{GoesOn, WritesWhenAsked, AskedWrites}
+use Rattle.rathonsi_c.specs.Freshness.{WritesWhenAsked, AskedWrites}
 use Rattle.rathonsi_c.proofs.ImageLaws.{bound_once, same_direction}
 use Rattle.rathonsi_c.proofs.LivesLaws.{AtLeast, Holds, Sound, after-finish, after-cut, bound_moves, moves, sound-then, first_sound}
 use Rattle.rathonsi_c.proofs.CandidateLaws.{reserved_bound}
