@@ -75,10 +75,9 @@ same_from_answer_input q p counter other hq hp fits fits' e =
     let answerers = parts_same (upto_asker q) (upto_asker p) (bytes_of 4 q.answerer) (bytes_of 4 p.answerer) (length-asker q ∙ sym (length-asker p)) nonces.0 in
     let askers = parts_same (upto_direction q) (upto_direction p) (bytes_of 4 q.asker) (bytes_of 4 p.asker) (length-direction q ∙ sym (length-direction p)) answerers.0 in
     let ways = parts_same (upto_id q) (upto_id p) (q.direction ∷ []) (p.direction ∷ []) (length-id q ∙ sym (length-id p)) askers.0 in
-    let ids = append_cancel_left label (bytes_of 2 q.id) (bytes_of 2 p.id) ways.0 in
-    (
+    let ids = append_cancel_left label (bytes_of 2 q.id) (bytes_of 2 p.id) ways.0 in (
       same_question q p (same_number 2 q.id p.id hq.id_fits hp.id_fits ids) (ap (λ (l : List ℕ). get_or l 0 0) ways.1) (same_number 4 q.asker p.asker hq.asker_fits hp.asker_fits askers.1)
-        (same_number 4 q.answerer p.answerer hq.answerer_fits hp.answerer_fits answerers.1) nonces.1,
+          (same_number 4 q.answerer p.answerer hq.answerer_fits hp.answerer_fits answerers.1) nonces.1,
       same_number 8 counter other fits fits' ends.1,
     )
 

@@ -47,8 +47,9 @@ abbrev pub check_of : ℕ → ℕ → ℕ → ℕ → List ℕ
 check_of id direction cell counter = bytes_of 3 (check_number id direction cell counter)
 
 -- `rathonsi_route_open` opened the route, and its Data ID, direction, cell and counter are as the calls left them
-abbrev pub IsOpened : RathonsiRoute → Type 0
-IsOpened r = (r.opened ≡ 1) × (r.check ≡ check_of r.data_id r.direction r.cell r.counter)
+pub record IsOpened (r : RathonsiRoute) : Type 0 where
+  pub opened_is : r.opened ≡ 1
+  pub check_is : r.check ≡ check_of r.data_id r.direction r.cell r.counter
 
 -- the caller says that another module makes and checks the authenticators of the route's PDUs
 abbrev pub IsFreshnessOnly : RathonsiRoute → Type 0

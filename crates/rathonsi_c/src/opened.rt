@@ -18,7 +18,7 @@ fn number_of(id: u16, direction: u8, cell: u16, counter: u64) -> u32
     let high = (counter / 281_474_976_710_656) as u32;
     let near = u32::from(cell % 256) * 65536 + u32::from(id);
     let far = u32::from(direction) * 256 + u32::from(cell / 256);
-    (low + 3 * (middle + near) + 9 * (high + far)) % 16_777_213 + 1
+    (low + 3 * (middle + near) + 9 * (high + far)) % CHECK_PRIME as u32 + 1
 }
 
 // The check value of an open route with these.

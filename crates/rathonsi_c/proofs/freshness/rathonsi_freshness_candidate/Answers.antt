@@ -1,5 +1,4 @@
-use Rattle.std.proofs.Common.{ℤ, ℕ, inr, refl, sym, subst, FitsSigned, w32, rules}
-use Rattle.std.proofs.lemmas.Int.{to_z-of_z}
+use Rattle.std.proofs.Common.{ℕ, inr, refl, rules, sym, subst, FitsSigned, w32}
 use Rattle.freshness_routes.specs.declared.routes.Direction.TheVariants.{Receives}
 use Rattle.rathonsi_c.specs.declared.TheConstants.{FRESHNESS_FAILURE, RESERVE}
 use Rattle.rathonsi_c.specs.Causes.{IfCause, IsDone}
@@ -7,6 +6,7 @@ use Rattle.rathonsi_c.specs.Routes.{status_alone}
 use Rattle.rathonsi_c.specs.Freshness.{AheadWithBits, TakesBits, AheadOfBound, CandidateAnswers}
 use Rattle.rathonsi_c.proofs.BoundLaws.{bounded_rest, weaker_rest}
 use Rattle.rathonsi_c.proofs.FreshnessLaws.{candidate_covered}
+use Rattle.std.proofs.lemmas.Int.{to_z-of_z}
 use Rattle.rathonsi_c.proofs.freshness.rathonsi_freshness_candidate.Goals as goal
 
 pub returns-else-found-bound-clause-answer : goal.returns-else-found-bound-clause-answer
@@ -32,7 +32,6 @@ returns-else-found-bound-clause-answer c =
 pub returns-in-Err-clause-answer : goal.returns-in-Err-clause-answer
 returns-in-Err-clause-answer c =
     let r = c.args.route.now in
-    let image = c.args.image.now in
     let bits = c.args.bits in
     let truncated = c.args.truncated in
     let status = c.in-Err.status in
@@ -42,6 +41,6 @@ returns-in-Err-clause-answer c =
       (λ other. other c.if-route-ne1.false),
       inr (
         (λ other. other takes),
-        weaker_rest status_alone r Receives image (λ (answer : ℤ). ⊥) (IfCause ((freshness : ℕ) → ¬ AheadWithBits r.counter r.window bits truncated freshness) FRESHNESS_FAILURE (IfCause (AheadOfBound r image bits truncated) RESERVE IsDone)) status (λ none. absurd none) c.in-Err.ensures.refused,
+        weaker_rest status_alone r Receives c.args.image.now (λ _. ⊥) (IfCause ((freshness : ℕ) → ¬ AheadWithBits r.counter r.window bits truncated freshness) FRESHNESS_FAILURE (IfCause (AheadOfBound r c.args.image.now bits truncated) RESERVE IsDone)) status (λ says. absurd says) c.in-Err.ensures.refused,
       ),
     ))

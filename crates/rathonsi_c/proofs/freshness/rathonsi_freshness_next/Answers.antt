@@ -1,11 +1,11 @@
-use Rattle.std.proofs.Common.{ℤ, ◌≢◌, inr, refl, sym, subst, FitsSigned, w32, arith, rules}
+use Rattle.std.proofs.Common.{inr, refl, arith, sym, subst, FitsSigned, w32, rules, ℤ, ◌≢◌}
+use Rattle.rathonsi_c.specs.Causes.{IsDone}
+use Rattle.rathonsi_c.proofs.BoundLaws.{next_rest, weaker_rest}
 use Rattle.std.proofs.lemmas.Int.{to_z-of_z}
 use Rattle.freshness_routes.specs.declared.routes.Direction.TheVariants.{Sends}
 use Rattle.rathonsi_c.specs.declared.TheConstants.{OK}
-use Rattle.rathonsi_c.specs.Causes.{IsDone}
 use Rattle.rathonsi_c.specs.Routes.{CounterAnswers, status_alone}
 use Rattle.rathonsi_c.specs.Freshness.{NextAnswers}
-use Rattle.rathonsi_c.proofs.BoundLaws.{next_rest, weaker_rest}
 use Rattle.rathonsi_c.proofs.freshness.rathonsi_freshness_next.Goals as goal
 
 pub returns-in-Ok-clause-answer : goal.returns-in-Ok-clause-answer
