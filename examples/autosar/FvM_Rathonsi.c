@@ -552,7 +552,7 @@ Std_ReturnType FvM_MakeStore(void)
     const uint32 size = RATHONSI_STORE_SIZE(FVM_CELLS);
     int32_t status = rathonsi_store_make(FvM_Image, size);
     /* The room after the store is erased: later software adds cells there. */
-    (void)memset(&FvM_Image[size], 0xff, sizeof FvM_Image - size);
+    (void)memset(&FvM_Image[size], 0xff, (sizeof FvM_Image) - size);
     for (uint16 cell = 0u; (cell < FVM_CELLS) && (status == RATHONSI_OK); cell++) {
         const RathonsiRoute route = route_of_cell(cell);
         status = rathonsi_route_make(&route, 0u, FvM_Image, size);
