@@ -53,6 +53,8 @@
  *      for the same PDU gets this answer, too: there is one candidate.
  *   4. The authenticator was found right (verification status callout): call
  *      rathonsi_freshness_accept with that freshness. It was found wrong: call nothing.
+ *   5. PDUs are refused one after another: the receiver may be more than its window behind. It gets
+ *      back by rathonsi_sync_take, under the key in the route's slot.
  *   No PDU waits if the caller reserves ahead, so that the bound is at least counter + window. The
  *   price comes with a power cut: the receiver then refuses what is reserved and not accepted.
  */
