@@ -1,12 +1,11 @@
 -- What the check value of an open route tells apart.
-use Rattle.std.proofs.Common.{◌≡◌, ◌≢◌, ℕ, ◌+◌, ◌*◌, ◌%◌, ◌^◌, ◌<◌, ◌≤◌, List, sym, ap, ◌∙◌, arith}
+use Rattle.std.proofs.Common.{◌≡◌, ◌≢◌, ℕ, ◌+◌, ◌*◌, ◌%◌, ◌^◌, ◌<◌, arith}
 use Rattle.std.specs.Prelude.{replicate}
 use Rattle.std.proofs.lemmas.Nat.{mod_below}
 use Rattle.basics.specs.Numbers.{bytes_of}
 use Rattle.basics.proofs.CallerLemmas.{same_number}
 use Rattle.rathonsi_c.specs.declared.opened.TheConstants.{CHECK_PRIME}
-use Rattle.rathonsi_c.specs.declared.route.RathonsiRoute.{RathonsiRoute}
-use Rattle.rathonsi_c.specs.Routes.{IsOpened, check_number, check_of}
+use Rattle.rathonsi_c.specs.Routes.{check_number, check_of}
 
 pub check_below : (id direction cell counter : ℕ) → check_number id direction cell counter < 256 ^ 3
 check_below id direction cell counter = omega (arith, mod_below (counter + 3 * ((direction * 2 ^ 16 + cell) * 2 ^ 16 + id)) CHECK_PRIME (omega arith))

@@ -1,2 +1,0 @@
-pub mod AnsweringLaws
-pub mod CallerLemmas
