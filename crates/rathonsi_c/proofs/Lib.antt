@@ -21,6 +21,7 @@ pub mod InputLaws
 pub mod FlashLaws
 pub mod FreshnessLaws
 pub mod CandidateLaws
+pub mod WriteLaws
 pub mod SlotMacLaws
 pub mod StaleLaws
 pub mod StalePlans

@@ -12,9 +12,13 @@ fn number_of(id: u16, direction: u8, cell: u16, counter: u64) -> u32
     ensures value { result ≡ check_number id direction cell counter }
     ensures fits { result < 2 ^ 24 }
 {
-    let who = (u64::from(direction) * 65536 + u64::from(cell)) * 65536 + u64::from(id);
-    let rest = (counter % CHECK_PRIME + 3 * who) % CHECK_PRIME;
-    rest as u32 + 1
+    // 2^24 is the prime and 3: numbers of 32 bits are enough.
+    let low = (counter % 16_777_216) as u32;
+    let middle = (counter / 16_777_216 % 16_777_216) as u32;
+    let high = (counter / 281_474_976_710_656) as u32;
+    let near = u32::from(cell % 256) * 65536 + u32::from(id);
+    let far = u32::from(direction) * 256 + u32::from(cell / 256);
+    (low + 3 * (middle + near) + 9 * (high + far)) % CHECK_PRIME as u32 + 1
 }
 
 // The check value of an open route with these.
