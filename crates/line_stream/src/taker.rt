@@ -42,6 +42,7 @@ pub trait LineTaker {
 
     /// All lines were taken that are complete with what came of the log so far. The log is read next.
     fn pause(&mut self) -> Result<(), Self::End>
+        requires { HasLineRoom ready self.old 0 0 }
         ensures ready { OnOk result (ready self.new 8193 4097) }
         ensures borrows { borrows self.new ≡ borrows self.old }
         ensures pauses { pauses (state self.old) (state self.new) result };

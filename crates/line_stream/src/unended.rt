@@ -54,6 +54,7 @@ impl UnendedLine {
         requires short { length piece.now ≤ 4096 }
         requires line { length self.old.line ≤ 4097 }
         requires ready { A.ready taker.old 8193 4097 }
+        ensures room { OnOk result (HasLineRoom A.ready taker.new 0 0) }
         ensures borrows { A.borrows taker.new ≡ A.borrows taker.old }
         ensures takes { TakesBytes A.takes self.old (A.state taker.old) piece.now self.new (A.state taker.new) result }
     {

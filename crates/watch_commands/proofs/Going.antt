@@ -1,13 +1,12 @@
--- The state goes on by more bytes, and by the end of a line.
-use Rattle.std.proofs.Common.{◌≡◌, ℕ, zero, suc, ◌+◌, ◌<◌, ◌≤◌, ◌==◌, ◌&&◌, ◌||◌, Bool, true, false, List, [], ◌∷◌, ◌++◌, length, map, take, set, refl, sym, ◌∙◌, ap, subst, arith, append-nil, append_assoc, inl, inr, length-append, get_or-set_same, get_or-set_other}
-use Rattle.std.specs.Prelude.{if◌then◌else◌, nat_lt, slice_index, filter, replicate, Option, None, Some, IfSome, option_map, unwrap_or}
+-- The state goes on by a line.
+use Rattle.std.proofs.Common.{◌≡◌, ℕ, zero, suc, ◌+◌, ◌<◌, ◌≤◌, ◌==◌, ◌&&◌, ◌||◌, Bool, true, false, List, [], ◌∷◌, ◌++◌, length, map, take, set, refl, sym, ◌∙◌, ap, subst, arith, append-nil, append_assoc, inl, inr, length-append, get_or-set_same, get_or-set_other, length-set}
+use Rattle.std.specs.Prelude.{if◌then◌else◌, nat_lt, slice_index, filter, Option, None, Some, IfSome, option_map, unwrap_or}
 use Rattle.std.specs.List.{flat_map, list_all, range_with_len, slice_get}
 use Rattle.std.proofs.lemmas.Bool.Decides.{nat_tests}
 use Rattle.std.proofs.lemmas.Grind.{flat_map-append}
-use Rattle.std.proofs.lemmas.List.{map-append, length-map, get_or-replicate}
+use Rattle.std.proofs.lemmas.List.{map-append, length-map, get_or-replicate, length-replicate}
 use Rattle.std.proofs.lemmas.List.Folds.{flat_map-map, list_all-map}
 use Rattle.std.proofs.lemmas.Option.{slice_get_within}
-use Rattle.std.proofs.Math.Seq.{take-append_seam}
 use Rattle.std.proofs.lemmas.List.Elements.{filter-append}
 use Rattle.basics.specs.FaultCount.{counted}
 use Rattle.secured_pdu.specs.Verdict.{Accepted, FreshnessFailure, VerificationFailure}
@@ -21,48 +20,14 @@ use Rattle.watch_commands.specs.declared.counts.WatchCounts.{WatchCounts}
 use Rattle.watch_commands.specs.WatchedMaps.{WatchedMap}
 use Rattle.can_logs.specs.Findings.{Finding, other, too_short, verdict, tally_of, finding_accepts, first_counters, counter_of_place, AuditsLine, is_accepted_tally}
 use Rattle.can_logs.proofs.CallerLemmas.{AuditsLine-same}
-use Rattle.line_stream.proofs.CallerLemmas.{HasNoFeed, one_line, cut_more, take_twice, kept_whole, kept_long, one_more_line}
-use Rattle.line_stream.specs.Pieces.{line_limit, log_lines, in_64_bits}
-use Rattle.watch_commands.specs.Watching.{Found, stamped, findings_of, WatchesLine, WatchesEach, none, more, FindsAll, told_text, found_text}
+use Rattle.line_stream.proofs.CallerLemmas.{kept_whole, kept_long}
+use Rattle.line_stream.specs.Pieces.{line_limit, in_64_bits}
+use Rattle.watch_commands.specs.Watching.{Found, stamped, findings_of, WatchesLine, none, more, told_text, found_text}
 use Rattle.watch_commands.specs.Stamps.{stamp_of}
 use Rattle.watch_commands.proofs.Stamping.{findings_more, stamped_kept}
 use Rattle.watch_commands.specs.WatchTotals.{is_failed_tally, is_accepted_at, is_failed_at, is_other_of, is_unmapped_line, is_other_frame, is_malformed_line, count_of, counted_of, counts_of, counts_text, total_line_at, map_places, LineTotals, totals_of, totals_text_of, totals_text, is_heard_at, are_heard, watch_status}
-use Rattle.watch_commands.specs.States.{WatchState, Watched, FindsMore, JudgesLine, IsPlaced, tally_found, counts_as, counts_after, accepted_place, failed_place, raised_at, totals_in, end_text, end_status}
-
--- before the log
-pub Watched-none : (state : WatchState) → state.line ≡ [] → state.lines ≡ 0 → state.counters ≡ first_counters state.mapping.lines
-    → state.accepted ≡ replicate (length state.mapping.lines) 0 → state.failed ≡ replicate (length state.mapping.lines) 0
-    → state.counts ≡ counts_of [] → Watched state [] []
-Watched-none state line lines counters accepted failed counts = record {
-  lines = [];
-  rest = [];
-  cut = refl;
-  finds = none;
-  line_is = line;
-  lines_are = lines;
-  as_many = ap length counters ∙ length-map state.mapping.lines (λ (l : MapLine). l.counter);
-  counters_are = λ place inside. ap (λ cs. slice_index cs place) counters;
-  accepted_are = λ place inside. ap (λ ns. slice_index ns place) accepted ∙ get_or-replicate (length state.mapping.lines) place 0 0 inside;
-  failed_are = λ place inside. ap (λ ns. slice_index ns place) failed ∙ get_or-replicate (length state.mapping.lines) place 0 0 inside;
-  counts_are = counts;
-}
-
--- bytes without a line feed are added to the line, as far as it is kept
-pub Watched-keeps : (old : WatchState) (bytes piece : List ℕ) (findings : List Found) → HasNoFeed piece → Watched old bytes findings
-    → Watched (record old { line = take (line_limit + 1) (old.line ++ piece) }) (bytes ++ piece) findings
-Watched-keeps old bytes piece findings free w = record {
-  lines = w.lines;
-  rest = w.rest ++ piece;
-  cut = cut_more bytes piece w.lines w.rest piece [] w.cut (one_line piece free);
-  finds = w.finds;
-  line_is = ap (λ l. take (line_limit + 1) (l ++ piece)) w.line_is ∙ take_twice (line_limit + 1) w.rest piece;
-  lines_are = w.lines_are;
-  as_many = w.as_many;
-  counters_are = w.counters_are;
-  accepted_are = w.accepted_are;
-  failed_are = w.failed_are;
-  counts_are = w.counts_are;
-}
+use Rattle.line_stream.specs.Streams.{kept_of}
+use Rattle.watch_commands.specs.States.{WatchState, IsFreshWatch, Watched, JudgesLine, WatchesNext, IsPlaced, tally_found, counts_as, counts_after, accepted_place, failed_place, raised_at, totals_in, end_text, end_status}
 
 -- ---- counting
 
@@ -158,10 +123,11 @@ placed_found mapping c number bytes found (inr (inr (few, kept, (f, is, finds)))
     (placed_line mapping c (record { number = number; words = words_of bytes }) f finds)
 
 -- a line counts as something at a place of the map
-pub JudgesLine-placed : (old judged : WatchState) (counts : Option FrameTally) → JudgesLine old judged counts → IfSome counts (IsPlaced (length old.mapping.lines))
-JudgesLine-placed old judged counts (found, finds, judged_is, as_many, counts_is, counters) =
+pub JudgesLine-placed : (old judged : WatchState) (number : ℕ) (line : List ℕ) (counts : Option FrameTally) → JudgesLine old number line judged counts
+    → IfSome counts (IsPlaced (length old.mapping.lines))
+JudgesLine-placed old judged number line counts (found, finds, judged_is, as_many, counts_is, counters) =
     subst (λ (t : Option FrameTally). IfSome t (IsPlaced (length old.mapping.lines))) (sym counts_is)
-    (placed_found old.mapping.lines (slice_index old.counters) old.lines old.line found finds)
+    (placed_found old.mapping.lines (slice_index old.counters) number line found finds)
 
 -- ---- the counters
 
@@ -198,104 +164,13 @@ WatchesLine-kept mapping c number line rest found is (inr (inr (few, kept, finds
     let whole : line ≡ rest = is ∙ kept_whole line_limit rest (subst (λ l. length l ≤ line_limit) is few) in
     subst (λ l. WatchesLine mapping c number l found) whole (inr (inr (few, kept, finds)))
 
-next_number : (lines n : ℕ) → lines ≡ in_64_bits n → counted lines ≡ in_64_bits (n + 1)
-next_number lines n is = omega (arith, is)
-
--- the state after the end of a line
-abbrev pub ended : WatchState → WatchState → Option FrameTally → WatchState
-ended old judged counts = record {
-  mapping = old.mapping;
-  counters = judged.counters;
-  accepted = raised_at (accepted_place counts) old.accepted;
-  failed = raised_at (failed_place counts) old.failed;
-  line = [];
-  lines = counted old.lines;
-  counts = counts_after counts old.counts;
-  text = judged.text;
-}
-
-pub Watched-ends : (old judged : WatchState) (counts : Option FrameTally) → length old.accepted ≡ length old.mapping.lines → length old.failed ≡ length old.mapping.lines
-    → JudgesLine (record old { lines = counted old.lines }) judged counts → FindsMore old (ended old judged counts) (10 ∷ [])
-Watched-ends old judged counts all_accepted all_failed (found, finds, judged_is, as_many, counts_is, counters) = λ bytes so_far w.
-    let mapping : List MapLine = old.mapping.lines in
-    let findings : List Finding = findings_of so_far in
-    let all_are : findings_of (so_far ++ stamped w.rest found) ≡ findings ++ found = findings_more so_far w.rest found in
-    let numbered : counted old.lines ≡ in_64_bits (length w.lines + 1) = next_number old.lines (length w.lines) w.lines_are in
-    let c : ℕ → ℕ = counter_of_place mapping findings in
-    let here : WatchesLine mapping c (in_64_bits (length w.lines + 1)) w.rest found =
-    subst (λ n. WatchesLine mapping c n w.rest found) numbered
-    (WatchesLine-kept mapping c (counted old.lines) old.line w.rest found w.line_is
-    (WatchesLine-same mapping (slice_index old.counters) c (counted old.lines) old.line found w.counters_are finds)) in
-    let few : AtMostOne found = at_most_one mapping c (in_64_bits (length w.lines + 1)) w.rest found here in
-    let placed : IfSome counts (IsPlaced (length mapping)) =
-    JudgesLine-placed (record old { lines = counted old.lines }) judged counts (found, finds, judged_is, as_many, counts_is, counters) in
-    let counted_as : (passes : FrameTally → Bool) (count : ℕ) → count ≡ counted_of passes findings → counts_as passes counts count ≡ counted_of passes (findings_of (so_far ++ stamped w.rest found)) =
-    λ passes count is.
-    ap (λ t. counts_as passes t count) counts_is ∙ ap (counts_as passes (tally_found found)) is ∙ counted_found passes findings found few
-    ∙ ap (λ (fs : List Finding). counted_of passes fs) (sym all_are) in (
-      stamped w.rest found,
-      record {
-        lines = w.lines ++ w.rest ∷ [];
-        rest = [];
-        cut = cut_more bytes (10 ∷ []) w.lines w.rest [] ([] ∷ []) w.cut refl ∙ ap (λ r. w.lines ++ r ∷ [] ∷ []) (append-nil w.rest)
-            ∙ sym (append_assoc w.lines (w.rest ∷ []) ([] ∷ []));
-        finds = more w.lines so_far w.rest found w.finds here;
-        line_is = refl;
-        lines_are = numbered ∙ ap in_64_bits (sym (length-append w.lines (w.rest ∷ [])));
-        as_many = as_many ∙ w.as_many;
-        counters_are = λ place inside.
-            counters place (omega (arith, inside, w.as_many)) ∙ ap (λ n. last_accepted place n (map finding_accepts found)) (w.counters_are place inside)
-            ∙ sym (counter_behind_found mapping findings found place) ∙ ap (λ (fs : List Finding). counter_of_place mapping fs place) (sym all_are);
-        accepted_are = λ place inside.
-            accepted_at_place counts old.accepted place (subst (λ n. IfSome counts (IsPlaced n)) (sym all_accepted) placed)
-            ∙ counted_as (is_accepted_at place) (slice_index old.accepted place) (w.accepted_are place inside);
-        failed_are = λ place inside.
-            failed_at_place counts old.failed place (subst (λ n. IfSome counts (IsPlaced n)) (sym all_failed) placed)
-            ∙ counted_as (is_failed_at place) (slice_index old.failed place) (w.failed_are place inside);
-        counts_are = ap (λ (t : Option FrameTally). counts_after t old.counts) counts_is ∙ ap (counts_after (tally_found found)) w.counts_are
-            ∙ counts_after_found findings found few ∙ ap (λ (fs : List Finding). counts_of fs) (sym all_are);
-      },
-      ap (λ (s : WatchState). s.text) judged_is
-          ∙ ap (λ (t : List ℕ). old.text ++ t) (stamped_kept old.mapping (slice_index old.counters) (counted old.lines) old.line w.rest found w.line_is finds),
-    )
-
--- ---- one step after the other
-
-pub FindsMore-nothing : (state : WatchState) → FindsMore state state []
-FindsMore-nothing state = λ bytes findings w. (
-  [],
-  subst (λ bs. Watched state bs (findings ++ [])) (sym (append-nil bytes)) (subst (Watched state bytes) (sym (append-nil findings)) w),
-  sym (append-nil state.text),
-)
-
-pub FindsMore-more : (old mid new : WatchState) (piece next : List ℕ) → mid.mapping ≡ old.mapping → FindsMore old mid piece → FindsMore mid new next
-    → FindsMore old new (piece ++ next)
-FindsMore-more old mid new piece next same first second = λ bytes findings w.
-    let (some, watched, text) = first bytes findings w in
-    let (rest, watched_all, text_all) = second (bytes ++ piece) (findings ++ some) watched in (
-      some ++ rest,
-      subst (λ bs. Watched new bs (findings ++ (some ++ rest))) (append_assoc bytes piece next)
-          (subst (Watched new ((bytes ++ piece) ++ next)) (append_assoc findings some rest) watched_all),
-      text_all ∙ ap (λ t. t ++ found_text mid.mapping rest) text ∙ ap (λ (m : WatchedMap). (old.text ++ found_text old.mapping some) ++ found_text m rest) same
-          ∙ append_assoc old.text (found_text old.mapping some) (found_text old.mapping rest)
-          ∙ ap (λ t. old.text ++ t) (sym (flat_map-append (told_text old.mapping.options) some rest)),
-    )
-
--- bytes without a line feed
-pub FindsMore-keeps : (old : WatchState) (piece : List ℕ) → HasNoFeed piece → FindsMore old (record old { line = take (line_limit + 1) (old.line ++ piece) }) piece
-FindsMore-keeps old piece free = λ bytes findings w. (
-  [],
-  subst (Watched (record old { line = take (line_limit + 1) (old.line ++ piece) }) (bytes ++ piece)) (sym (append-nil findings)) (Watched-keeps old bytes piece findings free w),
-  sym (append-nil old.text),
-)
-
 -- ---- what is found of one line
 
 JudgesLine-text : (s : WatchState) → s ≡ record s { counters = s.counters; text = s.text ++ [] }
 JudgesLine-text s = ap (λ t. record s { text = t }) (sym (append-nil s.text))
 
-pub JudgesLine-long : (s : WatchState) → line_limit < length s.line → JudgesLine s s (Some (tally.Other kind.Malformed))
-JudgesLine-long s long = (
+pub JudgesLine-long : (s : WatchState) (number : ℕ) (line : List ℕ) → line_limit < length line → JudgesLine s number line s (Some (tally.Other kind.Malformed))
+JudgesLine-long s number line long = (
   other kind.Malformed ∷ [],
   inl (long, refl),
   JudgesLine-text s,
@@ -304,72 +179,146 @@ JudgesLine-long s long = (
   λ place inside. refl,
 )
 
-pub JudgesLine-skipped : (s : WatchState) → length s.line ≤ line_limit → is_skipped (words_of s.line) ≡ true → JudgesLine s s None
-JudgesLine-skipped s few skipped = ([], inr (inl (few, skipped, refl)), JudgesLine-text s, refl, refl, λ place inside. refl)
+pub JudgesLine-skipped : (s : WatchState) (number : ℕ) (line : List ℕ) → length line ≤ line_limit → is_skipped (words_of line) ≡ true → JudgesLine s number line s None
+JudgesLine-skipped s number line few skipped = ([], inr (inl (few, skipped, refl)), JudgesLine-text s, refl, refl, λ place inside. refl)
 
-pub JudgesLine-found : (s : WatchState) (counters text : List ℕ) (counts : FrameTally) (finding : Finding) → length s.line ≤ line_limit → is_skipped (words_of s.line) ≡ false
-    → AuditsLine s.mapping.lines (slice_index s.counters) (record { number = s.lines; words = words_of s.line }) finding
+pub JudgesLine-found : (s : WatchState) (number : ℕ) (line counters text : List ℕ) (counts : FrameTally) (finding : Finding) → length line ≤ line_limit → is_skipped (words_of line) ≡ false
+    → AuditsLine s.mapping.lines (slice_index s.counters) (record { number = number; words = words_of line }) finding
     → counts ≡ tally_of finding → length counters ≡ length s.counters
     → ((place : ℕ) → place < length s.counters → slice_index counters place ≡ next_counter place (slice_index s.counters place) (finding_accepts finding))
-    → text ≡ s.text ++ told_text s.mapping.options (record { finding = finding; stamp = stamp_of (words_of s.line) })
-    → JudgesLine s (record s { counters = counters; text = text }) (Some counts)
-JudgesLine-found s counters text counts finding few kept finds counts_is as_many behind text_is = (
+    → text ≡ s.text ++ told_text s.mapping.options (record { finding = finding; stamp = stamp_of (words_of line) })
+    → JudgesLine s number line (record s { counters = counters; text = text }) (Some counts)
+JudgesLine-found s number line counters text counts finding few kept finds counts_is as_many after text_is = (
   finding ∷ [],
   inr (inr (few, kept, (finding, refl, finds))),
-  ap (λ t. record s { counters = counters; text = t }) (text_is ∙ ap (λ t. s.text ++ t) (sym (append-nil (told_text s.mapping.options (record { finding = finding; stamp = stamp_of (words_of s.line) }))))),
+  ap (λ t. record s { counters = counters; text = t }) (text_is ∙ ap (λ t. s.text ++ t) (sym (append-nil (told_text s.mapping.options (record { finding = finding; stamp = stamp_of (words_of line) }))))),
   as_many,
   ap Some counts_is,
-  behind,
+  after,
 )
 
--- ---- the end of a log
+-- a line that was judged and counted was taken
+pub WatchesNext-judged : (old judged : WatchState) (number : ℕ) (line : List ℕ) (counts : Option FrameTally) → JudgesLine old number line judged counts
+    → WatchesNext old number line (record judged {
+      accepted = raised_at (accepted_place counts) judged.accepted;
+      failed = raised_at (failed_place counts) judged.failed;
+      counts = counts_after counts judged.counts;
+    })
+WatchesNext-judged old judged number line counts (found, finds, judged_is, as_many, counts_is, counters) = record {
+  findings = found;
+  finds = finds;
+  counters = judged.counters;
+  as_many = as_many;
+  counters_are = counters;
+  new_is = ap (λ (s : WatchState). record {
+    mapping = s.mapping;
+    counters = judged.counters;
+    accepted = raised_at (accepted_place counts) s.accepted;
+    failed = raised_at (failed_place counts) s.failed;
+    counts = counts_after counts s.counts;
+    text = s.text;
+  }) judged_is ∙ ap (λ (t : Option FrameTally). record old {
+    counters = judged.counters;
+    accepted = raised_at (accepted_place t) old.accepted;
+    failed = raised_at (failed_place t) old.failed;
+    counts = counts_after t old.counts;
+    text = old.text ++ found_text old.mapping (stamped line found);
+  }) counts_is;
+}
 
--- the text of a state is apart from what was found before
-pub Watched-text : (state : WatchState) (text bytes : List ℕ) (findings : List Found) → Watched state bytes findings → Watched (record state { text = text }) bytes findings
-Watched-text state text bytes findings w = record {
-  lines = w.lines;
-  rest = w.rest;
-  cut = w.cut;
+-- ---- the lines so far
+
+-- before the log
+pub Watched-none : (state : WatchState) → IsFreshWatch state → Watched state [] []
+Watched-none state fresh = record {
+  finds = none;
+  as_many = ap length fresh.counters_are ∙ length-map state.mapping.lines (λ (l : MapLine). l.counter);
+  accepted_many = ap length fresh.accepted_are ∙ length-replicate (length state.mapping.lines) 0;
+  failed_many = ap length fresh.failed_are ∙ length-replicate (length state.mapping.lines) 0;
+  counters_are = λ place inside. ap (λ cs. slice_index cs place) fresh.counters_are;
+  accepted_are = λ place inside. ap (λ ns. slice_index ns place) fresh.accepted_are ∙ get_or-replicate (length state.mapping.lines) place 0 0 inside;
+  failed_are = λ place inside. ap (λ ns. slice_index ns place) fresh.failed_are ∙ get_or-replicate (length state.mapping.lines) place 0 0 inside;
+  counts_are = fresh.counts_are;
+}
+
+-- the text of a state is apart from what was found
+pub Watched-text : (state : WatchState) (text : List ℕ) (lines : List (List ℕ)) (findings : List Found) → Watched state lines findings → Watched (record state { text = text }) lines findings
+Watched-text state text lines findings w = record {
   finds = w.finds;
-  line_is = w.line_is;
-  lines_are = w.lines_are;
   as_many = w.as_many;
+  accepted_many = w.accepted_many;
+  failed_many = w.failed_many;
   counters_are = w.counters_are;
   accepted_are = w.accepted_are;
   failed_are = w.failed_are;
   counts_are = w.counts_are;
 }
 
-pub ended_is : (old judged : WatchState) (counts : Option FrameTally) → JudgesLine (record old { lines = counted old.lines }) judged counts
-    → record judged {
-      accepted = raised_at (accepted_place counts) judged.accepted;
-      failed = raised_at (failed_place counts) judged.failed;
-      line = [];
-      counts = counts_after counts judged.counts;
-    } ≡ ended old judged counts
-ended_is old judged counts judges = ap (λ (s : WatchState). record {
-  mapping = s.mapping;
-  counters = judged.counters;
-  accepted = raised_at (accepted_place counts) s.accepted;
-  failed = raised_at (failed_place counts) s.failed;
-  line = [];
-  lines = s.lines;
-  counts = counts_after counts s.counts;
-  text = judged.text;
-}) judges.2
+length-raised : (place : Option ℕ) (ns : List ℕ) → length (raised_at place ns) ≡ length ns
+length-raised None ns = refl
+length-raised (Some place) ns = length-set ns place (counted (slice_index ns place))
 
-all_but_last : (one two : List (List ℕ)) (x y : List ℕ) → one ++ x ∷ [] ≡ two ++ y ∷ [] → one ≡ two
-all_but_last one two x y same =
-    let as_many : length one ≡ length two = omega (arith, ap length same, length-append one (x ∷ []), length-append two (y ∷ [])) in
-    sym (take-append_seam one (x ∷ [])) ∙ ap (take (length one)) same ∙ ap (λ n. take n (two ++ y ∷ [])) as_many ∙ take-append_seam two (y ∷ [])
+-- one more line was taken
+pub Watched-more : (old new : WatchState) (lines : List (List ℕ)) (so_far : List Found) (line : List ℕ) → Watched old lines so_far
+    → (next : WatchesNext old (in_64_bits (length lines + 1)) (kept_of line) new) → Watched new (lines ++ line ∷ []) (so_far ++ stamped line next.findings)
+Watched-more old new lines so_far line w next =
+    let mapping : List MapLine = old.mapping.lines in
+    let found : List Finding = next.findings in
+    let findings : List Finding = findings_of so_far in
+    let number : ℕ = in_64_bits (length lines + 1) in
+    let all_are : findings_of (so_far ++ stamped line found) ≡ findings ++ found = findings_more so_far line found in
+    let c : ℕ → ℕ = counter_of_place mapping findings in
+    let here : WatchesLine mapping c number line found =
+    WatchesLine-kept mapping c number (kept_of line) line found refl (WatchesLine-same mapping (slice_index old.counters) c number (kept_of line) found w.counters_are next.finds) in
+    let few : AtMostOne found = at_most_one mapping c number line found here in
+    let counts : Option FrameTally = tally_found found in
+    let placed : IfSome counts (IsPlaced (length mapping)) = placed_found mapping (slice_index old.counters) number (kept_of line) found next.finds in
+    let counted_as : (passes : FrameTally → Bool) (count : ℕ) → count ≡ counted_of passes findings → counts_as passes counts count ≡ counted_of passes (findings_of (so_far ++ stamped line found)) =
+    λ passes count is. ap (counts_as passes counts) is ∙ counted_found passes findings found few ∙ ap (λ (fs : List Finding). counted_of passes fs) (sym all_are) in
+    subst (λ (s : WatchState). Watched s (lines ++ line ∷ []) (so_far ++ stamped line found)) (sym next.new_is)
+    (record {
+      finds = more lines so_far line found w.finds here;
+      as_many = next.as_many ∙ w.as_many;
+      accepted_many = length-raised (accepted_place counts) old.accepted ∙ w.accepted_many;
+      failed_many = length-raised (failed_place counts) old.failed ∙ w.failed_many;
+      counters_are = λ place inside.
+          next.counters_are place (omega (arith, inside, w.as_many)) ∙ ap (λ n. last_accepted place n (map finding_accepts found)) (w.counters_are place inside)
+          ∙ sym (counter_behind_found mapping findings found place) ∙ ap (λ (fs : List Finding). counter_of_place mapping fs place) (sym all_are);
+      accepted_are = λ place inside.
+          accepted_at_place counts old.accepted place (subst (λ n. IfSome counts (IsPlaced n)) (sym w.accepted_many) placed)
+          ∙ counted_as (is_accepted_at place) (slice_index old.accepted place) (w.accepted_are place inside);
+      failed_are = λ place inside.
+          failed_at_place counts old.failed place (subst (λ n. IfSome counts (IsPlaced n)) (sym w.failed_many) placed)
+          ∙ counted_as (is_failed_at place) (slice_index old.failed place) (w.failed_are place inside);
+      counts_are = ap (counts_after counts) w.counts_are ∙ counts_after_found findings found few ∙ ap (λ (fs : List Finding). counts_of fs) (sym all_are);
+    })
 
--- after one more line feed all lines of a log are complete
-pub FindsAll-ended : (state : WatchState) (mapping : WatchedMap) (bytes : List ℕ) (findings : List Found) → state.mapping ≡ mapping
-    → Watched state (bytes ++ 10 ∷ []) findings → FindsAll mapping.lines bytes findings
-FindsAll-ended state mapping bytes findings same w =
-    let lines_are : w.lines ≡ log_lines bytes = all_but_last w.lines (log_lines bytes) w.rest [] (sym w.cut ∙ one_more_line bytes) in
-    subst (λ (m : WatchedMap). FindsAll m.lines bytes findings) same
-    (subst (λ (lines : List (List ℕ)). WatchesEach state.mapping.lines lines findings) lines_are w.finds)
+-- the lines after these findings: what more was found is the text
+pub record WatchedMore (mapping : WatchedMap) (first : List Found) (lines : List (List ℕ)) (state : WatchState) : Type 0 where
+  pub same : state.mapping ≡ mapping
+  pub found : List Found
+  pub watched : Watched state lines (first ++ found)
+  pub text_is : state.text ≡ found_text mapping found
+
+module _ (mapping : WatchedMap) (first : List Found) where
+  pub WatchedMore-none : (lines : List (List ℕ)) (state : WatchState) → state.mapping ≡ mapping → Watched state lines first → state.text ≡ [] → WatchedMore mapping first lines state
+  WatchedMore-none lines state same w no_text = record { same = same; found = []; watched = subst (Watched state lines) (sym (append-nil first)) w; text_is = no_text }
+
+  pub WatchedMore-more : (lines : List (List ℕ)) (old : WatchState) (line : List ℕ) (new : WatchState) → WatchedMore mapping first lines old
+      → WatchesNext old (in_64_bits (length lines + 1)) (kept_of line) new → WatchedMore mapping first (lines ++ line ∷ []) new
+  WatchedMore-more lines old line new w next =
+      let found : List Found = stamped line next.findings in
+      record {
+        same = ap (λ (s : WatchState). s.mapping) next.new_is ∙ w.same;
+        found = w.found ++ found;
+        watched = subst (Watched new (lines ++ line ∷ [])) (append_assoc first w.found found) (Watched-more old new lines (first ++ w.found) line w.watched next);
+        text_is = ap (λ (s : WatchState). s.text) next.new_is
+            ∙ ap (λ (t : List ℕ). old.text ++ t) (stamped_kept old.mapping (slice_index old.counters) (in_64_bits (length lines + 1)) (kept_of line) line next.findings refl next.finds)
+            ∙ ap (λ (m : WatchedMap). old.text ++ found_text m found) w.same ∙ ap (λ t. t ++ found_text mapping found) w.text_is
+            ∙ sym (flat_map-append (told_text mapping.options) w.found found);
+      }
+
+-- ---- the end of a log
 
 -- the same is found of as many places
 places_same : {X : Type 0} (f g : ℕ → X) (a n m : ℕ) → a + n ≡ m → ((k : ℕ) → k < m → f k ≡ g k) → map f (range_with_len a n) ≡ map g (range_with_len a n)
@@ -396,8 +345,8 @@ module _ (mapping : WatchedMap) (one two : LineTotals)
       ∙ flat_map-map (λ (t : List ℕ). t) (total_line_at mapping two) (map_places mapping)
 
 -- the text at the end of a log is that of what was found
-pub end_text_is : (state : WatchState) (bytes : List ℕ) (findings : List Found) → Watched state bytes findings → end_text state ≡ totals_text state.mapping (findings_of findings)
-end_text_is state bytes findings w =
+pub end_text_is : (state : WatchState) (lines : List (List ℕ)) (findings : List Found) → Watched state lines findings → end_text state ≡ totals_text state.mapping (findings_of findings)
+end_text_is state lines findings w =
     ap (λ t. t ++ counts_text state.mapping.options.json state.counts)
     (same_totals state.mapping (totals_in state) (totals_of state.mapping (findings_of findings)) w.accepted_are w.failed_are w.counters_are)
     ∙ ap (λ (counts : WatchCounts). totals_text_of state.mapping (totals_of state.mapping (findings_of findings)) counts) w.counts_are
@@ -413,8 +362,8 @@ heard_at_same mapping one two place same =
     ap (λ b. unwrap_or (option_map (λ (entry : MapLine). entry.optional || b) (slice_get mapping.lines place)) true) same
 
 -- so is the status
-pub end_status_is : (state : WatchState) (bytes : List ℕ) (findings : List Found) → Watched state bytes findings → end_status state ≡ watch_status state.mapping (findings_of findings)
-end_status_is state bytes findings w =
+pub end_status_is : (state : WatchState) (lines : List (List ℕ)) (findings : List Found) → Watched state lines findings → end_status state ≡ watch_status state.mapping (findings_of findings)
+end_status_is state lines findings w =
     let mapping : WatchedMap = state.mapping in
     let counts_in : ℕ → ℕ = λ place. count_of (is_accepted_at place) (findings_of findings) in
     let failed : nat_lt 0 state.counts.failed ≡ nat_lt 0 (count_of is_failed_tally (findings_of findings)) =

@@ -1,123 +1,180 @@
--- What comes of a log, and what is printed of it, from turn to turn
-use Rattle.std.proofs.Common.{◌≡◌, ℕ, ◌<◌, ◌≤◌, List, [], ◌++◌, length, refl, sym, ◌∙◌, ap, subst, inl, inr, arith, append-nil, append_assoc}
-use Rattle.std.specs.Prelude.{Some, Ok}
+-- What comes of a log, and what is printed of it
+use Rattle.std.proofs.Common.{◌≡◌, ℕ, ◌+◌, ◌<◌, ◌≤◌, List, [], ◌∷◌, ◌++◌, length, take, refl, sym, ◌∙◌, ap, subst, inl, inr, append_assoc}
+use Rattle.std.specs.Prelude.{Ok, Err}
 use Rattle.std.proofs.lemmas.Grind.{flat_map-append}
-use Rattle.bus_port.specs.Fault.{Rose}
 use Rattle.basics.proofs.CallerLemmas.{rose_after}
-use Rattle.bus_port.specs.Source.{SourceState, Came, HandsOut, ReadFails}
-use Rattle.bus_port.specs.Sink.{SinkState}
-use Rattle.bus_port.proofs.CallerLemmas.{Came-nothing, Came-more, Appended-more, Appended-nothing}
-use Rattle.bus_port.specs.Whole.{AppendedPart}
+use Rattle.bus_port.specs.Fault.{Rose}
+use Rattle.bus_port.specs.Sink.{SinkState, Appended}
+use Rattle.bus_port.proofs.CallerLemmas.{Appended-more, Appended-nothing}
 use Rattle.program_edge.specs.Told.{AppendedWell, EndingTold}
 use Rattle.program_edge.proofs.CallerLemmas.{AppendedWell-more}
 use Rattle.program_edge.specs.Rows.{row_of}
 use Rattle.program_edge.specs.Inputs.{Reading}
+use Rattle.can_logs.specs.LogRuns.{Writing, log_failed_text, log_too_long_text}
+use Rattle.line_stream.specs.Pieces.{log_lines}
+use Rattle.line_stream.specs.Streams.{TakesLines, Paused, EndsStream, StopsStream, Streamed}
+use Rattle.line_stream.specs.declared.driver.StreamFault.{StreamFault}
+use Rattle.line_stream.specs.declared.driver.StreamFault.TheVariants.{ReadFault, TooLong}
+use Rattle.line_stream.proofs.CallerLemmas.{told_more, TakesLines-keeps, Paused-keeps}
 use Rattle.watch_commands.specs.WatchedMaps.{WatchedMap}
-use Rattle.watch_commands.specs.Watching.{Found, findings_of, told_text, found_text, FindsComplete, FindsAll}
+use Rattle.watch_commands.specs.Watching.{Found, findings_of, told_text, found_text, WatchesEach, FindsComplete, FindsAll}
 use Rattle.watch_commands.specs.WatchTotals.{totals_text, watch_status}
-use Rattle.watch_commands.specs.States.{WatchState, Watched}
-use Rattle.can_logs.specs.LogRuns.{Writing, ReadsToEnd, log_failed_text, log_too_long_text, Ports}
+use Rattle.watch_commands.specs.States.{WatchState, IsFreshWatch, Watched, WatchAtSink, WatchesLineAt, PrintsFound, TellsTotals, end_text, end_status}
 use Rattle.watch_commands.specs.WatchRows.{done, FailsOfLog, failed, too_long, EndsLog}
-use Rattle.watch_commands.specs.WatchSteps.{SoFar}
-use Rattle.line_stream.proofs.CallerLemmas.{told_more}
+use Rattle.watch_commands.proofs.Going.{Watched-none, Watched-text, WatchedMore, WatchedMore-none, WatchedMore-more, end_text_is, end_status_is}
 
--- what is found of the complete lines, of a state
-pub complete_of : (watch : WatchState) (bytes : List ℕ) (findings : List Found) → Watched watch bytes findings → FindsComplete watch.mapping.lines bytes findings
-complete_of watch bytes findings w = record { lines = w.lines; rest = w.rest; cut = w.cut; finds = w.finds }
+-- what is found of these lines, of a state
+pub finds_lines : (mapping : WatchedMap) (lines : List (List ℕ)) (state : WatchState) (findings : List Found) → state.mapping ≡ mapping → Watched state lines findings
+    → WatchesEach mapping.lines lines findings
+finds_lines mapping lines state findings same w = subst (λ (m : WatchedMap). WatchesEach m.lines lines findings) same w.finds
 
--- ---- a turn
+-- what is printed at the end of a log, and the status
+pub text_at_end : (mapping : WatchedMap) (first : List Found) (lines : List (List ℕ)) (state : WatchState) (w : WatchedMore mapping first lines state)
+    → state.text ++ end_text state ≡ found_text mapping w.found ++ totals_text mapping (findings_of (first ++ w.found))
+text_at_end mapping first lines state w =
+    ap (λ t. t ++ end_text state) w.text_is
+    ∙ ap (λ t. found_text mapping w.found ++ t)
+    (end_text_is state lines (first ++ w.found) w.watched ∙ ap (λ (m : WatchedMap). totals_text m (findings_of (first ++ w.found))) w.same)
 
--- before the log
-pub SoFar-none : (log : SourceState) (sink : SinkState) (watch : WatchState) → Watched watch [] []
-    → SoFar (record { log = record { before = log; after = log }; before = sink; after = sink }) watch [] []
-SoFar-none log sink watch w = record { came = Came-nothing log; calm = refl; watched = w; prints = (refl, Appended-nothing sink) }
+pub status_at_end : (mapping : WatchedMap) (first : List Found) (lines : List (List ℕ)) (state : WatchState) (w : WatchedMore mapping first lines state)
+    → end_status state ≡ watch_status mapping (findings_of (first ++ w.found))
+status_at_end mapping first lines state w =
+    end_status_is state lines (first ++ w.found) w.watched ∙ ap (λ (m : WatchedMap). watch_status m (findings_of (first ++ w.found))) w.same
 
-module _ (first log later : SourceState) (start sink next : SinkState) (old new : WatchState) (bytes : List ℕ) (findings : List Found) where
-  abbrev before : Ports
-  before = record { log = record { before = first; after = log }; before = start; after = sink }
+-- at a pause what is found of all complete lines is printed
+record AtPause (mapping : WatchedMap) (start : SinkState) (bytes : List ℕ) (lines : List (List ℕ)) (p : WatchAtSink) : Type 0 where
+  pub same : p.watch.mapping ≡ mapping
+  pub findings : List Found
+  pub watched : Watched p.watch lines findings
+  pub no_text : p.watch.text ≡ []
+  pub prints : AppendedWell start p.sink (found_text mapping findings)
+  pub finds : FindsComplete mapping.lines bytes findings
 
-  abbrev reading : Reading
-  reading = record { before = first; after = later }
+module _ (fresh : WatchState) (start : SinkState) (is_fresh : IsFreshWatch fresh) where
+  abbrev mapping : WatchedMap
+  mapping = fresh.mapping
 
-  abbrev written : Writing
-  written = record { before = start; after = next }
+  abbrev begun : WatchAtSink
+  begun = record { watch = fresh; sink = start }
 
-  -- a piece came and was taken
-  pub SoFar-more : (piece : List ℕ) (more : List Found) → new.mapping ≡ old.mapping → SoFar before old bytes findings → Came log later piece → later.faults ≡ log.faults
-      → Watched new (bytes ++ piece) (findings ++ more) → AppendedWell sink next (found_text old.mapping more)
-      → SoFar (record { log = reading; before = start; after = next }) new (bytes ++ piece) (findings ++ more)
-  SoFar-more piece more same so_far came calm watched prints = record {
-    came = Came-more so_far.came came;
-    calm = calm ∙ so_far.calm;
-    watched = watched;
-    prints = subst (λ (m : WatchedMap). AppendedWell start next (found_text m (findings ++ more))) (sym same)
-        (subst (AppendedWell start next) (sym (flat_map-append (told_text old.mapping.options) findings more))
-        (AppendedWell-more start sink next (found_text old.mapping findings) (found_text old.mapping more) so_far.prints prints));
-  }
+  complete : (bytes : List ℕ) (lines : List (List ℕ)) (rest : List ℕ) (findings : List Found) → log_lines bytes ≡ lines ++ rest ∷ [] → WatchesEach mapping.lines lines findings
+      → FindsComplete mapping.lines bytes findings
+  complete bytes lines rest findings cut finds = record { lines = lines; rest = rest; cut = cut; finds = finds }
 
-  -- a piece came, and the sink failed
-  pub Stops-in : (piece : List ℕ) (more : List Found) → new.mapping ≡ old.mapping → SoFar before old bytes findings → Came log later piece → later.faults ≡ log.faults
-      → length piece ≤ 4096 → Watched new (bytes ++ piece) (findings ++ more) → Rose sink.faults next.faults → AppendedPart sink next (found_text old.mapping more)
-      → EndsLog old.mapping reading written (Ok 6)
-  Stops-in piece more same so_far came calm short watched rose (size, proper, part) = inr (record {
-    status_is = refl;
-    fails = rose_after start.faults sink.faults next.faults so_far.prints.1.later rose;
-    bytes = bytes;
-    findings = findings;
-    piece = piece;
-    more = more;
-    came = Came-more so_far.came came;
-    calm = calm ∙ so_far.calm;
-    short = short;
-    finds = complete_of old bytes findings so_far.watched;
-    finds_more = subst (λ (m : WatchedMap). FindsComplete m.lines (bytes ++ piece) (findings ++ more)) same (complete_of new (bytes ++ piece) (findings ++ more) watched);
-    size = size;
-    proper = proper;
-    prints = Appended-more so_far.prints.1 part;
-  })
+  before_log : AtPause mapping start [] [] begun
+  before_log =
+      let w = Watched-none fresh is_fresh in
+      record {
+        same = refl;
+        findings = [];
+        watched = w;
+        no_text = is_fresh.no_text;
+        prints = (refl, Appended-nothing start);
+        finds = complete [] [] [] [] refl w.finds;
+      }
 
-  came_no_more : SoFar before old bytes findings → Came log later [] → Came first later bytes
-  came_no_more so_far nothing = subst (Came first later) (append-nil bytes) (Came-more so_far.came nothing)
+  -- what is found of the lines after a pause is the text, and nothing is printed
+  abbrev Held : List Found → SinkState → List (List ℕ) → WatchAtSink → Type 0
+  Held first sink lines p = WatchedMore mapping first lines p.watch × (p.sink ≡ sink)
 
-  -- nothing came: this was the end of the log
-  pub at_end : (room left : List ℕ) → SoFar before old bytes findings → HandsOut log later room left 0 → 0 < length room → ReadsToEnd reading bytes
-  at_end room left so_far hands some =
-      let whole : (text : List ℕ) → first.told ≡ Some text → (bytes ≡ text) × (later.told ≡ Some []) =
-      λ text is_told.
-      let here = so_far.came.next text is_told in
-      let gone : here.0 ≡ [] = (hands.ended some here.0 here.1).0 refl in
-      let behind = hands.came.next here.0 here.1 in
-      let last : behind.0 ≡ [] = sym behind.2 ∙ gone in
-      (sym (here.2 ∙ ap (λ r. bytes ++ r) gone ∙ append-nil bytes), behind.1 ∙ ap Some last) in
-      record { came = came_no_more so_far hands.came; within = omega arith; no_fault = hands.no_fault ∙ so_far.calm; whole = whole }
+  lines_held : (lines more : List (List ℕ)) (bytes : List ℕ) (p q : WatchAtSink) (at : AtPause mapping start bytes lines p) → TakesLines WatchesLineAt (length lines) p more q
+      → Held at.findings p.sink (lines ++ more) q
+  lines_held lines more bytes p q at taken =
+      TakesLines-keeps WatchesLineAt (Held at.findings p.sink)
+      (λ before s line t held next. (WatchedMore-more mapping at.findings before s.watch line t.watch held.0 next.0, next.1 ∙ held.1)) lines more p q
+      (WatchedMore-none mapping at.findings lines p.watch at.same at.watched at.no_text, refl) taken
 
-  pub Ends-done : (room left : List ℕ) (more : List Found) (status : ℕ) → SoFar before old bytes findings → HandsOut log later room left 0 → 0 < length room
-      → FindsAll old.mapping.lines bytes (findings ++ more)
-      → EndingTold sink next (found_text old.mapping more ++ totals_text old.mapping (findings_of (findings ++ more))) (watch_status old.mapping (findings_of (findings ++ more))) status
-      → EndsLog old.mapping reading written (Ok status)
-  Ends-done room left more status so_far hands some finds told =
-      let all : List Found = findings ++ more in
-      let text_is : found_text old.mapping findings ++ (found_text old.mapping more ++ totals_text old.mapping (findings_of all)) ≡ found_text old.mapping all ++ totals_text old.mapping (findings_of all) =
-      sym (append_assoc (found_text old.mapping findings) (found_text old.mapping more) (totals_text old.mapping (findings_of all)))
-      ∙ ap (λ t. t ++ totals_text old.mapping (findings_of all)) (sym (flat_map-append (told_text old.mapping.options) findings more)) in
-      inl (record {
-        row = row_of (watch_status old.mapping (findings_of all)) (found_text old.mapping all ++ totals_text old.mapping (findings_of all));
-        comes = done bytes all (at_end room left so_far hands some) finds;
-        told = subst (λ t. EndingTold start next t (watch_status old.mapping (findings_of all)) status) text_is
-            (told_more start sink next (found_text old.mapping findings) (found_text old.mapping more ++ totals_text old.mapping (findings_of all)) (watch_status old.mapping (findings_of all)) status so_far.prints told);
-      })
+  at_each : (bytes piece : List ℕ) (lines more : List (List ℕ)) (rest : List ℕ) (p q v : WatchAtSink) → AtPause mapping start bytes lines p → length piece ≤ 4096
+      → log_lines (bytes ++ piece) ≡ (lines ++ more) ++ rest ∷ [] → TakesLines WatchesLineAt (length lines) p more q → PrintsFound q v (Ok tt)
+      → AtPause mapping start (bytes ++ piece) (lines ++ more) v
+  at_each bytes piece lines more rest p q v at short cut taken (puts, begins, no_status) =
+      let (w, still) = lines_held lines more bytes p q at taken in
+      let findings : List Found = at.findings ++ w.found in
+      let well : AppendedWell p.sink v.sink (found_text mapping w.found) =
+      subst (λ k. AppendedWell k v.sink (found_text mapping w.found)) still (subst (AppendedWell q.sink v.sink) w.text_is puts) in
+      record {
+        same = ap (λ (s : WatchState). s.mapping) begins ∙ w.same;
+        findings = findings;
+        watched = subst (λ (s : WatchState). Watched s (lines ++ more) findings) (sym begins) (Watched-text q.watch [] (lines ++ more) findings w.watched);
+        no_text = ap (λ (s : WatchState). s.text) begins;
+        prints = subst (AppendedWell start v.sink) (sym (flat_map-append (told_text mapping.options) at.findings w.found))
+            (AppendedWell-more start p.sink v.sink (found_text mapping at.findings) (found_text mapping w.found) at.prints well);
+        finds = complete (bytes ++ piece) (lines ++ more) rest findings cut (finds_lines mapping (lines ++ more) q.watch findings w.same w.watched);
+      }
 
--- the log failed
-pub Ends-failed : (first log later : SourceState) (start sink : SinkState) (watch : WatchState) (bytes : List ℕ) (findings : List Found) (room left : List ℕ)
-    → SoFar (record { log = record { before = first; after = log }; before = start; after = sink }) watch bytes findings → ReadFails log later room left
-    → FailsOfLog watch.mapping (record { before = first; after = later }) (record { before = start; after = sink }) (row_of 5 log_failed_text)
-Ends-failed first log later start sink watch bytes findings room left so_far fails =
-    failed bytes findings (subst (Came first later) (append-nil bytes) (Came-more so_far.came fails.nothing)) (complete_of watch bytes findings so_far.watched)
-    (rose_after first.faults log.faults later.faults so_far.came.later fails.rose) so_far.prints
+  at_pause : (bytes : List ℕ) (lines : List (List ℕ)) (p : WatchAtSink) → Paused WatchesLineAt PrintsFound begun bytes lines p → AtPause mapping start bytes lines p
+  at_pause = Paused-keeps WatchesLineAt PrintsFound begun (AtPause mapping start) before_log at_each
 
--- 2^64 - 1 bytes came
-pub Ends-too_long : (first log : SourceState) (start sink : SinkState) (watch : WatchState) (bytes : List ℕ) (findings : List Found)
-    → SoFar (record { log = record { before = first; after = log }; before = start; after = sink }) watch bytes findings → 18446744073709551615 ≤ length bytes
-    → FailsOfLog watch.mapping (record { before = first; after = log }) (record { before = start; after = sink }) (row_of 8 log_too_long_text)
-Ends-too_long first log start sink watch bytes findings so_far long =
-    too_long bytes findings so_far.came (complete_of watch bytes findings so_far.watched) so_far.calm (omega (arith, long)) so_far.prints
+  module _ (log : Reading) (now : WatchAtSink) where
+    abbrev written : Writing
+    written = record { before = start; after = now.sink }
+
+    ends_log : (status : ℕ) → EndsStream WatchesLineAt PrintsFound TellsTotals log begun now status → EndsLog mapping log written (Ok status)
+    ends_log status d = elim d.ended [
+      | inr stopped ↦ absurd stopped
+      | inl (taken, takes_last, told) ↦
+          let at = at_pause d.bytes d.lines d.before d.paused in
+          let (w, still) = lines_held d.lines (d.last ∷ []) d.bytes d.before taken at (taken, takes_last, refl) in
+          let all : List (List ℕ) = d.lines ++ d.last ∷ [] in
+          let findings : List Found = at.findings ++ w.found in
+          let totals : List ℕ = totals_text mapping (findings_of findings) in
+          let answer : ℕ = watch_status mapping (findings_of findings) in
+          let last_told : EndingTold d.before.sink now.sink (found_text mapping w.found ++ totals) answer status =
+          subst (λ k. EndingTold k now.sink (found_text mapping w.found ++ totals) answer status) still
+          (subst (λ t. EndingTold taken.sink now.sink t answer status) (text_at_end mapping at.findings all taken.watch w)
+          (subst (λ n. EndingTold taken.sink now.sink (taken.watch.text ++ end_text taken.watch) n status) (status_at_end mapping at.findings all taken.watch w) told)) in
+          let text_is : found_text mapping at.findings ++ (found_text mapping w.found ++ totals) ≡ found_text mapping findings ++ totals =
+          sym (append_assoc (found_text mapping at.findings) (found_text mapping w.found) totals)
+          ∙ ap (λ t. t ++ totals) (sym (flat_map-append (told_text mapping.options) at.findings w.found)) in
+          let finds : FindsAll mapping.lines d.bytes findings =
+          subst (λ (ls : List (List ℕ)). WatchesEach mapping.lines ls findings) (sym d.cut) (finds_lines mapping all taken.watch findings w.same w.watched) in
+          inl (record {
+            row = row_of answer (found_text mapping findings ++ totals);
+            comes = done d.bytes findings d.read finds;
+            told = subst (λ t. EndingTold start now.sink t answer status) text_is
+                (told_more start d.before.sink now.sink (found_text mapping at.findings) (found_text mapping w.found ++ totals) answer status at.prints last_told);
+          })
+    ]
+
+    stops_log : (status : ℕ) → StopsStream WatchesLineAt PrintsFound log begun now status → EndsLog mapping log written (Ok status)
+    stops_log status d = elim d.stops [
+      | inr (some, stopped) ↦ absurd stopped
+      | inl (none, ((rose, (size, proper, part)), begins, six)) ↦
+          let at = at_pause d.bytes d.lines d.before d.paused in
+          let (w, still) = lines_held d.lines d.more d.bytes d.before d.taken at d.takes_more in
+          let all : List (List ℕ) = d.lines ++ d.more in
+          let findings : List Found = at.findings ++ w.found in
+          let said : List ℕ = found_text mapping w.found in
+          inr (record {
+            status_is = six;
+            fails = rose_after start.faults d.before.sink.faults now.sink.faults at.prints.1.later (subst (λ (k : SinkState). Rose k.faults now.sink.faults) still rose);
+            bytes = d.bytes;
+            findings = at.findings;
+            piece = d.piece;
+            more = w.found;
+            came = d.came;
+            calm = d.calm;
+            short = d.short;
+            finds = at.finds;
+            finds_more = complete (d.bytes ++ d.piece) all d.rest findings (subst (λ (b : List (List ℕ)). log_lines (d.bytes ++ d.piece) ≡ all ++ d.rest ∷ b) none d.cut)
+                (finds_lines mapping all d.taken.watch findings w.same w.watched);
+            size = size;
+            proper = subst (λ t. size < length t) w.text_is proper;
+            prints = Appended-more at.prints.1 (subst (λ k. Appended k now.sink (take size said)) still (subst (λ t. Appended d.taken.sink now.sink (take size t)) w.text_is part));
+          })
+    ]
+
+    -- a log that was taken to its end, or until the sink failed
+    pub Ends-taken : (status : ℕ) → Streamed WatchesLineAt PrintsFound TellsTotals log begun now (Ok status) → EndsLog mapping log written (Ok status)
+    Ends-taken status (inl ends) = ends_log status ends
+    Ends-taken status (inr stops) = stops_log status stops
+
+    pub Ends-failed : (fault : StreamFault) → fault ≡ ReadFault → Streamed WatchesLineAt PrintsFound TellsTotals log begun now (Err fault) → FailsOfLog mapping log written (row_of 5 log_failed_text)
+    Ends-failed fault is streamed =
+        let d = subst (λ (f : StreamFault). Streamed WatchesLineAt PrintsFound TellsTotals log begun now (Err f)) is streamed in
+        let at = at_pause d.bytes d.lines now d.paused in failed d.bytes at.findings d.came at.finds d.holds at.prints
+
+    pub Ends-too_long : (fault : StreamFault) → fault ≡ TooLong → Streamed WatchesLineAt PrintsFound TellsTotals log begun now (Err fault) → FailsOfLog mapping log written (row_of 8 log_too_long_text)
+    Ends-too_long fault is streamed =
+        let d = subst (λ (f : StreamFault). Streamed WatchesLineAt PrintsFound TellsTotals log begun now (Err f)) is streamed in
+        let at = at_pause d.bytes d.lines now d.paused in too_long d.bytes at.findings d.came at.finds d.holds.0 d.holds.1 at.prints

@@ -1,28 +1,36 @@
--- The state between two pieces of a log, and what the steps say to one another
-use Rattle.std.specs.Prelude.{◌≡◌, ℕ, ◌+◌, ◌<◌, nat_lt, Bool, if◌then◌else◌, List, [], ◌∷◌, ◌++◌, length, take, map, set, slice_index, Option, None, Some}
+-- The state between two lines of a log, what the steps say to one another, and what the driver of a log is told
+use Rattle.std.specs.Prelude.{◌≡◌, ℕ, ◌<◌, nat_lt, Bool, if◌then◌else◌, List, [], ◌∷◌, ◌++◌, length, map, set, replicate}
+use Rattle.std.specs.Prelude.{slice_index, Option, None, Some, Result, Ok, Err, IfErr}
 use Rattle.bus_port.specs.Fault.{counted}
+use Rattle.bus_port.specs.Sink.{SinkState}
+use Rattle.program_edge.specs.Told.{EndingTold}
 use Rattle.can_logs.specs.declared.findings.FrameTally.{FrameTally}
 use Rattle.can_logs.specs.declared.findings.FrameTally.TheVariants as tally
 use Rattle.watch_commands.specs.declared.counts.WatchCounts.{WatchCounts}
 use Rattle.secoc_words.specs.Counting.{last_accepted}
 use Rattle.watch_commands.specs.WatchedMaps.{WatchedMap}
-use Rattle.can_logs.specs.Findings.{Finding, tally_of, finding_accepts, counter_of_place, is_accepted_tally}
-use Rattle.line_stream.specs.Pieces.{line_limit, log_lines, in_64_bits}
+use Rattle.can_logs.specs.Findings.{Finding, tally_of, finding_accepts, first_counters, counter_of_place, is_accepted_tally}
+use Rattle.line_stream.specs.Pieces.{PutsPiece}
 use Rattle.watch_commands.specs.Watching.{Found, stamped, findings_of, WatchesLine, WatchesEach, found_text}
 use Rattle.watch_commands.specs.WatchTotals.{counted_of, counts_of, is_failed_tally, is_accepted_at, is_failed_at, is_other_of, is_unmapped_line, is_other_frame, is_malformed_line, LineTotals, totals_text_of, are_heard}
 
--- the map; for each of its lines the counter, how many frames it accepted, and how many it didn't; the line that no
--- line feed has ended, as far as it is kept, and the number of lines before it; the numbers of the log so far; what was
--- found of the last piece
+-- the map; for each of its lines the counter, how many frames it accepted, and how many it didn't; the numbers of the
+-- log so far; what was found of the last lines, as it is printed
 pub record WatchState : Type 0 where
   pub mapping : WatchedMap
   pub counters : List ℕ
   pub accepted : List ℕ
   pub failed : List ℕ
-  pub line : List ℕ
-  pub lines : ℕ
   pub counts : WatchCounts
   pub text : List ℕ
+
+-- nothing was looked at yet
+pub record IsFreshWatch (state : WatchState) : Type 0 where
+  pub counters_are : state.counters ≡ first_counters state.mapping.lines
+  pub accepted_are : state.accepted ≡ replicate (length state.mapping.lines) 0
+  pub failed_are : state.failed ≡ replicate (length state.mapping.lines) 0
+  pub counts_are : state.counts ≡ counts_of []
+  pub no_text : state.text ≡ []
 
 -- for each line of the map the number of findings that pass for it
 abbrev pub AreCounted : (ℕ → FrameTally → Bool) → WatchedMap → List ℕ → List Found → Type 0
@@ -30,40 +38,31 @@ AreCounted passes mapping numbers findings =
     (place : ℕ) → place < length mapping.lines
     → slice_index numbers place ≡ counted_of (passes place) (findings_of findings)
 
--- the state after these bytes of a log, of whose complete lines these are found
-pub record Watched (state : WatchState) (bytes : List ℕ) (findings : List Found) : Type 0 where
-  pub lines : List (List ℕ)
-  pub rest : List ℕ
-  pub cut : log_lines bytes ≡ lines ++ rest ∷ []
+-- the state after these lines of a log, of which these are found, apart from its text
+pub record Watched (state : WatchState) (lines : List (List ℕ)) (findings : List Found) : Type 0 where
   pub finds : WatchesEach state.mapping.lines lines findings
-  pub line_is : state.line ≡ take (line_limit + 1) rest
-  pub lines_are : state.lines ≡ in_64_bits (length lines)
   pub as_many : length state.counters ≡ length state.mapping.lines
+  pub accepted_many : length state.accepted ≡ length state.mapping.lines
+  pub failed_many : length state.failed ≡ length state.mapping.lines
   pub counters_are : (place : ℕ) → place < length state.mapping.lines
       → slice_index state.counters place ≡ counter_of_place state.mapping.lines (findings_of findings) place
   pub accepted_are : AreCounted is_accepted_at state.mapping state.accepted findings
   pub failed_are : AreCounted is_failed_at state.mapping state.failed findings
   pub counts_are : state.counts ≡ counts_of (findings_of findings)
 
--- more was found: of these bytes more, and its text was added
-abbrev pub FindsMore : WatchState → WatchState → List ℕ → Type 0
-FindsMore old new piece =
-    (bytes : List ℕ) (findings : List Found) → Watched old bytes findings → (more : List Found)
-    × Watched new (bytes ++ piece) (findings ++ more) × (new.text ≡ old.text ++ found_text old.mapping more)
-
 -- what found findings, of one line, count as: nothing if it was skipped
 abbrev pub tally_found : List Finding → Option FrameTally
 tally_found [] = None
 tally_found (finding ∷ _) = Some (tally_of finding)
 
--- what is found of the line that is kept was added, its counters are those after it, and the answer is what it counts
--- as
-abbrev pub JudgesLine : WatchState → WatchState → Option FrameTally → Type 0
-JudgesLine old new counts =
-    (findings : List Finding) × WatchesLine old.mapping.lines (slice_index old.counters) old.lines old.line findings
+-- what is found of the line with this number was added, the counters are those after it, and the answer is what it
+-- counts as
+abbrev pub JudgesLine : WatchState → ℕ → List ℕ → WatchState → Option FrameTally → Type 0
+JudgesLine old number line new counts =
+    (findings : List Finding) × WatchesLine old.mapping.lines (slice_index old.counters) number line findings
     × (new ≡ record old {
       counters = new.counters;
-      text = old.text ++ found_text old.mapping (stamped old.line findings);
+      text = old.text ++ found_text old.mapping (stamped line findings);
     })
     × (length new.counters ≡ length old.counters) × (counts ≡ tally_found findings)
     × ((place : ℕ) → place < length old.counters → slice_index new.counters place
@@ -108,6 +107,22 @@ abbrev pub raised_at : Option ℕ → List ℕ → List ℕ
 raised_at None numbers = numbers
 raised_at (Some place) numbers = set numbers place (counted (slice_index numbers place))
 
+-- what is found of the line with this number was added and counted
+pub record WatchesNext (old : WatchState) (number : ℕ) (line : List ℕ) (new : WatchState) : Type 0 where
+  pub findings : List Finding
+  pub finds : WatchesLine old.mapping.lines (slice_index old.counters) number line findings
+  pub counters : List ℕ
+  pub as_many : length counters ≡ length old.counters
+  pub counters_are : (place : ℕ) → place < length old.counters → slice_index counters place
+      ≡ last_accepted place (slice_index old.counters place) (map finding_accepts findings)
+  pub new_is : new ≡ record old {
+    counters = counters;
+    accepted = raised_at (accepted_place (tally_found findings)) old.accepted;
+    failed = raised_at (failed_place (tally_found findings)) old.failed;
+    counts = counts_after (tally_found findings) old.counts;
+    text = old.text ++ found_text old.mapping (stamped line findings);
+  }
+
 -- what a state has of the lines of its map
 abbrev pub totals_in : WatchState → LineTotals
 totals_in state = record {
@@ -125,3 +140,26 @@ end_status state =
     if nat_lt 0 state.counts.failed then 1
     else if are_heard state.mapping (slice_index state.accepted) then 0
     else 3
+
+-- ---- over a sink
+
+-- a watch, and the sink that it prints to
+pub record WatchAtSink : Type 0 where
+  pub watch : WatchState
+  pub sink : SinkState
+
+-- a line: what is found of it is added
+abbrev pub WatchesLineAt : WatchAtSink → ℕ → List ℕ → WatchAtSink → Result (Unit {0}) ℕ → Type 0
+WatchesLineAt before number line after (Ok _) =
+    WatchesNext before.watch number line after.watch × (after.sink ≡ before.sink)
+WatchesLineAt before number line after (Err _) = ⊥
+
+-- a pause: the text is printed, and a new one begins; or the sink failed, and that ends the log with 6
+abbrev pub PrintsFound : WatchAtSink → WatchAtSink → Result (Unit {0}) ℕ → Type 0
+PrintsFound before after result = PutsPiece before.sink after.sink before.watch.text result
+    × (after.watch ≡ record before.watch { text = [] }) × IfErr result (λ status. status ≡ 6)
+
+-- the end of the log: the text and the totals are printed, and the status is that of all findings
+abbrev pub TellsTotals : WatchAtSink → WatchAtSink → ℕ → Type 0
+TellsTotals before after status =
+    EndingTold before.sink after.sink (before.watch.text ++ end_text before.watch) (end_status before.watch) status

@@ -3,16 +3,16 @@
 //!
 //! [`run_watch`] answers each complete line of a log of any length before it reads on, and tells faults on a sink of
 //! their own, with the record `Watches`; [`watch_words`] does so over the sources that the arguments name. [`Watch`] is
-//! the state between two pieces of a log. It speaks of the bytes that came and not of the pieces. Its `take` is never
-//! out of memory, and `finish` takes the last line and gives the numbers and the status. At most one list of findings
-//! is found of a log ([`laws`]). Accepted freshness rises per line of the map (law
-//! `accepted_freshness_rises_per_watched_line`).
+//! the state between two lines of a log, which the driver of `line_stream` hands over. Its `take` is never out of
+//! memory, and `end` gives the numbers and the status. At most one list of findings is found of a log ([`laws`]).
+//! Accepted freshness rises per line of the map (law `accepted_freshness_rises_per_watched_line`).
 #![tactic(auto)]
 
 mod answers;
 mod counts;
 pub mod laws;
 mod options;
+mod port;
 mod run;
 mod stamps;
 mod start;

@@ -1,21 +1,21 @@
 //! The program's one command.
-ghost use Rattle.std.specs.Prelude.{◌≡◌, [], map as each, List, ℕ, None, string_bytes};
+ghost use Rattle.std.specs.Prelude.{◌≡◌, map as each, None, string_bytes};
 ghost use Rattle.bus_port.specs.Source.{SourceState};
 ghost use Rattle.bus_port.specs.Sink.{SinkState};
-ghost use Rattle.watch_commands.specs.Watching.{Found};
-ghost use Rattle.watch_commands.specs.States.{Watched};
+ghost use Rattle.watch_commands.specs.States.{IsFreshWatch};
 ghost use Rattle.watch_commands.specs.WatchRows.{EndsLog, EndsUntold};
 ghost use Rattle.watch_commands.specs.Words.{text_asked};
 ghost use Rattle.watch_commands.specs.Watches.{Watches};
-ghost use Rattle.watch_commands.specs.WatchSteps.{PreparesWatch, SoFar, Turns};
+ghost use Rattle.watch_commands.specs.WatchSteps.{PreparesWatch};
 
 use crate::options::{WatchOptions, inputs_of};
+use crate::port::WatchPort;
 use crate::state::Watch;
 use crate::task::WatchTask;
-use bus_port::{PortFailed, Sink, Source};
+use bus_port::{Sink, Source};
 use can_logs::{is_only, names_inputs, read_watch_map};
-use line_stream::PIECE;
-use program_edge::{DONE, Refusal, WRITE_FAULT, tell, tell_refusal};
+use line_stream::{StreamFault, stream_lines};
+use program_edge::{DONE, Refusal, tell, tell_refusal};
 use std::alloc::{AllocError, Global};
 
 const USAGE: &str = "usage: watch [--quiet] [--json] [--time] [--expect FILE] MAP LOG\n";
@@ -33,7 +33,7 @@ Status 0: each mapped frame was accepted, and one at least for each line of MAP 
 ";
 
 /// What is printed for `--version`.
-const VERSION: &str = "watch (Rathonsi) 0.18.0\n";
+const VERSION: &str = "watch (Rathonsi) 0.19.0\n";
 
 /// What is printed if the log fails.
 const LOG_FAILED: &str = "log: read fault\n";
@@ -135,49 +135,14 @@ fn watch_log<T: Source, K: Sink>(
     log: &mut T,
     sink: &mut K,
 ) -> Result<u8, Refusal>
-    requires { Watched watch.old [] [] }
+    requires { IsFreshWatch watch.old }
     ensures { EndsLog watch.old.mapping (record { before = T.state log.old; after = T.state log.new })
         (record { before = K.state sink.old; after = K.state sink.new }) result }
 {
-    let mut piece = [0u8; PIECE];
-    for _ in 0..u64::MAX {
-        match next_piece(watch, log, &mut piece, sink) {
-            Some(end) => return end,
-            None => (),
-        }
-    }
-    Err(Refusal::fixed(8, LOG_TOO_LONG))
-}
-
-/// Takes the next piece of the log. A status or a fault's row if it ended, or a port failed.
-fn next_piece<T: Source, K: Sink>(
-    watch: &mut Watch,
-    log: &mut T,
-    piece: &mut [u8; PIECE],
-    sink: &mut K,
-) -> Option<Result<u8, Refusal>>
-    ensures mapping { watch.new.mapping ≡ watch.old.mapping }
-    ensures turns { (first : SourceState) (start : SinkState) (bytes : List ℕ) (findings : List Found)
-        → SoFar (record {
-          log = record { before = first; after = T.state log.old };
-          before = start;
-          after = K.state sink.old;
-        }) watch.old bytes findings
-        → Turns (record {
-          log = record { before = first; after = T.state log.new };
-          before = start;
-          after = K.state sink.new;
-        }) watch.new bytes findings result }
-{
-    let count = match log.read(piece) {
-        Ok(count) => count,
-        Err(PortFailed) => return Some(Err(Refusal::fixed(5, LOG_FAILED))),
-    };
-    if count == 0 {
-        return Some(Ok(watch.finish(sink)));
-    }
-    match watch.take(&piece[..count], sink) {
-        Ok(()) => None,
-        Err(PortFailed) => Some(Ok(WRITE_FAULT)),
+    let mut port = WatchPort { watch, sink };
+    match stream_lines(log, &mut port) {
+        Ok(status) => Ok(status),
+        Err(StreamFault::ReadFault) => Err(Refusal::fixed(5, LOG_FAILED)),
+        Err(StreamFault::TooLong) => Err(Refusal::fixed(8, LOG_TOO_LONG)),
     }
 }

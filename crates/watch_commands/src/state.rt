@@ -1,23 +1,18 @@
-//! The state between two pieces of a log.
-ghost use Rattle.std.specs.Prelude.{◌≡◌, ◌+◌, ◌*◌, ◌<◌, ◌≤◌, ◌++◌, [], ◌∷◌, length, take, replicate, slice_index};
-ghost use Rattle.std.specs.Prelude.{List, ℕ, IfOk, IfSome, ◌&&◌, vec_len, vec_capacity};
+//! What is known of a log between two of its lines.
+ghost use Rattle.std.specs.Prelude.{◌≡◌, ◌+◌, ◌*◌, ◌<◌, ◌≤◌, ◌++◌, [], length, replicate, slice_index};
+ghost use Rattle.std.specs.Prelude.{IfOk, IfSome};
 ghost use Rattle.std.specs.List.{position_or_len};
-ghost use Rattle.program_edge.specs.Told.{EndingTold};
 ghost use Rattle.text_lines.specs.Lines.{is_line_feed};
-ghost use Rattle.watch_commands.specs.Watching.{Found, findings_of, found_text, FindsAll};
-ghost use Rattle.watch_commands.specs.WatchTotals.{totals_text, watch_status, total_line_at, is_heard_at, are_heard};
-ghost use Rattle.line_stream.specs.Pieces.{PutsPiece};
-ghost use Rattle.watch_commands.specs.States.{Watched, FindsMore, JudgesLine, IsPlaced, counts_after};
+ghost use Rattle.watch_commands.specs.WatchTotals.{total_line_at, is_heard_at, are_heard};
+ghost use Rattle.watch_commands.specs.States.{IsFreshWatch, WatchesNext, JudgesLine, IsPlaced, counts_after};
 ghost use Rattle.watch_commands.specs.States.{raised_at, accepted_place, failed_place, totals_in, end_text, end_status};
 
 use crate::answers::add_answer;
 use crate::counts::{LineCounts, WatchCounts, add_counts, add_line_counts};
 use crate::stamps::Stamp;
 use crate::task::WatchTask;
-use bus_port::{PortFailed, Sink, write_all};
 use can_logs::{FrameTally, OtherLine, counters_of, push_finding};
-use line_stream::{PIECE, add_bytes, until_feed};
-use program_edge::tell;
+use line_stream::PIECE;
 use std::alloc::{AllocError, Global};
 use std::marker::Model;
 use text_lines::span::Span;
@@ -40,17 +35,15 @@ const ANSWER_ROOM: usize = 232;
 /// line may have begun before the piece.
 const TEXT_ROOM: usize = FINDING_ROOM * (PIECE + 1) + STAMP_ROOM * (LINE_LIMIT + 1 + PIECE);
 
-/// What is known of a log after the pieces that were taken: the map, and the line that no line feed has ended yet. For
-/// each line of the map it has the counter, how many frames were accepted and how many weren't. It counts the lines
-/// before the unended one, and has the numbers of the log. All room is taken when it is made.
+/// What is known of a log after the lines that were taken: the map, and for each of its lines the counter, how many
+/// frames were accepted and how many weren't; the numbers of the log; and what was found of the last lines. All room is
+/// taken when it is made.
 #[derive(Drop)]
 pub struct Watch {
     map: WatchTask,
     counters: Vec<u64>,
     accepted: Vec<u64>,
     failed: Vec<u64>,
-    line: Vec<u8>,
-    lines: u64,
     counts: WatchCounts,
     text: Vec<u8>,
     answer: Vec<u8>,
@@ -58,9 +51,7 @@ pub struct Watch {
 }
 
 impl Model for Watch {
-    ghost use Rattle.std.specs.Prelude.{◌≡◌, ◌≤◌, length, vec_len, vec_capacity};
-    ghost use Rattle.std.specs.List.{position_or_len};
-    ghost use Rattle.text_lines.specs.Lines.{is_line_feed};
+    ghost use Rattle.std.specs.Prelude.{◌≡◌, ◌≤◌, length, vec_capacity};
     ghost use Rattle.watch_commands.specs.States.{WatchState};
 
     ghost Value = { WatchState };
@@ -70,16 +61,12 @@ impl Model for Watch {
       counters = w.counters.items;
       accepted = w.accepted.items;
       failed = w.failed.items;
-      line = w.line.items;
-      lines = w.lines;
       counts = w.counts;
       text = w.text.items;
     } };
 
     ghost invariant = { λ w. (length w.counters.items ≡ length w.map.lines)
         × (length w.accepted.items ≡ length w.map.lines) × (length w.failed.items ≡ length w.map.lines)
-        × (vec_len w.line ≤ 4097)
-        × (position_or_len is_line_feed w.line.items ≡ length w.line.items) × (4097 ≤ vec_capacity w.line)
         × (1409356 ≤ vec_capacity w.text) × (232 ≤ vec_capacity w.answer) × (4097 ≤ vec_capacity w.spans) };
 }
 
@@ -87,12 +74,11 @@ impl Watch {
     /// Before the log, by the lines of a map.
     pub fn new(alloc: Global, map: WatchTask) -> Result<Watch, AllocError>
         ensures mapping { IfOk result (λ watch. watch.mapping ≡ map) }
-        ensures before { IfOk result (λ watch. Watched watch [] []) }
+        ensures before { IfOk result IsFreshWatch }
     {
         let counters = counters_of(alloc, map.lines())?;
         let accepted = zeros(alloc, map.lines().len())?;
         let failed = zeros(alloc, map.lines().len())?;
-        let line = Vec::with_capacity(alloc, LINE_LIMIT + 1)?;
         let text = Vec::with_capacity(alloc, TEXT_ROOM)?;
         let answer = Vec::with_capacity(alloc, ANSWER_ROOM)?;
         let spans = Vec::with_capacity(alloc, LINE_LIMIT + 1)?;
@@ -101,8 +87,6 @@ impl Watch {
             counters,
             accepted,
             failed,
-            line,
-            lines: 0,
             counts: WatchCounts::none(),
             text,
             answer,
@@ -110,67 +94,39 @@ impl Watch {
         })
     }
 
-    /// Takes the next piece of the log, of at most 4,096 bytes, and prints what is found of each line that is complete
-    /// with it. It takes no memory. If the sink fails, a proper prefix of it is printed.
-    pub fn take<K: Sink>(&mut self, piece: &[u8], sink: &mut K) -> Result<(), PortFailed>
-        requires { length piece.now ≤ 4096 }
-        ensures mapping { self.new.mapping ≡ self.old.mapping }
-        // Whatever pieces came before: the lines are those of all their bytes, wherever they were cut.
-        ensures goes_on { (bytes : List ℕ) (findings : List Found) → Watched self.old bytes findings
-            → (more : List Found) × Watched self.new (bytes ++ piece.now) (findings ++ more)
-            × PutsPiece (K.state sink.old) (K.state sink.new) (found_text self.old.mapping more) result }
+    /// Takes the line with this number, of which 4,097 bytes at most are kept, and adds what is found of it. It takes no
+    /// memory.
+    pub fn take(&mut self, number: u64, line: &[u8])
+        requires one { position_or_len is_line_feed line.now ≡ length line.now }
+        requires room { length self.old.text + 12 * length line.now + 320 ≤ 1409356 }
+        ensures few { length self.new.text ≤ length self.old.text + 12 * length line.now + 320 }
+        ensures takes { WatchesNext self.old number line.now self.new }
     {
-        self.find(piece);
-        write_all(sink, self.text())
+        let tally = self.judge_line(number, line);
+        self.count(tally);
     }
 
-    /// Takes the next piece of the log, of at most 4,096 bytes. The text is then what is found of each line that is
-    /// complete with it. It takes no memory.
-    pub fn find(&mut self, piece: &[u8])
-        requires { length piece.now ≤ 4096 }
-        ensures mapping { self.new.mapping ≡ self.old.mapping }
-        ensures goes_on { (bytes : List ℕ) (findings : List Found) → Watched self.old bytes findings
-            → (more : List Found) × Watched self.new (bytes ++ piece.now) (findings ++ more)
-            × (self.new.text ≡ found_text self.old.mapping more) }
-    {
-        self.text.clear();
-        self.look_at(piece);
-    }
-
-    /// What was found of the last piece, or at the end of the log.
+    /// What was found of the last lines, or at the end of the log.
     pub fn text(&self) -> &[u8]
         ensures { result.now ≡ self.now.text }
     {
         self.text.as_slice()
     }
 
-    /// The end of the log: what stands after the last line feed is a line, too. Prints what is found of it, then a line
-    /// for each line of the map and the five numbers, and gives the status that the program ends with. It takes no
-    /// memory.
-    pub fn finish<K: Sink>(&mut self, sink: &mut K) -> u8
-        ensures mapping { self.new.mapping ≡ self.old.mapping }
-        ensures ends { (bytes : List ℕ) (findings : List Found) → Watched self.old bytes findings
-            → (more : List Found) × FindsAll self.old.mapping.lines bytes (findings ++ more)
-            × EndingTold (K.state sink.old) (K.state sink.new)
-            (found_text self.old.mapping more ++ totals_text self.old.mapping (findings_of (findings ++ more)))
-            (watch_status self.old.mapping (findings_of (findings ++ more))) result }
-    {
-        let status = self.end();
-        tell(sink, self.text(), status)
-    }
-
-    /// The end of the log: the text is then what is found of the line after the last line feed, a line for each line of
-    /// the map, and the five numbers. It gives the status that the program ends with, and takes no memory.
-    pub fn end(&mut self) -> u8
-        ensures mapping { self.new.mapping ≡ self.old.mapping }
-        ensures ends { (bytes : List ℕ) (findings : List Found) → Watched self.old bytes findings
-            → (more : List Found) × FindsAll self.old.mapping.lines bytes (findings ++ more)
-            × (self.new.text
-            ≡ found_text self.old.mapping more ++ totals_text self.old.mapping (findings_of (findings ++ more)))
-            × (result ≡ watch_status self.old.mapping (findings_of (findings ++ more))) }
+    /// What was found of the last lines was printed or compared.
+    pub fn begin_text(&mut self)
+        ensures { self.new ≡ record self.old { text = [] } }
     {
         self.text.clear();
-        self.end_line();
+    }
+
+    /// The end of the log: adds a line for each line of the map, and the five numbers. It gives the status that the
+    /// program ends with, and takes no memory.
+    pub fn end(&mut self) -> u8
+        requires { length self.old.text ≤ 49484 }
+        ensures text { self.new ≡ record self.old { text = self.old.text ++ end_text self.old } }
+        ensures status { result ≡ end_status self.old }
+    {
         self.push_totals();
         self.status()
     }
@@ -206,64 +162,6 @@ impl Watch {
         self.map.lines()[place].optional || self.accepted[place] > 0
     }
 
-    /// Adds what is found of each line that is complete with a piece.
-    fn look_at(&mut self, piece: &[u8])
-        requires short { length piece.now ≤ 4096 }
-        requires empty { self.old.text ≡ [] }
-        requires line { length self.old.line ≤ 4097 }
-        ensures mapping { self.new.mapping ≡ self.old.mapping }
-        ensures goes_on { FindsMore self.old self.new piece.now }
-    {
-        let mut at = 0;
-        while at < piece.len() {
-            at += self.look_at_front(&piece[at..]);
-        }
-    }
-
-    /// Takes these bytes up to the first line feed, or all if there is none, and gives their number.
-    fn look_at_front(&mut self, bytes: &[u8]) -> usize
-        requires some { 0 < length bytes.now }
-        requires room { length self.old.text + 12 * length self.old.line + 320 + 12 * length bytes.now ≤ 1409356 }
-        ensures some { 0 < result }
-        ensures within { result ≤ length bytes.now }
-        ensures few { length self.new.text + 12 * length self.new.line
-            ≤ length self.old.text + 12 * length self.old.line + 320 + 12 * result }
-        ensures mapping { self.new.mapping ≡ self.old.mapping }
-        ensures goes_on { FindsMore self.old self.new (take result bytes.now) }
-    {
-        let end = until_feed(bytes);
-        self.keep(&bytes[..end]);
-        if end == bytes.len() {
-            return end;
-        }
-        self.end_line();
-        end + 1
-    }
-
-    /// Adds bytes without a line feed to the line. Of a line that is too long no more is kept than shows it.
-    fn keep(&mut self, bytes: &[u8])
-        requires { position_or_len is_line_feed bytes.now ≡ length bytes.now }
-        ensures { self.new ≡ record self.old { line = take 4097 (self.old.line ++ bytes.now) } }
-    {
-        let room = LINE_LIMIT + 1 - self.line.len();
-        let kept = &bytes[..room.min(bytes.len())];
-        add_bytes(&mut self.line, kept);
-    }
-
-    /// A line feed came: adds what is found of the line, and counts it.
-    fn end_line(&mut self)
-        requires { length self.old.text + 12 * length self.old.line + 320 ≤ 1409356 }
-        ensures few { length self.new.text + 12 * length self.new.line
-            ≤ length self.old.text + 12 * length self.old.line + 320 }
-        ensures mapping { self.new.mapping ≡ self.old.mapping }
-        ensures goes_on { FindsMore self.old self.new (10 ∷ []) }
-    {
-        self.lines = self.lines.saturating_add(1);
-        let tally = self.judge_line();
-        self.count(tally);
-        self.line.clear();
-    }
-
     /// Counts a line by what it counts as.
     fn count(&mut self, tally: Option<FrameTally>)
         requires { IfSome tally (IsPlaced (length self.old.mapping.lines)) }
@@ -285,18 +183,19 @@ impl Watch {
         }
     }
 
-    /// Adds what is found of the line, and tells what it counts as; `None` if it is skipped.
-    fn judge_line(&mut self) -> Option<FrameTally>
-        requires { length self.old.text + 12 * length self.old.line + 320 ≤ 1409356 }
-        ensures few { length self.new.text ≤ length self.old.text + 12 * length self.old.line + 320 }
-        ensures judges { JudgesLine self.old self.new result }
+    /// Adds what is found of a line, and tells what it counts as; `None` if it is skipped.
+    fn judge_line(&mut self, number: u64, line: &[u8]) -> Option<FrameTally>
+        requires one { position_or_len is_line_feed line.now ≡ length line.now }
+        requires room { length self.old.text + 12 * length line.now + 320 ≤ 1409356 }
+        ensures few { length self.new.text ≤ length self.old.text + 12 * length line.now + 320 }
+        ensures judges { JudgesLine self.old number line.now self.new result }
         ensures placed { IfSome result (IsPlaced (length self.old.mapping.lines)) }
     {
-        if self.line.len() > LINE_LIMIT {
+        if line.len() > LINE_LIMIT {
             return Some(FrameTally::Other(OtherLine::Malformed));
         }
-        put_words(&mut self.spans, self.line.as_slice()).unwrap();
-        let words = Words::of(self.line.as_slice(), self.spans.as_slice());
+        put_words(&mut self.spans, line).unwrap();
+        let words = Words::of(line, self.spans.as_slice());
         if words.is_skipped() {
             return None;
         }
@@ -305,7 +204,7 @@ impl Watch {
         let tally = push_finding(
             self.map.lines(),
             self.counters.as_mut_slice(),
-            self.lines,
+            number,
             &words,
             &mut self.answer,
         )
@@ -313,7 +212,7 @@ impl Watch {
         add_answer(
             &mut self.text,
             &self.map,
-            self.lines,
+            number,
             tally,
             &stamp,
             self.answer.as_slice(),

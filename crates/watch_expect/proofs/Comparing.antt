@@ -1,29 +1,31 @@
--- A comparison from turn to turn
-use Rattle.std.proofs.Common.{◌≡◌, ℕ, ◌<◌, List, [], ◌++◌, length, take, refl, sym, ap, ◌∙◌, subst, arith, inl, inr, append_assoc}
-use Rattle.std.specs.Prelude.{Option, None, Some, Ok}
+-- A comparison, from line to line of the log
+use Rattle.std.proofs.Common.{◌≡◌, ℕ, ◌<◌, ◌≤◌, List, [], ◌∷◌, ◌++◌, length, take, refl, sym, ap, ◌∙◌, subst, arith, inl, inr, append_assoc}
+use Rattle.std.specs.Prelude.{Option, None, Some, Ok, Err}
 use Rattle.std.proofs.lemmas.Grind.{flat_map-append}
 use Rattle.std.proofs.lemmas.Option.{same_Some}
-use Rattle.bus_port.specs.Source.{SourceState, Came, HandsOut}
-use Rattle.bus_port.proofs.CallerLemmas.{Came-more}
 use Rattle.program_edge.specs.Told.{AppendedWell, EndingTold}
 use Rattle.program_edge.specs.Inputs.{Reading, ReadsWhole}
 use Rattle.program_edge.specs.declared.input.InputFault.{InputFault}
 use Rattle.program_edge.specs.declared.input.InputFault.TheVariants as input
 use Rattle.program_edge.specs.Input.{input_fault_status}
-use Rattle.program_edge.specs.Rows.{Row}
+use Rattle.program_edge.specs.Rows.{Row, row_of}
 use Rattle.bus_port.specs.Sink.{SinkState}
-use Rattle.can_logs.specs.LogRuns.{LogInputs, Writing, WritesWhole, ReadsToEnd}
+use Rattle.can_logs.specs.LogRuns.{LogInputs, Writing, WritesWhole, log_failed_text, log_too_long_text}
+use Rattle.line_stream.specs.Pieces.{log_lines}
+use Rattle.line_stream.specs.Streams.{TakesLines, Paused, EndsStream, StopsStream, Streamed}
+use Rattle.line_stream.specs.declared.driver.StreamFault.{StreamFault}
+use Rattle.line_stream.specs.declared.driver.StreamFault.TheVariants as stream
+use Rattle.line_stream.proofs.CallerLemmas.{TakesLines-keeps, Paused-keeps}
 use Rattle.watch_commands.specs.WatchedMaps.{WatchedMap}
-use Rattle.watch_commands.specs.States.{WatchState, Watched}
-use Rattle.watch_commands.specs.Watching.{Found, findings_of, FindsComplete, FindsAll, found_text, told_text}
+use Rattle.watch_commands.specs.States.{WatchState, IsFreshWatch, Watched, end_text}
+use Rattle.watch_commands.specs.Watching.{Found, findings_of, WatchesEach, FindsComplete, FindsAll, found_text, told_text}
 use Rattle.watch_commands.specs.WatchTotals.{totals_text}
 use Rattle.watch_commands.specs.Words.{AsksWatch, text_asked}
 use Rattle.watch_commands.specs.WatchRows.{OverMap, ComesOnErrors, no_form, no_map, map_fault, no_log, FailsOfLog, failed, too_long}
-use Rattle.watch_commands.specs.WatchSteps.{SoFar}
-use Rattle.watch_commands.proofs.CallerLemmas.{asks_no_text, complete_of, SoFar-more, at_end}
+use Rattle.watch_commands.proofs.CallerLemmas.{asks_no_text, Watched-none, Watched-text, WatchedMore, WatchedMore-none, WatchedMore-more, finds_lines, text_at_end}
 use Rattle.watch_expect.specs.Comparing.{difference_text, LeavesAt, PrintsAll, DiffersIn, goes_on, ends, holds_bytes, writes_bytes}
 use Rattle.watch_expect.specs.Comparing as differs
-use Rattle.watch_expect.specs.CompareSteps.{EndsAsKept, ComparesLog, ports_at}
+use Rattle.watch_expect.specs.CompareSteps.{EndsAsKept, ComparesLog, WatchAtText, ComparesLine, FollowsFound, EndsFound}
 use Rattle.watch_expect.specs.Expects.{ExpectInputs, ExpectEnding, watched_of, kept_row, ComesExpected, Expects}
 use Rattle.watch_expect.specs.Expects as row
 
@@ -46,9 +48,6 @@ well_more some more all is = (
   },
 )
 
-well_is : (all text : List ℕ) → AppendedWell (holds_bytes []) (holds_bytes all) text → all ≡ text
-well_is all text well = same_Some all text (well.1.grown [] refl)
-
 -- what is printed of the whole log, and the text
 ended_as : (mapping : WatchedMap) (log : Reading) (text : List ℕ) (at : ℕ) (found : List ℕ) (end : Option ℕ)
     → ((t : List ℕ) → t ≡ take at text ++ found → PrintsAll mapping log t) → EndsAsKept text at found end → ComparesLog mapping log text (Ok end)
@@ -56,48 +55,144 @@ ended_as mapping log text at found None prints is = prints text is
 ended_as mapping log text at found (Some n) prints (few, inl leaves) = (few, differs.at_end (take at text ++ found) (prints (take at text ++ found) refl) leaves)
 ended_as mapping log text at found (Some n) prints (few, inr (less, is)) = (few, ends (prints (take n text) is) less)
 
--- ---- a turn
+-- ---- the log
 
-module _ (first log later : SourceState) (text : List ℕ) (at : ℕ) (old new : WatchState) (bytes : List ℕ) (findings : List Found)
-    (so_far : SoFar (ports_at (record { before = first; after = log }) text at) old bytes findings) where
-  abbrev reading : Reading
-  reading = record { before = first; after = later }
+-- at a pause what is found of all complete lines is the first bytes of the text
+record SoFarSame (mapping : WatchedMap) (text bytes : List ℕ) (lines : List (List ℕ)) (p : WatchAtText) : Type 0 where
+  pub same : p.watch.mapping ≡ mapping
+  pub text_is : p.text ≡ text
+  pub findings : List Found
+  pub watched : Watched p.watch lines findings
+  pub no_text : p.watch.text ≡ []
+  pub printed : take p.at text ≡ found_text mapping findings
+  pub finds : FindsComplete mapping.lines bytes findings
 
-  printed : take at text ≡ found_text old.mapping findings
-  printed = well_is (take at text) (found_text old.mapping findings) so_far.prints
+module _ (fresh : WatchState) (text : List ℕ) (is_fresh : IsFreshWatch fresh) where
+  abbrev mapping : WatchedMap
+  mapping = fresh.mapping
 
-  -- what is found of a piece is the text's next
-  pub piece_follows : (next : ℕ) (piece : List ℕ) (more : List Found) → new.mapping ≡ old.mapping → Came log later piece → later.faults ≡ log.faults
-      → Watched new (bytes ++ piece) (findings ++ more) → take next text ≡ take at text ++ found_text old.mapping more
-      → SoFar (ports_at reading text next) new (bytes ++ piece) (findings ++ more)
-  piece_follows next piece more same came calm watched is =
-      SoFar-more first log later (holds_bytes []) (holds_bytes (take at text)) (holds_bytes (take next text)) old new bytes findings piece more same so_far came calm watched
-      (well_more (take at text) (found_text old.mapping more) (take next text) is)
+  abbrev begun : WatchAtText
+  begun = record { watch = fresh; text = text; at = 0 }
 
-  -- what is found of a piece leaves the text
-  pub piece_leaves : (n : ℕ) (piece : List ℕ) (more : List Found) → new.mapping ≡ old.mapping → Came log later piece → later.faults ≡ log.faults
-      → Watched new (bytes ++ piece) (findings ++ more) → LeavesAt text (take at text ++ found_text old.mapping more) n
-      → DiffersIn old.mapping reading text n
-  piece_leaves n piece more same came calm watched leaves =
-      goes_on (bytes ++ piece) (findings ++ more) (Came-more so_far.came came) (calm ∙ so_far.calm)
-      (subst (λ (m : WatchedMap). FindsComplete m.lines (bytes ++ piece) (findings ++ more)) same (complete_of new (bytes ++ piece) (findings ++ more) watched))
-      (subst (λ (t : List ℕ). LeavesAt text t n)
-      (ap (λ (t : List ℕ). t ++ found_text old.mapping more) printed ∙ sym (flat_map-append (told_text old.mapping.options) findings more)) leaves)
+  complete : (bytes : List ℕ) (lines : List (List ℕ)) (rest : List ℕ) (findings : List Found) → log_lines bytes ≡ lines ++ rest ∷ [] → WatchesEach mapping.lines lines findings
+      → FindsComplete mapping.lines bytes findings
+  complete bytes lines rest findings cut finds = record { lines = lines; rest = rest; cut = cut; finds = finds }
 
-  -- the log ended
-  pub log_ends : (room left : List ℕ) (more : List Found) (found : List ℕ) (end : Option ℕ) → HandsOut log later room left 0 → 0 < length room
-      → FindsAll old.mapping.lines bytes (findings ++ more)
-      → found ≡ found_text old.mapping more ++ totals_text old.mapping (findings_of (findings ++ more))
-      → EndsAsKept text at found end → ComparesLog old.mapping reading text (Ok end)
-  log_ends room left more found end hands some finds found_is so =
-      let all : List Found = findings ++ more in
-      let to_end : ReadsToEnd reading bytes =
-      at_end first log later (holds_bytes []) (holds_bytes (take at text)) (holds_bytes []) old new bytes findings room left so_far hands some in
-      let whole_is : take at text ++ found ≡ found_text old.mapping all ++ totals_text old.mapping (findings_of all) =
-      ap (λ (t : List ℕ). t ++ found) printed ∙ ap (λ (t : List ℕ). found_text old.mapping findings ++ t) found_is
-      ∙ sym (append_assoc (found_text old.mapping findings) (found_text old.mapping more) (totals_text old.mapping (findings_of all)))
-      ∙ ap (λ (t : List ℕ). t ++ totals_text old.mapping (findings_of all)) (sym (flat_map-append (told_text old.mapping.options) findings more)) in
-      ended_as old.mapping reading text at found end (λ t is. (bytes, all, to_end, finds, is ∙ whole_is)) so
+  before_lines : SoFarSame mapping text [] [] begun
+  before_lines =
+      let w = Watched-none fresh is_fresh in
+      record {
+        same = refl;
+        text_is = refl;
+        findings = [];
+        watched = w;
+        no_text = is_fresh.no_text;
+        printed = refl;
+        finds = complete [] [] [] [] refl w.finds;
+      }
+
+  -- what is found of the lines after a pause
+  abbrev Held : List Found → ℕ → List (List ℕ) → WatchAtText → Type 0
+  Held first at lines p = WatchedMore mapping first lines p.watch × (p.text ≡ text) × (p.at ≡ at)
+
+  lines_held : (lines more : List (List ℕ)) (bytes : List ℕ) (p q : WatchAtText) (so_far : SoFarSame mapping text bytes lines p) → TakesLines ComparesLine (length lines) p more q
+      → Held so_far.findings p.at (lines ++ more) q
+  lines_held lines more bytes p q so_far taken =
+      TakesLines-keeps ComparesLine (Held so_far.findings p.at)
+      (λ before s line t held next. (WatchedMore-more mapping so_far.findings before s.watch line t.watch held.0 next.0, next.1 ∙ held.1, next.2 ∙ held.2)) lines more p q
+      (WatchedMore-none mapping so_far.findings lines p.watch so_far.same so_far.watched so_far.no_text, so_far.text_is, refl) taken
+
+  -- what was found before the lines, and of them
+  both_found : (lines all : List (List ℕ)) (bytes : List ℕ) (p : WatchAtText) (state : WatchState) (so_far : SoFarSame mapping text bytes lines p) (w : WatchedMore mapping so_far.findings all state)
+      → take p.at text ++ state.text ≡ found_text mapping (so_far.findings ++ w.found)
+  both_found lines all bytes p state so_far w =
+      ap (λ (t : List ℕ). t ++ state.text) so_far.printed ∙ ap (λ (t : List ℕ). found_text mapping so_far.findings ++ t) w.text_is
+      ∙ sym (flat_map-append (told_text mapping.options) so_far.findings w.found)
+
+  at_each : (bytes piece : List ℕ) (lines more : List (List ℕ)) (rest : List ℕ) (p q v : WatchAtText) → SoFarSame mapping text bytes lines p → length piece ≤ 4096
+      → log_lines (bytes ++ piece) ≡ (lines ++ more) ++ rest ∷ [] → TakesLines ComparesLine (length lines) p more q → FollowsFound q v (Ok tt)
+      → SoFarSame mapping text (bytes ++ piece) (lines ++ more) v
+  at_each bytes piece lines more rest p q v so_far short cut taken (text_same, follows, begins) =
+      let (w, text_is, at_is) = lines_held lines more bytes p q so_far taken in
+      let findings : List Found = so_far.findings ++ w.found in
+      let next : take v.at text ≡ take p.at text ++ q.watch.text =
+      subst (λ (n : ℕ). take v.at text ≡ take n text ++ q.watch.text) at_is (subst (λ (t : List ℕ). take v.at t ≡ take q.at t ++ q.watch.text) text_is follows) in
+      record {
+        same = ap (λ (s : WatchState). s.mapping) begins ∙ w.same;
+        text_is = text_same ∙ text_is;
+        findings = findings;
+        watched = subst (λ (s : WatchState). Watched s (lines ++ more) findings) (sym begins) (Watched-text q.watch [] (lines ++ more) findings w.watched);
+        no_text = ap (λ (s : WatchState). s.text) begins;
+        printed = next ∙ both_found lines (lines ++ more) bytes p q.watch so_far w;
+        finds = complete (bytes ++ piece) (lines ++ more) rest findings cut (finds_lines mapping (lines ++ more) q.watch findings w.same w.watched);
+      }
+
+  at_pause : (bytes : List ℕ) (lines : List (List ℕ)) (p : WatchAtText) → Paused ComparesLine FollowsFound begun bytes lines p → SoFarSame mapping text bytes lines p
+  at_pause = Paused-keeps ComparesLine FollowsFound begun (SoFarSame mapping text) before_lines at_each
+
+  module _ (log : Reading) (now : WatchAtText) where
+    -- the log ended
+    log_ends : (end : Option ℕ) → EndsStream ComparesLine FollowsFound EndsFound log begun now end → ComparesLog mapping log text (Ok end)
+    log_ends end d = elim d.ended [
+      | inr stopped ↦ absurd stopped
+      | inl (taken, takes_last, ended) ↦
+          let so_far = at_pause d.bytes d.lines d.before d.paused in
+          let (w, text_is, at_is) = lines_held d.lines (d.last ∷ []) d.bytes d.before taken so_far (taken, takes_last, refl) in
+          let all : List (List ℕ) = d.lines ++ d.last ∷ [] in
+          let findings : List Found = so_far.findings ++ w.found in
+          let totals : List ℕ = totals_text mapping (findings_of findings) in
+          let found : List ℕ = found_text mapping w.found ++ totals in
+          let kept : EndsAsKept text d.before.at found end =
+          subst (λ (f : List ℕ). EndsAsKept text d.before.at f end) (text_at_end mapping so_far.findings all taken.watch w)
+          (subst (λ (n : ℕ). EndsAsKept text n (taken.watch.text ++ end_text taken.watch) end) at_is
+          (subst (λ (t : List ℕ). EndsAsKept t taken.at (taken.watch.text ++ end_text taken.watch) end) text_is ended)) in
+          let whole_is : take d.before.at text ++ found ≡ found_text mapping findings ++ totals =
+          ap (λ (t : List ℕ). t ++ found) so_far.printed ∙ sym (append_assoc (found_text mapping so_far.findings) (found_text mapping w.found) totals)
+          ∙ ap (λ (t : List ℕ). t ++ totals) (sym (flat_map-append (told_text mapping.options) so_far.findings w.found)) in
+          let finds : FindsAll mapping.lines d.bytes findings =
+          subst (λ (ls : List (List ℕ)). WatchesEach mapping.lines ls findings) (sym d.cut) (finds_lines mapping all taken.watch findings w.same w.watched) in
+          ended_as mapping log text d.before.at found end (λ t is. (d.bytes, findings, d.read, finds, is ∙ whole_is)) kept
+    ]
+
+    -- what is found of a piece leaves the text
+    log_leaves : (end : Option ℕ) → StopsStream ComparesLine FollowsFound log begun now end → ComparesLog mapping log text (Ok end)
+    log_leaves end d = elim d.stops [
+      | inr (some, stopped) ↦ absurd stopped
+      | inl (none, (n, end_is, few, leaves)) ↦
+          let so_far = at_pause d.bytes d.lines d.before d.paused in
+          let (w, text_is, at_is) = lines_held d.lines d.more d.bytes d.before d.taken so_far d.takes_more in
+          let all : List (List ℕ) = d.lines ++ d.more in
+          let findings : List Found = so_far.findings ++ w.found in
+          let leaves_here : LeavesAt text (take d.before.at text ++ d.taken.watch.text) n =
+          subst (λ (m : ℕ). LeavesAt text (take m text ++ d.taken.watch.text) n) at_is
+          (subst (λ (t : List ℕ). LeavesAt t (take d.taken.at t ++ d.taken.watch.text) n) text_is leaves) in
+          subst (λ (e : Option ℕ). ComparesLog mapping log text (Ok e)) (sym end_is) (
+            subst (λ (t : List ℕ). n ≤ length t) text_is few,
+            goes_on (d.bytes ++ d.piece) findings d.came d.calm
+                (complete (d.bytes ++ d.piece) all d.rest findings (subst (λ (b : List (List ℕ)). log_lines (d.bytes ++ d.piece) ≡ all ++ d.rest ∷ b) none d.cut)
+                (finds_lines mapping all d.taken.watch findings w.same w.watched))
+                (subst (λ (t : List ℕ). LeavesAt text t n) (both_found d.lines all d.bytes d.before d.taken.watch so_far w) leaves_here),
+          )
+    ]
+
+    -- a log that was taken to its end, or until the texts part
+    pub Compares-taken : (end : Option ℕ) → Streamed ComparesLine FollowsFound EndsFound log begun now (Ok end) → ComparesLog mapping log text (Ok end)
+    Compares-taken end (inl at_its_end) = log_ends end at_its_end
+    Compares-taken end (inr before_it) = log_leaves end before_it
+
+    pub Compares-failed : (fault : StreamFault) → fault ≡ stream.ReadFault → Streamed ComparesLine FollowsFound EndsFound log begun now (Err fault)
+        → (n : ℕ) × FailsOfLog mapping log (writes_bytes (take n text)) (row_of 5 log_failed_text)
+    Compares-failed fault is streamed =
+        let d = subst (λ (f : StreamFault). Streamed ComparesLine FollowsFound EndsFound log begun now (Err f)) is streamed in
+        let so_far = at_pause d.bytes d.lines now d.paused in
+        (now.at, failed d.bytes so_far.findings d.came so_far.finds d.holds (well_more [] (found_text mapping so_far.findings) (take now.at text) so_far.printed))
+
+    pub Compares-too_long : (fault : StreamFault) → fault ≡ stream.TooLong → Streamed ComparesLine FollowsFound EndsFound log begun now (Err fault)
+        → (n : ℕ) × FailsOfLog mapping log (writes_bytes (take n text)) (row_of 8 log_too_long_text)
+    Compares-too_long fault is streamed =
+        let d = subst (λ (f : StreamFault). Streamed ComparesLine FollowsFound EndsFound log begun now (Err f)) is streamed in
+        let so_far = at_pause d.bytes d.lines now d.paused in
+        (now.at, too_long d.bytes so_far.findings d.came so_far.finds d.holds.0 d.holds.1 (well_more [] (found_text mapping so_far.findings) (take now.at text) so_far.printed))
 
 -- ---- the table
 

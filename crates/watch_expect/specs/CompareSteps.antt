@@ -3,13 +3,10 @@ use Rattle.std.specs.Prelude.{◌≡◌, ◌⊎◌, ℕ, ◌<◌, ◌≤◌, Lis
 use Rattle.program_edge.specs.declared.input.InputFault.{InputFault}
 use Rattle.program_edge.specs.Inputs.{Reading, Lacks}
 use Rattle.program_edge.specs.Rows.{Row}
-use Rattle.watch_commands.specs.Watching.{Found}
 use Rattle.watch_commands.specs.WatchedMaps.{WatchedMap}
-use Rattle.watch_commands.specs.States.{WatchState}
+use Rattle.watch_commands.specs.States.{WatchState, WatchesNext, end_text}
 use Rattle.watch_commands.specs.WatchRows.{FailsOfLog}
-use Rattle.can_logs.specs.LogRuns.{Ports}
-use Rattle.watch_commands.specs.WatchSteps.{SoFar}
-use Rattle.watch_expect.specs.Comparing.{LeavesAt, PrintsAll, DiffersIn, holds_bytes, writes_bytes}
+use Rattle.watch_expect.specs.Comparing.{LeavesAt, PrintsAll, DiffersIn, writes_bytes}
 use Rattle.watch_expect.specs.Expects.{kept_row}
 
 -- why a source gives no kept text
@@ -33,12 +30,28 @@ ComparesLog mapping log text (Ok None) = PrintsAll mapping log text
 ComparesLog mapping log text (Ok (Some n)) = (n ≤ length text) × DiffersIn mapping log text n
 ComparesLog mapping log text (Err row) = (n : ℕ) × FailsOfLog mapping log (writes_bytes (take n text)) row
 
--- the log, and the first bytes of the text in the place of what was printed
-abbrev pub ports_at : Reading → List ℕ → ℕ → Ports
-ports_at log text n = record { log = log; before = holds_bytes []; after = holds_bytes (take n text) }
+-- ---- a watch, as what the driver of a log hands its lines to
 
--- what a turn of the loop leaves: one more byte at least came, and what is found of it is the text's next; or the end
-abbrev pub ComparesPiece : WatchedMap → Reading → List ℕ → ℕ → WatchState → List ℕ → List Found → Option (Result (Option ℕ) Row) → Type 0
-ComparesPiece mapping log text n watch bytes findings None = (piece : List ℕ) × (more : List Found) × (0 < length piece)
-    × SoFar (ports_at log text n) watch (bytes ++ piece) (findings ++ more)
-ComparesPiece mapping log text n watch bytes findings (Some end) = ComparesLog mapping log text end
+-- a watch, the kept text, and how many of its first bytes are what was found so far
+pub record WatchAtText : Type 0 where
+  pub watch : WatchState
+  pub text : List ℕ
+  pub at : ℕ
+
+-- a line: what is found of it is added
+abbrev pub ComparesLine : WatchAtText → ℕ → List ℕ → WatchAtText → Result (Unit {0}) (Option ℕ) → Type 0
+ComparesLine before number line after (Ok _) =
+    WatchesNext before.watch number line after.watch × (after.text ≡ before.text) × (after.at ≡ before.at)
+ComparesLine before number line after (Err _) = ⊥
+
+-- a pause: what was found is the text's next, and a new one begins; or the texts part, and that ends the log
+abbrev pub FollowsFound : WatchAtText → WatchAtText → Result (Unit {0}) (Option ℕ) → Type 0
+FollowsFound before after (Ok _) = (after.text ≡ before.text)
+    × (take after.at before.text ≡ take before.at before.text ++ before.watch.text)
+    × (after.watch ≡ record before.watch { text = [] })
+FollowsFound before after (Err end) = (n : ℕ) × (end ≡ Some n) × (n ≤ length before.text)
+    × LeavesAt before.text (take before.at before.text ++ before.watch.text) n
+
+-- the end of the log: what was found, and the totals, are the rest of the text, or the texts part
+abbrev pub EndsFound : WatchAtText → WatchAtText → Option ℕ → Type 0
+EndsFound before after end = EndsAsKept before.text before.at (before.watch.text ++ end_text before.watch) end

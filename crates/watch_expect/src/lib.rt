@@ -6,6 +6,7 @@
 //! difference.
 #![tactic(auto)]
 
+mod port;
 mod run;
 mod start;
 mod texts;

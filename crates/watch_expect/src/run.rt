@@ -1,21 +1,19 @@
 //! A run whose output is compared.
-ghost use Rattle.std.specs.Prelude.{◌≡◌, ◌≤◌, ◌<◌, ◌^◌, ℕ, List, [], length, map as each, string_bytes, IfOk, IfErr};
+ghost use Rattle.std.specs.Prelude.{◌≡◌, ◌≤◌, ◌<◌, ◌^◌, length, map as each, string_bytes, IfOk, IfErr};
 ghost use Rattle.std.specs.Prelude.{vec_capacity};
-ghost use Rattle.bus_port.specs.Source.{SourceState};
 ghost use Rattle.program_edge.specs.Inputs.{ReadsWhole};
 ghost use Rattle.program_edge.specs.Told.{EndingTold};
-ghost use Rattle.watch_commands.specs.Watching.{Found};
-ghost use Rattle.watch_commands.specs.States.{Watched};
+ghost use Rattle.watch_commands.specs.States.{IsFreshWatch};
 ghost use Rattle.watch_commands.specs.Words.{AsksWatch};
-ghost use Rattle.watch_commands.specs.WatchSteps.{SoFar};
 ghost use Rattle.watch_expect.specs.Comparing.{difference_text};
 ghost use Rattle.watch_expect.specs.Expects.{kept_row, Expects};
-ghost use Rattle.watch_expect.specs.CompareSteps.{IsKeptRow, ports_at, ComparesLog, ComparesPiece};
+ghost use Rattle.watch_expect.specs.CompareSteps.{IsKeptRow, ComparesLog};
 
-use crate::texts::{follow, follow_to_end, line_at};
-use bus_port::{PortFailed, Sink, Source};
+use crate::port::ExpectPort;
+use crate::texts::line_at;
+use bus_port::{Sink, Source};
 use itoa::Buffer;
-use line_stream::{PIECE, add_bytes};
+use line_stream::{StreamFault, add_bytes, stream_lines};
 use program_edge::{DONE, InputFault, Refusal, read_input, tell, tell_refusal};
 use std::alloc::{AllocError, Global};
 use watch_commands::{Watch, prepare};
@@ -120,51 +118,14 @@ fn compare_log<T: Source>(
     text: &[u8],
     log: &mut T,
 ) -> Result<Option<usize>, Refusal>
-    requires { Watched watch.old [] [] }
-    ensures { ComparesLog watch.old.mapping (record { before = T.state log.old; after = T.state log.new }) text.now result }
+    requires { IsFreshWatch watch.old }
+    ensures { ComparesLog watch.old.mapping (record { before = T.state log.old; after = T.state log.new }) text.now
+        result }
 {
-    let mut piece = [0u8; PIECE];
-    let mut at = 0;
-    for _ in 0..u64::MAX {
-        match compare_piece(watch, text, &mut at, log, &mut piece) {
-            Some(end) => return end,
-            None => (),
-        }
-    }
-    Err(Refusal::fixed(8, "log: input too long\n"))
-}
-
-/// Compares what is found of the next piece of the log. Where the texts part or a row if they do, the log ended or
-/// failed.
-fn compare_piece<T: Source>(
-    watch: &mut Watch,
-    text: &[u8],
-    at: &mut usize,
-    log: &mut T,
-    piece: &mut [u8; PIECE],
-) -> Option<Result<Option<usize>, Refusal>>
-    requires { at.old ≤ length text.now }
-    ensures within { at.new ≤ length text.now }
-    ensures mapping { watch.new.mapping ≡ watch.old.mapping }
-    ensures turns { (first : SourceState) (bytes : List ℕ) (findings : List Found)
-        → SoFar (ports_at (record { before = first; after = T.state log.old }) text.now at.old) watch.old bytes findings
-        → ComparesPiece watch.old.mapping (record { before = first; after = T.state log.new }) text.now at.new
-        watch.new bytes findings result }
-{
-    let count = match log.read(piece) {
-        Ok(count) => count,
-        Err(PortFailed) => return Some(Err(Refusal::fixed(5, "log: read fault\n"))),
-    };
-    if count == 0 {
-        watch.end();
-        return Some(Ok(follow_to_end(text, *at, watch.text())));
-    }
-    watch.find(&piece[..count]);
-    match follow(text, *at, watch.text()) {
-        Ok(next) => {
-            *at = next;
-            None
-        }
-        Err(place) => Some(Ok(Some(place))),
+    let mut port = ExpectPort { watch, text, at: 0 };
+    match stream_lines(log, &mut port) {
+        Ok(end) => Ok(end),
+        Err(StreamFault::ReadFault) => Err(Refusal::fixed(5, "log: read fault\n")),
+        Err(StreamFault::TooLong) => Err(Refusal::fixed(8, "log: input too long\n")),
     }
 }

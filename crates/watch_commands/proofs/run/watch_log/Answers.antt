@@ -1,43 +1,27 @@
-use Rattle.std.proofs.Common.{[], ◌++◌, ◌∙◌, subst, sym, refl, arith}
-use Rattle.std.proofs.lemmas.List.{length-append}
-use Rattle.bus_port.specs.Source.{SourceState}
-use Rattle.bus_port.specs.Sink.{SinkState}
-use Rattle.watch_commands.specs.WatchedMaps.{WatchedMap}
-use Rattle.watch_commands.specs.WatchRows.{FailsOfLog, EndsLog}
-use Rattle.watch_commands.proofs.Ports.{SoFar-none, Ends-too_long}
+use Rattle.std.proofs.Common.{rules, subst, sym}
+use Rattle.std.specs.Prelude.{Ok}
+use Rattle.program_edge.specs.Inputs.{Reading}
+use Rattle.watch_commands.specs.WatchRows.{EndsLog, FailsOfLog}
+use Rattle.watch_commands.proofs.Ports.{Ends-taken, Ends-failed, Ends-too_long}
 use Rattle.watch_commands.proofs.run.watch_log.Goals as goal
 
-pub loop-init : goal.loop-init
-loop-init g c = record {
-  mapping = refl;
-  so_far = ([], [], SoFar-none (g.T.Source.state c.args.log.now) (g.K.Sink.state c.args.sink.now) c.args.watch.now c.requires, omega arith);
-}
+pub returns-in-Ok : goal.returns-in-Ok
+returns-in-Ok g c =
+    let log : Reading = record { before = g.T.Source.state c.args.log.now; after = g.T.Source.state c.stream_lines.new.log } in
+    let start = g.K.Sink.state c.args.sink.now in
+    subst (λ k. EndsLog c.args.watch.now.mapping log (record { before = start; after = k }) (Ok c.in-Ok.status)) (search rules)
+    (Ends-taken c.args.watch.now start c.requires log _ c.in-Ok.status c.in-Ok.ensures.streamed)
 
-pub loop-preserved : goal.loop-preserved
-loop-preserved g c =
-    let (bytes, findings, so_far, enough) = c.loop.invariant.so_far in
-    let (piece, more, some, next) = c.in-None.ensures.turns (g.T.Source.state c.args.log.now) (g.K.Sink.state c.args.sink.now) bytes findings so_far in
-    record {
-      mapping = c.next_piece.ensures.mapping ∙ c.loop.invariant.mapping;
-      so_far = (bytes ++ piece, findings ++ more, next, omega (arith, enough, some, length-append bytes piece));
-    }
+pub returns-in-Err-ReadFault : goal.returns-in-Err-ReadFault
+returns-in-Err-ReadFault g c =
+    let log : Reading = record { before = g.T.Source.state c.args.log.now; after = g.T.Source.state c.stream_lines.new.log } in
+    let start = g.K.Sink.state c.args.sink.now in
+    subst (λ k. FailsOfLog c.args.watch.now.mapping log (record { before = start; after = k }) c.fixed.result) (search rules)
+    (subst (FailsOfLog c.args.watch.now.mapping log _) (sym c.fixed.ensures) (Ends-failed c.args.watch.now start c.requires log _ c.in-Err-ReadFault.field-0 c.in-Err-ReadFault.field-0-is c.in-Err-ReadFault.ensures.streamed))
 
-pub returns-in-Some : goal.returns-in-Some
-returns-in-Some g c =
-    let first : SourceState = g.T.Source.state c.args.log.now in
-    let start : SinkState = g.K.Sink.state c.args.sink.now in
-    let (bytes, findings, so_far, enough) = c.loop.invariant.so_far in
-    subst (λ (m : WatchedMap). EndsLog m (record { before = first; after = g.T.Source.state c.next_piece.new.log })
-    (record { before = start; after = g.K.Sink.state c.next_piece.new.sink }) c.in-Some.end) (c.next_piece.ensures.mapping ∙ c.loop.invariant.mapping)
-    (c.in-Some.ensures.turns first start bytes findings so_far)
-
-pub returns : goal.returns
-returns g c =
-    let first : SourceState = g.T.Source.state c.args.log.now in
-    let start : SinkState = g.K.Sink.state c.args.sink.now in
-    let log : SourceState = g.T.Source.state c.loop.log in
-    let sink : SinkState = g.K.Sink.state c.loop.sink in
-    let (bytes, findings, so_far, enough) = c.loop.invariant.so_far in
-    subst (λ (m : WatchedMap). FailsOfLog m (record { before = first; after = log }) (record { before = start; after = sink }) c.fixed.result) c.loop.invariant.mapping
-    (subst (FailsOfLog c.loop.watch.mapping (record { before = first; after = log }) (record { before = start; after = sink })) (sym c.fixed.ensures)
-    (Ends-too_long first log start sink c.loop.watch bytes findings so_far (omega (arith, enough, c.loop-test.false))))
+pub returns-in-Err-TooLong : goal.returns-in-Err-TooLong
+returns-in-Err-TooLong g c =
+    let log : Reading = record { before = g.T.Source.state c.args.log.now; after = g.T.Source.state c.stream_lines.new.log } in
+    let start = g.K.Sink.state c.args.sink.now in
+    subst (λ k. FailsOfLog c.args.watch.now.mapping log (record { before = start; after = k }) c.fixed-in-Err-TooLong.result) (search rules)
+    (subst (FailsOfLog c.args.watch.now.mapping log _) (sym c.fixed-in-Err-TooLong.ensures) (Ends-too_long c.args.watch.now start c.requires log _ c.in-Err-TooLong.field-0 c.in-Err-TooLong.field-0-is c.in-Err-TooLong.ensures.streamed))

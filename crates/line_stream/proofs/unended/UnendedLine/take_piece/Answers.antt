@@ -66,3 +66,8 @@ pub returns-clause-takes : goal.returns-clause-takes
 returns-clause-takes g c =
     subst (λ p. TakesComplete g.A.LineTaker.takes c.args.self.now (g.A.LineTaker.state c.args.taker.now) p c.loop-at.self (g.A.LineTaker.state c.loop-at.taker))
     (take_all c.loop-at.at c.args.piece.now (omega arith)) c.loop-at.invariant.taken
+
+pub returns-clause-room : goal.returns-clause-room
+returns-clause-room g c =
+    let (b, f, ready, bytes_fit, feeds_fit) = c.loop-at.invariant.room in
+    (b, f, ready, omega arith, omega arith)

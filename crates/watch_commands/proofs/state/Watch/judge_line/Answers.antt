@@ -4,9 +4,7 @@ use Rattle.std.proofs.lemmas.Result.{IfOk-at_ok}
 use Rattle.text_lines.specs.Lines.{words_of, is_skipped}
 use Rattle.text_lines.specs.Spans.{word_at}
 use Rattle.can_logs.specs.declared.map_lines.MapLine.{MapLine}
-use Rattle.can_logs.specs.declared.frames.OtherLine.TheVariants as kind
 use Rattle.can_logs.specs.declared.findings.FrameTally.{FrameTally}
-use Rattle.can_logs.specs.declared.findings.FrameTally.TheVariants as tally
 use Rattle.can_logs.specs.FindingSteps.{AddsFinding}
 use Rattle.can_logs.proofs.CallerLemmas.{put_back}
 use Rattle.can_logs.specs.Findings.{finding_text}
@@ -19,81 +17,73 @@ use Rattle.watch_commands.specs.contracts.state.Watch.{the_view}
 use Rattle.watch_commands.proofs.Going.{JudgesLine-long, JudgesLine-found}
 use Rattle.watch_commands.proofs.state.Watch.judge_line.Goals as goal
 
-pub returns-then-len-gt-LINE_LIMIT-clause-judges : goal.returns-then-len-gt-LINE_LIMIT-clause-judges
-returns-then-len-gt-LINE_LIMIT-clause-judges c =
-    subst (λ (s : WatchState). JudgesLine s s (Some (tally.Other kind.Malformed))) c.self.view_is (JudgesLine-long (the_view c.self.inside) (omega (arith, c.self.inside.line.ok.0)))
+pub returns-then-line-gt-LINE_LIMIT-clause-judges : goal.returns-then-line-gt-LINE_LIMIT-clause-judges
+returns-then-line-gt-LINE_LIMIT-clause-judges c = JudgesLine-long c.args.self.now c.args.number c.args.line.now (omega arith)
 
 pub add_answer-requires-clause-room : goal.add_answer-requires-clause-room
 add_answer-requires-clause-room c =
     let stamp : LineStamp = c.of-stamp.result in
-    let fits : length stamp.time + length stamp.channel ≤ 2 * length c.as_slice-2.result.now =
-    stamp_fits c.as_slice-2.result.now c.as_slice-3.result.now stamp (c.of-stamp.ensures ∙ ap stamp_of c.of-words.ensures) in
-    omega (arith, fits, ap length c.as_slice-2.ensures.value, ap (λ (s : WatchState). length s.text) c.self.view_is, ap (λ (s : WatchState). length s.line) c.self.view_is)
+    let fits : length stamp.time + length stamp.channel ≤ 2 * length c.args.line.now =
+    stamp_fits c.args.line.now c.as_slice.result.now stamp (c.of-stamp.ensures ∙ ap stamp_of c.of-words.ensures) in
+    omega (arith, fits, ap (λ (s : WatchState). length s.text) c.self.view_is)
 
 pub returns-clause-few : goal.returns-clause-few
 returns-clause-few c =
     let stamp : LineStamp = c.of-stamp.result in
-    let fits : length stamp.time + length stamp.channel ≤ 2 * length c.as_slice-2.result.now =
-    stamp_fits c.as_slice-2.result.now c.as_slice-3.result.now stamp (c.of-stamp.ensures ∙ ap stamp_of c.of-words.ensures) in
-    omega (arith, fits, c.add_answer.ensures.few, ap length c.as_slice-2.ensures.value, ap (λ (s : WatchState). length s.text) c.self.view_is, ap (λ (s : WatchState). length s.line) c.self.view_is)
+    let fits : length stamp.time + length stamp.channel ≤ 2 * length c.args.line.now =
+    stamp_fits c.args.line.now c.as_slice.result.now stamp (c.of-stamp.ensures ∙ ap stamp_of c.of-words.ensures) in
+    omega (arith, fits, c.add_answer.ensures.few, ap (λ (s : WatchState). length s.text) c.self.view_is)
 
 pub add_answer-requires-clause-answers : goal.add_answer-requires-clause-answers
 add_answer-requires-clause-answers c =
     let old : WatchState = the_view c.self.inside in
-    let line : List ℕ = c.self.inside.line.items in
+    let line : List ℕ = c.args.line.now in
     let new : List ℕ = c.push_finding.new.counters in
     let answer : List ℕ = c.push_finding.new.text.items in
-    let put : map (word_at c.as_slice.result.now) c.put_words.new.spans.items ≡ words_of c.as_slice.result.now =
-    IfOk-at_ok (λ _. map (word_at c.as_slice.result.now) c.put_words.new.spans.items ≡ words_of c.as_slice.result.now) c.unwrap.ensures c.put_words.ensures.words in
-    let words_are : c.of-words.result ≡ words_of line =
-    c.of-words.ensures ∙ ap (λ l. map (word_at l) c.as_slice-3.result.now) c.as_slice-2.ensures.value
-    ∙ ap (map (word_at line)) c.as_slice-3.ensures.value
-    ∙ ap (λ l. map (word_at l) c.put_words.new.spans.items) (sym c.as_slice.ensures.value) ∙ put ∙ ap words_of c.as_slice.ensures.value in
-    let kept : is_skipped (words_of line) ≡ false = ap is_skipped (sym words_are) ∙ sym c.is_skipped.ensures ∙ c.if-is_skipped.false in
+    let put : map (word_at line) c.put_words.new.spans.items ≡ words_of line =
+    IfOk-at_ok (λ _. map (word_at line) c.put_words.new.spans.items ≡ words_of line) c.unwrap.ensures c.put_words.ensures.words in
+    let words_are : c.of-words.result ≡ words_of line = c.of-words.ensures ∙ ap (map (word_at line)) c.as_slice.ensures.value ∙ put in
     let empty : List ℕ = c.clear.new.self.items in
-    let finds : AddsFinding old.mapping.lines old.counters new (record { number = old.lines; words = words_of line }) empty answer c.unwrap-tally.result =
-    subst (λ (m : List MapLine). AddsFinding m old.counters new (record { number = old.lines; words = words_of line }) empty answer c.unwrap-tally.result) c.lines.ensures.value
-    (subst (λ cs. AddsFinding c.lines.result.now cs new (record { number = old.lines; words = words_of line }) empty answer c.unwrap-tally.result) c.as_mut_slice.ensures.value
-    (subst (λ (ws : List (List ℕ)). AddsFinding c.lines.result.now c.as_mut_slice.result.now new (record { number = old.lines; words = ws }) empty answer c.unwrap-tally.result) words_are
-    (IfOk-at_ok (λ (t : FrameTally). AddsFinding c.lines.result.now c.as_mut_slice.result.now new (record { number = old.lines; words = c.of-words.result }) empty answer t)
+    let finds : AddsFinding old.mapping.lines old.counters new (record { number = c.args.number; words = words_of line }) empty answer c.unwrap-tally.result =
+    subst (λ (m : List MapLine). AddsFinding m old.counters new (record { number = c.args.number; words = words_of line }) empty answer c.unwrap-tally.result) c.lines.ensures.value
+    (subst (λ cs. AddsFinding c.lines.result.now cs new (record { number = c.args.number; words = words_of line }) empty answer c.unwrap-tally.result) c.as_mut_slice.ensures.value
+    (subst (λ (ws : List (List ℕ)). AddsFinding c.lines.result.now c.as_mut_slice.result.now new (record { number = c.args.number; words = ws }) empty answer c.unwrap-tally.result) words_are
+    (IfOk-at_ok (λ (t : FrameTally). AddsFinding c.lines.result.now c.as_mut_slice.result.now new (record { number = c.args.number; words = c.of-words.result }) empty answer t)
     c.unwrap-tally.ensures c.push_finding.ensures.finds))) in
-    let (finding, audits, text_is, counts_is, as_many, behind) = finds in
-    let shown : List ℕ = c.as_slice-4.result.now in
-    let is_text : shown ≡ finding_text finding = c.as_slice-4.ensures.value ∙ text_is ∙ ap (λ (e : List ℕ). e ++ finding_text finding) c.clear.ensures.items in
-    (finding, answer_in old.mapping.lines (slice_index old.counters) (record { number = old.lines; words = words_of line }) c.unwrap-tally.result shown finding audits counts_is is_text)
+    let (finding, audits, text_is, counts_is, as_many, after) = finds in
+    let shown : List ℕ = c.as_slice-2.result.now in
+    let is_text : shown ≡ finding_text finding = c.as_slice-2.ensures.value ∙ text_is ∙ ap (λ (e : List ℕ). e ++ finding_text finding) c.clear.ensures.items in
+    (finding, answer_in old.mapping.lines (slice_index old.counters) (record { number = c.args.number; words = words_of line }) c.unwrap-tally.result shown finding audits counts_is is_text)
 
 pub returns-clause-judges : goal.returns-clause-judges
 returns-clause-judges c =
     let old : WatchState = the_view c.self.inside in
-    let line : List ℕ = c.self.inside.line.items in
+    let line : List ℕ = c.args.line.now in
     let new : List ℕ = c.push_finding.new.counters in
     let answer : List ℕ = c.push_finding.new.text.items in
-    let put : map (word_at c.as_slice.result.now) c.put_words.new.spans.items ≡ words_of c.as_slice.result.now =
-    IfOk-at_ok (λ _. map (word_at c.as_slice.result.now) c.put_words.new.spans.items ≡ words_of c.as_slice.result.now) c.unwrap.ensures c.put_words.ensures.words in
-    let words_are : c.of-words.result ≡ words_of line =
-    c.of-words.ensures ∙ ap (λ l. map (word_at l) c.as_slice-3.result.now) c.as_slice-2.ensures.value
-    ∙ ap (map (word_at line)) c.as_slice-3.ensures.value
-    ∙ ap (λ l. map (word_at l) c.put_words.new.spans.items) (sym c.as_slice.ensures.value) ∙ put ∙ ap words_of c.as_slice.ensures.value in
+    let put : map (word_at line) c.put_words.new.spans.items ≡ words_of line =
+    IfOk-at_ok (λ _. map (word_at line) c.put_words.new.spans.items ≡ words_of line) c.unwrap.ensures c.put_words.ensures.words in
+    let words_are : c.of-words.result ≡ words_of line = c.of-words.ensures ∙ ap (map (word_at line)) c.as_slice.ensures.value ∙ put in
     let kept : is_skipped (words_of line) ≡ false = ap is_skipped (sym words_are) ∙ sym c.is_skipped.ensures ∙ c.if-is_skipped.false in
     let empty : List ℕ = c.clear.new.self.items in
-    let finds : AddsFinding old.mapping.lines old.counters new (record { number = old.lines; words = words_of line }) empty answer c.unwrap-tally.result =
-    subst (λ (m : List MapLine). AddsFinding m old.counters new (record { number = old.lines; words = words_of line }) empty answer c.unwrap-tally.result) c.lines.ensures.value
-    (subst (λ cs. AddsFinding c.lines.result.now cs new (record { number = old.lines; words = words_of line }) empty answer c.unwrap-tally.result) c.as_mut_slice.ensures.value
-    (subst (λ (ws : List (List ℕ)). AddsFinding c.lines.result.now c.as_mut_slice.result.now new (record { number = old.lines; words = ws }) empty answer c.unwrap-tally.result) words_are
-    (IfOk-at_ok (λ (t : FrameTally). AddsFinding c.lines.result.now c.as_mut_slice.result.now new (record { number = old.lines; words = c.of-words.result }) empty answer t)
+    let finds : AddsFinding old.mapping.lines old.counters new (record { number = c.args.number; words = words_of line }) empty answer c.unwrap-tally.result =
+    subst (λ (m : List MapLine). AddsFinding m old.counters new (record { number = c.args.number; words = words_of line }) empty answer c.unwrap-tally.result) c.lines.ensures.value
+    (subst (λ cs. AddsFinding c.lines.result.now cs new (record { number = c.args.number; words = words_of line }) empty answer c.unwrap-tally.result) c.as_mut_slice.ensures.value
+    (subst (λ (ws : List (List ℕ)). AddsFinding c.lines.result.now c.as_mut_slice.result.now new (record { number = c.args.number; words = ws }) empty answer c.unwrap-tally.result) words_are
+    (IfOk-at_ok (λ (t : FrameTally). AddsFinding c.lines.result.now c.as_mut_slice.result.now new (record { number = c.args.number; words = c.of-words.result }) empty answer t)
     c.unwrap-tally.ensures c.push_finding.ensures.finds))) in
-    let (finding, audits, text_is, counts_is, as_many, behind) = finds in
+    let (finding, audits, text_is, counts_is, as_many, after) = finds in
     let counters_are : take c.self.inside.counters.len (new ++ drop (length new) c.self.inside.counters.items) ≡ new =
     put_back c.self.inside.counters.len c.self.inside.counters.items new (omega (arith, as_many, c.self.inside.counters.ok.0)) in
-    let few : length line ≤ 4096 = omega (arith, c.self.inside.line.ok.0) in
+    let few : length line ≤ 4096 = omega arith in
     let left : List ℕ = take c.self.inside.counters.len (new ++ drop (length new) c.self.inside.counters.items) in
-    let shown : List ℕ = c.as_slice-4.result.now in
-    let is_text : shown ≡ finding_text finding = c.as_slice-4.ensures.value ∙ text_is ∙ ap (λ (e : List ℕ). e ++ finding_text finding) c.clear.ensures.items in
+    let shown : List ℕ = c.as_slice-2.result.now in
+    let is_text : shown ≡ finding_text finding = c.as_slice-2.ensures.value ∙ text_is ∙ ap (λ (e : List ℕ). e ++ finding_text finding) c.clear.ensures.items in
     let told : List ℕ = c.add_answer.new.text.items in
     let stamp_is : c.of-stamp.result ≡ stamp_of (words_of line) = c.of-stamp.ensures ∙ ap stamp_of words_are in
     let told_is : told ≡ old.text ++ told_text old.mapping.options (record { finding = finding; stamp = stamp_of (words_of line) }) =
     subst (λ (s : LineStamp). told ≡ old.text ++ told_text old.mapping.options (record { finding = finding; stamp = s })) stamp_is
-    (c.add_answer.ensures.told finding (answer_in old.mapping.lines (slice_index old.counters) (record { number = old.lines; words = words_of line }) c.unwrap-tally.result shown finding audits counts_is is_text)) in
-    subst (λ (s : WatchState). JudgesLine s (record old { counters = left; text = told }) (Some c.unwrap-tally.result)) c.self.view_is
-    (subst (λ cs. JudgesLine old (record old { counters = cs; text = told }) (Some c.unwrap-tally.result)) (sym counters_are)
-    (JudgesLine-found old new told c.unwrap-tally.result finding few kept audits counts_is as_many behind told_is))
+    (c.add_answer.ensures.told finding (answer_in old.mapping.lines (slice_index old.counters) (record { number = c.args.number; words = words_of line }) c.unwrap-tally.result shown finding audits counts_is is_text)) in
+    subst (λ (s : WatchState). JudgesLine s c.args.number line (record old { counters = left; text = told }) (Some c.unwrap-tally.result)) c.self.view_is
+    (subst (λ cs. JudgesLine old c.args.number line (record old { counters = cs; text = told }) (Some c.unwrap-tally.result)) (sym counters_are)
+    (JudgesLine-found old c.args.number line new told c.unwrap-tally.result finding few kept audits counts_is as_many after told_is))

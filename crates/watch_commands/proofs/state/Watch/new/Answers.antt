@@ -1,11 +1,13 @@
-use Rattle.std.proofs.Common.{ℕ, length, ap, ◌∙◌, refl}
+use Rattle.std.proofs.Common.{ℕ, length, ap, ◌∙◌}
 use Rattle.std.specs.Prelude.{replicate}
 use Rattle.can_logs.specs.Findings.{first_counters}
-use Rattle.watch_commands.proofs.Going.{Watched-none}
 use Rattle.watch_commands.proofs.state.Watch.new.Goals as goal
 
 pub returns-clause-before : goal.returns-clause-before
-returns-clause-before c =
-    Watched-none _ c.in_ok-line.ensures.items refl (c.in_ok-counters.ensures ∙ ap first_counters c.lines.ensures.value)
-    (c.in_ok-accepted.ensures ∙ ap (λ (n : ℕ). replicate n 0) (ap length c.lines-2.ensures.value))
-    (c.in_ok-failed.ensures ∙ ap (λ (n : ℕ). replicate n 0) (ap length c.lines-3.ensures.value)) c.none.ensures
+returns-clause-before c = record {
+  counters_are = c.in_ok-counters.ensures ∙ ap first_counters c.lines.ensures.value;
+  accepted_are = c.in_ok-accepted.ensures ∙ ap (λ (n : ℕ). replicate n 0) (ap length c.lines-2.ensures.value);
+  failed_are = c.in_ok-failed.ensures ∙ ap (λ (n : ℕ). replicate n 0) (ap length c.lines-3.ensures.value);
+  counts_are = c.none.ensures;
+  no_text = c.in_ok-text.ensures.items;
+}

@@ -1,15 +1,16 @@
-use Rattle.std.proofs.Common.{◌≡◌, ◌∙◌, subst}
-use Rattle.line_stream.specs.Pieces.{PutsPiece}
-use Rattle.watch_commands.specs.Watching.{found_text}
-use Rattle.line_stream.proofs.CallerLemmas.{puts}
+use Rattle.std.proofs.Common.{◌≡◌, length, sym, ap, subst}
+use Rattle.std.specs.Prelude.{IfSome}
+use Rattle.watch_commands.specs.WatchedMaps.{WatchedMap}
+use Rattle.watch_commands.specs.States.{WatchState, WatchesNext, IsPlaced}
+use Rattle.watch_commands.proofs.Going.{WatchesNext-judged}
 use Rattle.watch_commands.proofs.state.Watch.take.Goals as goal
 
-pub returns-clause-goes_on : goal.returns-clause-goes_on
-returns-clause-goes_on g c = λ bytes findings w.
-    let (more, watched, text) = c.find.ensures.goes_on bytes findings w in
-    let text_is : c.text.result.now ≡ found_text c.args.self.now.mapping more = c.text.ensures ∙ text in (
-      more,
-      watched,
-      subst (λ t. PutsPiece (g.K.Sink.state c.args.sink.now) (g.K.Sink.state c.write_all.new.sink) t c.write_all.result) text_is
-          (puts (g.K.Sink.state c.args.sink.now) (g.K.Sink.state c.write_all.new.sink) c.text.result.now c.write_all.result c.write_all.ensures.ok c.write_all.ensures.no_fault c.write_all.ensures.failed c.write_all.ensures.part),
-    )
+pub returns-clause-takes : goal.returns-clause-takes
+returns-clause-takes c =
+    subst (WatchesNext c.args.self.now c.args.number c.args.line.now) (sym c.count.ensures)
+    (WatchesNext-judged c.args.self.now c.judge_line-tally.new.self c.args.number c.args.line.now c.judge_line-tally.result c.judge_line-tally.ensures.judges)
+
+pub count-requires : goal.count-requires
+count-requires c =
+    let same : c.judge_line-tally.new.self.mapping ≡ c.args.self.now.mapping = ap (λ (s : WatchState). s.mapping) c.judge_line-tally.ensures.judges.2 in
+    subst (λ (m : WatchedMap). IfSome c.judge_line-tally.result (IsPlaced (length m.lines))) (sym same) c.judge_line-tally.ensures.placed
