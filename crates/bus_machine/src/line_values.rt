@@ -1,9 +1,9 @@
 //! Which lines the type has.
 ghost use Rattle.bus_machine.specs.declared.lines.Line.TheVariants.{Sent, Accepted};
-ghost use Rattle.bus_script.specs.LineKinds.{IsLine, IsRefusal, IsReply};
+ghost use Rattle.bus_machine.specs.LineKinds.{IsLine, IsRefusal, IsReply};
 
+use crate::lines::{Line, Refusal};
 use basics::Pdu;
-use bus_machine::{Line, Refusal};
 use memory_update::Reply;
 
 /// Every line of the type meets the premise of the laws: its numbers fit, and its bytes are at most 64.
