@@ -25,7 +25,7 @@ pub enum Latest {
 }
 
 /// The deed of a place, if one is read.
-fn deed_in(read: &PlaceRead) -> Option<(u64, LogDeed)>
+pub(crate) fn deed_in(read: &PlaceRead) -> Option<(u64, LogDeed)>
     ensures some { (generation : ℕ) (deed : LogDeed) → result ≡ Some (generation, deed) → ReadsDeed read.now generation deed }
     ensures none { result ≡ None → (generation : ℕ) (deed : LogDeed) → ReadsDeed read.now generation deed → ⊥ }
 {

@@ -7,8 +7,10 @@
 ghost use Rattle.std.specs.Prelude.{◌≡◌, ◌*◌, length};
 
 mod finding;
+mod following;
 
 pub use finding::{FoundDeed, Latest, find_latest, lacks_line, next_free};
+pub use following::{follow, make_cells, read_copy};
 use seal_parts::SealLine;
 
 /// How many banks a log goes round, how many places a bank has, and how many cells the store has.
