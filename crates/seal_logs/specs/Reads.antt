@@ -1,5 +1,6 @@
 -- What a start has read of the log, and what it makes of it.
-use Rattle.std.specs.Prelude.{◌≡◌, ◌≢◌, ◌⊎◌, ◌+◌, ◌*◌, ◌<◌, ◌≤◌, ℕ, suc, true, false, Option, Some, None, List, [], ◌∷◌, get_or, length, set}
+use Rattle.std.specs.Prelude.{◌≡◌, ◌≢◌, ◌⊎◌, ◌+◌, ◌*◌, ◌<◌, ◌≤◌, ℕ, suc, true, false, Option, Some, None, List, []}
+use Rattle.std.specs.Prelude.{◌∷◌, get_or, length, set}
 use Rattle.seal_parts.specs.declared.LogDeed.{LogDeed}
 use Rattle.seal_parts.specs.declared.LineBody.TheVariants.{Copies, Does}
 use Rattle.seal_parts.specs.declared.DeedBody.{DeedBody}
@@ -27,8 +28,8 @@ IsDeedPlace s bank k = (bank < s.banks) × ((s.cells ≤ k) × (k < s.places))
 abbrev pub ReadsDeed : PlaceRead → ℕ → LogDeed → Type 0
 ReadsDeed p generation deed = p.line ≡ Some (record { generation = generation; body = Does deed })
 
--- The latest deed of these places is the last one of its bank under the highest generation, and no other bank has a deed
--- of that generation.
+-- The latest deed of these places is the last one of its bank under the highest generation, and no other bank has a
+-- deed of that generation.
 pub record IsLatestIn (In : ℕ → ℕ → Type 0) (r : LogReads) (bank place generation : ℕ) (deed : LogDeed) : Type 0 where
   pub inside : In bank place
   pub is : ReadsDeed (r bank place) generation deed
@@ -75,8 +76,8 @@ pub record LacksLine (s : LogSizes) (places : ℕ → PlaceRead) (generation : �
   pub lacks : (deed : LogDeed) → ReadsDeed (places place) generation deed → ⊥
 
 -- a copy of these cells under this generation is read
-abbrev pub ReadsCopy : (ℕ → PlaceRead) → ℕ → List (List ℕ) → Type 0
-ReadsCopy places generation cells = (i : ℕ) → i < length cells
+abbrev pub IsCopyRead : (ℕ → PlaceRead) → ℕ → List (List ℕ) → Type 0
+IsCopyRead places generation cells = (i : ℕ) → i < length cells
     → (places i).line ≡ Some (record { generation = generation; body = Copies i (get_or cells i []) })
 
 -- From this deed back to the copy each deed that is followed is read, and stands before the one that follows it: these

@@ -1,7 +1,7 @@
 //! The copy of a bank, the deeds that follow it, and what they make of its cells.
 ghost use Rattle.std.specs.Prelude.{◌≡◌, ◌*◌, ◌+◌, ◌<◌, ◌≤◌, ℕ, List, Option, length, take, true, false, Some, None};
 ghost use Rattle.seal_parts.specs.declared.LineBody.TheVariants.{Copies};
-ghost use Rattle.seal_logs.specs.Reads.{reads_in, ReadsCopy, ReadsDeed, IsChain, MakesOf, after_body};
+ghost use Rattle.seal_logs.specs.Reads.{reads_in, IsCopyRead, ReadsDeed, IsChain, MakesOf, after_body};
 
 use crate::finding::deed_in;
 use crate::{LogSizes, PlaceRead};
@@ -44,9 +44,9 @@ pub fn read_copy(
     requires inside { bank < sizes.banks }
     requires fits { length reads.now ≡ sizes.banks * sizes.places }
     requires room { length cells.old ≤ sizes.places }
-    ensures copy { result ≡ true → ReadsCopy (reads_in sizes reads.now bank) generation cells.new }
+    ensures copy { result ≡ true → IsCopyRead (reads_in sizes reads.now bank) generation cells.new }
     ensures none { result ≡ false → (now : List (List ℕ)) → length now ≡ length cells.old
-        → ReadsCopy (reads_in sizes reads.now bank) generation now → ⊥ }
+        → IsCopyRead (reads_in sizes reads.now bank) generation now → ⊥ }
 {
     let start = bank as usize * sizes.places as usize;
     for i in 0..cells.len() {
@@ -147,7 +147,8 @@ pub fn make_cells(
 )
     requires inside { bank < sizes.banks }
     requires fits { length reads.now ≡ sizes.banks * sizes.places }
-    requires chain { (last : Option ℕ) × IsChain sizes (reads_in sizes reads.now bank) generation sizes.places last chain.now }
+    requires chain { (last : Option ℕ)
+        × IsChain sizes (reads_in sizes reads.now bank) generation sizes.places last chain.now }
     ensures { MakesOf (reads_in sizes reads.now bank) generation chain.now cells.old cells.new }
 {
     let start = bank as usize * sizes.places as usize;

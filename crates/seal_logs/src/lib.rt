@@ -1,7 +1,7 @@
 //! The log of a store on a part of `seal_parts`: what a start makes of what it read.
 //!
-//! A bank holds a copy of the cells, and then **deeds**: each has a guard, a line and a confirm, and names the deed that
-//! it follows. A start reads each unit once, into a list of [`PlaceRead`], and decides on that alone.
+//! A bank holds a copy of the cells, and then **deeds**: each has a guard, a line and a confirm, and names the deed
+//! that it follows. A start reads each unit once, into a list of [`PlaceRead`], and decides on that alone.
 #![tactic(auto)]
 
 ghost use Rattle.std.specs.Prelude.{◌≡◌, ◌*◌, length};
