@@ -3,5 +3,5 @@ use Rattle.std.specs.Prelude.{ℕ, List, take, codes}
 use Rattle.she_cmac.specs.Cmac.{cmac}
 
 -- the first three bytes of the CMAC of a fixed text under the key
-unfoldable pub check_of : List ℕ → List ℕ
-check_of key = take 3 (cmac key (codes "key check value"))
+unfoldable pub key_check : List ℕ → List ℕ
+key_check key = take 3 (cmac key (codes "key check value"))

@@ -6,7 +6,7 @@ use Rattle.key_campaign.specs.Entries.{same_slot}
 use Rattle.key_campaign.specs.Steps.{ConfirmsWith}
 use Rattle.machine_runs.specs.Run.{Moment, Run}
 use Rattle.ledger_rows.specs.declared.kinds.RowKind.TheVariants.{Confirmed}
-use Rattle.ledger_rows.specs.Check.{check_of}
+use Rattle.ledger_rows.specs.Check.{key_check}
 use Rattle.ledger_rows.specs.Rows.{RowOrigin, LedgerRow}
 use Rattle.ledger_rows.specs.Steps.{IssuesRow, ConfirmsRow}
 
@@ -58,7 +58,7 @@ NoRowGoes start ms last = StillHasRows start last × All (λ m. StillHasRows m.a
 abbrev pub CarriesAnswer : LedgerRow → RowCommand → Type 0
 CarriesAnswer row (IssueBy i origin) = ⊥
 CarriesAnswer row (ConfirmBy k origin) =
-    (row.uid ≡ k.uid) × (row.id ≡ k.id) × (row.check ≡ check_of k.key) × ConfirmsWith k row.counter
+    (row.uid ≡ k.uid) × (row.id ≡ k.id) × (row.check ≡ key_check k.key) × ConfirmsWith k row.counter
 
 -- a confirmed row was there at the start, or such a command came
 abbrev pub ConfirmedByAnswer : List LedgerRow → List FileMoment → List LedgerRow → Type 0

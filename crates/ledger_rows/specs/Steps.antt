@@ -11,7 +11,7 @@ use Rattle.key_campaign.specs.Entries.{greatest_counter}
 use Rattle.key_campaign.specs.Steps.{ConfirmsWith}
 use Rattle.ledger_rows.specs.declared.kinds.RowKind.TheVariants.{Issued, Confirmed}
 use Rattle.ledger_rows.specs.declared.kinds.SlotRow.{SlotRow}
-use Rattle.ledger_rows.specs.Check.{check_of}
+use Rattle.ledger_rows.specs.Check.{key_check}
 use Rattle.ledger_rows.specs.Rows.{RowOrigin, LedgerRow, slot_rows, last_counter}
 
 -- the rows are those of before and this one, in any order
@@ -26,7 +26,7 @@ issued_row i origin counter = record {
   id = i.id;
   counter = counter;
   kind = Issued;
-  check = check_of i.key;
+  check = key_check i.key;
   auth = i.auth;
   origin = origin;
 }
@@ -50,7 +50,7 @@ RefusesRow rows i _ = ⊥
 -- with the row's counter and the key
 pub record AnswersRow (k : Confirm) (row : SlotRow) : Type 0 where
   pub issued : row.kind ≡ Issued
-  pub check : row.check ≡ check_of k.key
+  pub check : row.check ≡ key_check k.key
   pub confirms : ConfirmsWith k row.counter
 
 -- this counter was confirmed
@@ -63,7 +63,7 @@ confirmed_row k origin counter = record {
   id = k.id;
   counter = counter;
   kind = Confirmed;
-  check = check_of k.key;
+  check = key_check k.key;
   auth = k.auth;
   origin = origin;
 }

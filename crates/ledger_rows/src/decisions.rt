@@ -2,7 +2,7 @@
 
 ghost use Rattle.std.specs.Prelude.{◌≡◌, ◌+◌, ◌^◌, ◌<◌, ◌≤◌, ◌↔◌, IsTrue, All, Any, IfOk, IfErr, IfSome, IfNone};
 ghost use Rattle.key_campaign.specs.Entries.{greatest_counter};
-ghost use Rattle.ledger_rows.specs.Check.{check_of};
+ghost use Rattle.ledger_rows.specs.Check.{key_check};
 ghost use Rattle.ledger_rows.specs.Rows.{greatest_in};
 ghost use Rattle.ledger_rows.specs.declared.kinds.RowKind.TheVariants.{Issued};
 ghost use Rattle.ledger_rows.specs.Steps.{AnswersRow, HasConfirmed, RefusesAnswer};
@@ -31,6 +31,7 @@ fn greatest(rows: &[SlotRow]) -> u32
 /// The counter that is issued next over these rows of a unit and slot; `None` if the last one is in use.
 pub fn next_counter(rows: &[SlotRow]) -> Option<Counter28>
     ensures next { IfSome result (λ counter. counter ≡ greatest_in rows.now + 1) }
+    ensures fits { IfSome result (λ counter. counter ≤ greatest_counter) }
     ensures spent { IfNone result (greatest_counter ≤ greatest_in rows.now) }
 {
     Counter28::new(greatest(rows) + 1)
@@ -52,7 +53,7 @@ fn has_confirmed(rows: &[SlotRow], counter: Counter28) -> bool
 
 /// Whether the reply answers the request of this row; `check` is the check value of the key.
 fn answers(confirm: &Confirm, check: [u8; 3], row: &SlotRow) -> bool
-    requires { check ≡ check_of confirm.now.key }
+    requires { check ≡ key_check confirm.now.key }
     ensures { IsTrue result ↔ AnswersRow confirm.now row.now }
 {
     if row.kind != RowKind::Issued || row.check != check {

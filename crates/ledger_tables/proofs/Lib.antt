@@ -1,0 +1,5 @@
+pub mod Texts
+pub mod Matching
+pub mod Added
+pub mod Stated
+pub mod Deciding
