@@ -72,7 +72,8 @@ fn answers(confirm: &Confirm, check: [u8; 3], row: &SlotRow) -> bool
 
 /// The counter of the first request that the reply answers.
 fn first_answered(rows: &[SlotRow], confirm: &Confirm) -> Option<Counter28>
-    ensures some { IfSome result (λ counter. Any (λ row. AnswersRow confirm.now row × (row.counter ≡ counter)) rows.now) }
+    ensures some { IfSome result (λ counter.
+        Any (λ row. AnswersRow confirm.now row × (row.counter ≡ counter)) rows.now) }
     ensures none { IfNone result (All (λ row. ¬ AnswersRow confirm.now row) rows.now) }
 {
     let check = check_value(&confirm.key);
@@ -90,7 +91,8 @@ fn first_answered(rows: &[SlotRow], confirm: &Confirm) -> Option<Counter28>
 /// `Unknown` if nothing was issued, `NotConfirmed` if the reply answers no request, and `AlreadyConfirmed` if the one
 /// that it answers was confirmed.
 pub fn answered_row(rows: &[SlotRow], confirm: &Confirm) -> Result<Counter28, LedgerRefusal>
-    ensures answers { IfOk result (λ counter. Any (λ row. AnswersRow confirm.now row × (row.counter ≡ counter)) rows.now) }
+    ensures answers { IfOk result (λ counter.
+        Any (λ row. AnswersRow confirm.now row × (row.counter ≡ counter)) rows.now) }
     ensures unconfirmed { IfOk result (λ counter. ¬ HasConfirmed counter rows.now) }
     ensures refused { IfErr result (RefusesAnswer rows.now confirm.now) }
 {

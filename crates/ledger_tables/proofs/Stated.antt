@@ -33,7 +33,6 @@ still old new same has = record {
   alone = same.0.mode ∙ has.alone;
 }
 
-
 pub on_ok : {T E P : Type 0} (r : Result T E) → P → OnOk r P
 on_ok (Ok x) p = p
 on_ok (Err e) p = tt

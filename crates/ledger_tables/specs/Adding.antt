@@ -8,6 +8,11 @@ origin_of station operator time = record { station = station; operator = operato
 
 abbrev pub row_of_new : NewRow → RowOrigin → LedgerRow
 row_of_new row origin = record {
-  uid = row.uid; id = row.id; counter = row.counter; kind = row.kind; check = row.check; auth = row.auth;
-  origin = origin
+  uid = row.uid;
+  id = row.id;
+  counter = row.counter;
+  kind = row.kind;
+  check = row.check;
+  auth = row.auth;
+  origin = origin;
 }

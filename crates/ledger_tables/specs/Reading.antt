@@ -8,4 +8,5 @@ use Rattle.ledger_tables.specs.Held.{natural_in, slot_row_in}
 -- what decides a command, of the columns slot, counter, what and kcv as they are shown
 abbrev pub shown_slot_row : Row → Option SlotRow
 shown_slot_row shown =
-    option_and_then (λ (_ : ℕ). slot_row_in (column shown 1) (column shown 2) (column shown 3)) (natural_in (column shown 0))
+    option_and_then (λ (_ : ℕ). slot_row_in (column shown 1) (column shown 2) (column shown 3))
+    (natural_in (column shown 0))

@@ -39,7 +39,12 @@ entry_table = record {
 -- by which a unit's slot is found
 abbrev pub entry_index : Index
 entry_index = record {
-  name = codes "sqlite_autoindex_entry_1"; tree = 1; table = 0; columns = 1 ∷ 2 ∷ 3 ∷ 0 ∷ []; order = plain; is_unique = true
+  name = codes "sqlite_autoindex_entry_1";
+  tree = 1;
+  table = 0;
+  columns = 1 ∷ 2 ∷ 3 ∷ 0 ∷ [];
+  order = plain;
+  is_unique = true;
 }
 
 abbrev pub ledger_schema : Schema

@@ -35,13 +35,21 @@ pub(crate) fn add<S: Alter>(
     time: &str,
 ) -> Result<usize, Error>
     requires { HasCleanDisk (state S.Store conn.old) → HasLedgerTable (state S.Store conn.old) }
-    ensures adds { HasCleanDisk (state S.Store conn.new) → OnOk result (AddsRow (row_of_new row.now (origin_of station.now operator.now time.now)) (ledger_in (state S.Store conn.old)) (ledger_in (state S.Store conn.new))) }
-    ensures ready { HasCleanDisk (state S.Store conn.new) → OnOk result (HasLedgerTable (state S.Store conn.new)) }
-    ensures kept { HasCleanDisk (state S.Store conn.new) → OnOk result ((left : Trees) → (state S.Store conn.new).may_leave left → left ≡ (state S.Store conn.new).now.trees) }
-    ensures crash { Survives (state S.Store conn.old) (state S.Store conn.new) (λ left. AddsRow (row_of_new row.now (origin_of station.now operator.now time.now)) (ledger_in (state S.Store conn.old)) (ledger_of (left 0))) }
+    ensures adds { HasCleanDisk (state S.Store conn.new)
+        → OnOk result (AddsRow (row_of_new row.now (origin_of station.now operator.now time.now))
+        (ledger_in (state S.Store conn.old)) (ledger_in (state S.Store conn.new))) }
+    ensures ready { HasCleanDisk (state S.Store conn.new)
+        → OnOk result (HasLedgerTable (state S.Store conn.new)) }
+    ensures kept { HasCleanDisk (state S.Store conn.new)
+        → OnOk result ((left : Trees) → (state S.Store conn.new).may_leave left
+        → left ≡ (state S.Store conn.new).now.trees) }
+    ensures crash { Survives (state S.Store conn.old) (state S.Store conn.new)
+        (λ left. AddsRow (row_of_new row.now (origin_of station.now operator.now time.now))
+        (ledger_in (state S.Store conn.old)) (ledger_of (left 0))) }
 {
     conn.execute(
-        "INSERT INTO entry (uid, slot, counter, what, kcv, auth, station, operator, time) VALUES (?1, ?2, ?3, ?4, ?5, ?6, ?7, ?8, ?9)",
+        "INSERT INTO entry (uid, slot, counter, what, kcv, auth, station, operator, time) \
+         VALUES (?1, ?2, ?3, ?4, ?5, ?6, ?7, ?8, ?9)",
         params![
             row.uid.as_slice(),
             u32::from(row.id.number()),

@@ -47,7 +47,8 @@ fn kind_of_row(row: &Row) -> Result<RowKind, Error>
 
 /// The counter of a row.
 fn counter_of_row(row: &Row) -> Result<Counter28, Error>
-    ensures { IfOk result (λ counter. (column row.now 1 ≡ Int (pos counter)) × ((id : ℕ) × (column row.now 0 ≡ Int (pos id)))) }
+    ensures { IfOk result (λ counter. (column row.now 1 ≡ Int (pos counter))
+        × ((id : ℕ) × (column row.now 0 ≡ Int (pos id)))) }
 {
     let _id: u32 = row.get(0)?;
     match Counter28::new(row.get(1)?) {
@@ -86,8 +87,10 @@ pub(crate) fn rows_for<S: Alter>(
     id: SlotId,
 ) -> Result<Vec<SlotRow>, Error>
     requires { HasCleanDisk (state S.Store conn.old) → HasLedgerTable (state S.Store conn.old) }
-    ensures rows { HasCleanDisk (state S.Store conn.new) → IfOk result (λ rows. IsPermutation (slot_rows uid.now id (ledger_in (state S.Store conn.old))) rows.items) }
-    ensures same { HasCleanDisk (state S.Store conn.new) → OnOk result (IsUnchanged (state S.Store conn.old) (state S.Store conn.new)) }
+    ensures rows { HasCleanDisk (state S.Store conn.new) → IfOk result (λ rows.
+        IsPermutation (slot_rows uid.now id (ledger_in (state S.Store conn.old))) rows.items) }
+    ensures same { HasCleanDisk (state S.Store conn.new)
+        → OnOk result (IsUnchanged (state S.Store conn.old) (state S.Store conn.new)) }
     ensures survives { Survives (state S.Store conn.old) (state S.Store conn.new) (λ _. ⊥) }
 {
     let rows = conn.query_all(

@@ -31,12 +31,20 @@ pub fn issue<S: Alter>(
     time: &str,
 ) -> Result<Result<Counter28, LedgerRefusal>, Error>
     requires { HasCleanDisk (state S.Store conn.old) → HasLedgerTable (state S.Store conn.old) }
-    ensures issued { HasCleanDisk (state S.Store conn.new) → IfOk result (λ answer. IfOk answer (λ counter. IssuesRow issue.now (origin_of station.now operator.now time.now) counter (ledger_in (state S.Store conn.old)) (ledger_in (state S.Store conn.new)))) }
-    ensures refused { HasCleanDisk (state S.Store conn.new) → IfOk result (λ answer. IfErr answer (λ why. RefusesRow (ledger_in (state S.Store conn.old)) issue.now why)) }
-    ensures same { HasCleanDisk (state S.Store conn.new) → IfOk result (λ answer. IfErr answer (λ _. (state S.Store conn.new).now ≡ (state S.Store conn.old).now)) }
-    ensures ready { HasCleanDisk (state S.Store conn.new) → OnOk result (HasLedgerTable (state S.Store conn.new)) }
-    ensures kept { HasCleanDisk (state S.Store conn.new) → IfOk result (λ answer. OnOk answer ((left : Trees) → (state S.Store conn.new).may_leave left → left ≡ (state S.Store conn.new).now.trees)) }
-    ensures crash { Survives (state S.Store conn.old) (state S.Store conn.new) (λ left. (counter : ℕ) × IssuesRow issue.now (origin_of station.now operator.now time.now) counter (ledger_in (state S.Store conn.old)) (ledger_of (left 0))) }
+    ensures issued { HasCleanDisk (state S.Store conn.new) → IfOk result (λ answer. IfOk answer (λ counter.
+        IssuesRow issue.now (origin_of station.now operator.now time.now) counter
+        (ledger_in (state S.Store conn.old)) (ledger_in (state S.Store conn.new)))) }
+    ensures refused { HasCleanDisk (state S.Store conn.new) → IfOk result (λ answer. IfErr answer (λ why.
+        RefusesRow (ledger_in (state S.Store conn.old)) issue.now why)) }
+    ensures same { HasCleanDisk (state S.Store conn.new) → IfOk result (λ answer. IfErr answer (λ _.
+        (state S.Store conn.new).now ≡ (state S.Store conn.old).now)) }
+    ensures ready { HasCleanDisk (state S.Store conn.new)
+        → OnOk result (HasLedgerTable (state S.Store conn.new)) }
+    ensures kept { HasCleanDisk (state S.Store conn.new) → IfOk result (λ answer. OnOk answer ((left : Trees)
+        → (state S.Store conn.new).may_leave left → left ≡ (state S.Store conn.new).now.trees)) }
+    ensures crash { Survives (state S.Store conn.old) (state S.Store conn.new) (λ left. (counter : ℕ)
+        × IssuesRow issue.now (origin_of station.now operator.now time.now) counter
+        (ledger_in (state S.Store conn.old)) (ledger_of (left 0))) }
 {
     if !may_authorise(issue.id, issue.auth) {
         return Ok(Err(LedgerRefusal::BadPair));
@@ -60,8 +68,8 @@ pub fn issue<S: Alter>(
 /// Records that a reply confirms the update of a request that was issued. Once it is answered, a crash keeps its row.
 ///
 /// # Errors
-/// `Unknown`, `NotConfirmed` and `AlreadyConfirmed` change nothing. An error of the file says that it failed; the ledger
-/// is then as before, or has the row.
+/// `Unknown`, `NotConfirmed` and `AlreadyConfirmed` change nothing. An error of the file says that it failed; the
+/// ledger is then as before, or has the row.
 pub fn confirm<S: Alter>(
     conn: &mut Connection<S>,
     alloc: Global,
@@ -71,12 +79,21 @@ pub fn confirm<S: Alter>(
     time: &str,
 ) -> Result<Result<Counter28, LedgerRefusal>, Error>
     requires { HasCleanDisk (state S.Store conn.old) → HasLedgerTable (state S.Store conn.old) }
-    ensures confirmed { HasCleanDisk (state S.Store conn.new) → IfOk result (λ answer. IfOk answer (λ counter. ConfirmsRow confirm.now (origin_of station.now operator.now time.now) counter (ledger_in (state S.Store conn.old)) (ledger_in (state S.Store conn.new)))) }
-    ensures refused { HasCleanDisk (state S.Store conn.new) → IfOk result (λ answer. IfErr answer (λ why. RefusesAnswer (slot_rows_of confirm.now.uid confirm.now.id (ledger_in (state S.Store conn.old))) confirm.now why)) }
-    ensures same { HasCleanDisk (state S.Store conn.new) → IfOk result (λ answer. IfErr answer (λ _. (state S.Store conn.new).now ≡ (state S.Store conn.old).now)) }
-    ensures ready { HasCleanDisk (state S.Store conn.new) → OnOk result (HasLedgerTable (state S.Store conn.new)) }
-    ensures kept { HasCleanDisk (state S.Store conn.new) → IfOk result (λ answer. OnOk answer ((left : Trees) → (state S.Store conn.new).may_leave left → left ≡ (state S.Store conn.new).now.trees)) }
-    ensures crash { Survives (state S.Store conn.old) (state S.Store conn.new) (λ left. (counter : ℕ) × ConfirmsRow confirm.now (origin_of station.now operator.now time.now) counter (ledger_in (state S.Store conn.old)) (ledger_of (left 0))) }
+    ensures confirmed { HasCleanDisk (state S.Store conn.new) → IfOk result (λ answer. IfOk answer (λ counter.
+        ConfirmsRow confirm.now (origin_of station.now operator.now time.now) counter
+        (ledger_in (state S.Store conn.old)) (ledger_in (state S.Store conn.new)))) }
+    ensures refused { HasCleanDisk (state S.Store conn.new) → IfOk result (λ answer. IfErr answer (λ why.
+        RefusesAnswer (slot_rows_of confirm.now.uid confirm.now.id (ledger_in (state S.Store conn.old)))
+        confirm.now why)) }
+    ensures same { HasCleanDisk (state S.Store conn.new) → IfOk result (λ answer. IfErr answer (λ _.
+        (state S.Store conn.new).now ≡ (state S.Store conn.old).now)) }
+    ensures ready { HasCleanDisk (state S.Store conn.new)
+        → OnOk result (HasLedgerTable (state S.Store conn.new)) }
+    ensures kept { HasCleanDisk (state S.Store conn.new) → IfOk result (λ answer. OnOk answer ((left : Trees)
+        → (state S.Store conn.new).may_leave left → left ≡ (state S.Store conn.new).now.trees)) }
+    ensures crash { Survives (state S.Store conn.old) (state S.Store conn.new) (λ left. (counter : ℕ)
+        × ConfirmsRow confirm.now (origin_of station.now operator.now time.now) counter
+        (ledger_in (state S.Store conn.old)) (ledger_of (left 0))) }
 {
     let rows = rows_for(conn, alloc, &confirm.uid, confirm.id)?;
     let counter = match answered_row(rows.as_slice(), confirm) {

@@ -15,7 +15,7 @@ pub returns-clause-rows : goal.returns-clause-rows
 returns-clause-rows g c clean =
     let early : HasCleanDisk (state g.S.Store c.args.conn.now) = omega (arith, c.query_all.ensures.survives.clean) in
     let shown = rw (c.params-to_sql.ensures, c.params-to_sql-2.ensures, c.from.ensures, c.as_slice.ensures.value, c.number.ensures.value) at (c.in_ok-rows.ensures.ok clean) in
-    IfOk-weaker c.each_slot_row.result _ _ (λ read each. reads c.args.uid.now c.args.id (state g.S.Store c.args.conn.now) (state g.S.Store c.query_all.new.self) c.in_ok-rows.rows.items read.items (c.requires early).schema shown (sym (ap (map shown_slot_row) c.as_slice-2.ensures) ∙ each)) c.each_slot_row.ensures
+    IfOk-weaker c.each_slot_row.result _ _ (λ read each. reads c.args.uid.now c.args.id (state g.S.Store c.args.conn.now) (state g.S.Store c.query_all.new.self) c.in_ok-rows.rows.items read.items (c.requires early).schema shown (sym (ap (map shown_slot_row) c.as_slice-2.ensures.value) ∙ each)) c.each_slot_row.ensures
 
 pub returns-clause-same : goal.returns-clause-same
 returns-clause-same g c clean =
