@@ -1,14 +1,18 @@
 -- What holds of all runs of a file
 use Rattle.std.proofs.Common.{◌≡◌, ◌⊎◌, inl, inr, ℕ, zero, suc, ◌+◌, ◌<◌, ◌≤◌, Bool, true, false, cond, Option, None, Some, List, [], ◌∷◌, All, Any, Contains, refl, sym, ap, subst, subst₂, ◌∙◌, arith}
+use Rattle.std.specs.Prelude.{◌==◌}
+use Rattle.std.specs.Str.{bytes_eq}
 use Rattle.std.proofs.Math.Nat.{le_refl}
 use Rattle.std.proofs.lemmas.List.Elements.{All-nil, All-cons}
 use Rattle.std.proofs.lemmas.List.Kept.{AllPairs-cons}
 use Rattle.std.proofs.lemmas.List.Sorted.{Contains-permutation, IsPermutation-sym}
+use Rattle.std.proofs.lemmas.Bool.{and_from, and_parts}
+use Rattle.std.proofs.lemmas.Bool.Decides.{Decides-eqb}
 use Rattle.std.proofs.lemmas.Option.{none-some}
+use Rattle.std.proofs.lemmas.Slice.Eq.{bytes_eq-Decides}
 use Rattle.machine_runs.specs.Run.{Run}
 use Rattle.key_campaign.specs.Entries.{same_slot}
 use Rattle.key_campaign.specs.Steps.{ConfirmsWith}
-use Rattle.key_campaign.proofs.EntryPlaces.{same_slot_is, same_slot_self}
 use Rattle.ledger_rows.specs.declared.kinds.RowKind.TheVariants.{Issued, Confirmed}
 use Rattle.ledger_rows.specs.Rows.{LedgerRow, last_counter}
 use Rattle.ledger_rows.specs.Steps.{AddsRow, IssuesRow, issued_row, confirmed_row}
@@ -35,6 +39,14 @@ rises old new uid id (inr it) = (added it.0 old new it.1 uid id).1
 
 -- ---- the counters rise
 
+slot_is : (uid : List ℕ) (id : ℕ) (other : List ℕ) (other_id : ℕ) → same_slot uid id other other_id ≡ true → (other ≡ uid) × (other_id ≡ id)
+slot_is uid id other other_id e =
+    let parts = and_parts (bytes_eq other uid) (other_id == id) e in
+    ((bytes_eq-Decides other uid).0 parts.0, (Decides-eqb other_id id).0 parts.1)
+
+slot_itself : (uid : List ℕ) (id : ℕ) → same_slot uid id uid id ≡ true
+slot_itself uid id = and_from (bytes_eq uid uid) (id == id) ((bytes_eq-Decides uid uid).1 refl) ((Decides-eqb id id).1 refl)
+
 chosen : (b : Bool) (answer : Option ℕ) (counter : ℕ) → cond b answer None ≡ Some counter → (b ≡ true) × (answer ≡ Some counter)
 chosen true answer counter e = (refl, e)
 chosen false answer counter e = absurd (none-some counter e)
@@ -43,10 +55,10 @@ answered_now : (old : List LedgerRow) (command : RowCommand) (answer : Option �
     → FileStep old command answer new → answered_for uid id command answer ≡ Some counter → (counter ≡ last_counter uid id old + 1) × (counter ≤ last_counter uid id new)
 answered_now old (IssueBy i origin) answer new uid id counter step e =
     let chose = chosen (same_slot uid id i.uid i.id) answer counter e in
-    let is = same_slot_is uid id i.uid i.id chose.0 in
+    let is = slot_is uid id i.uid i.id chose.0 in
     let h : IssuesRow i origin counter old new = subst (λ a. FileStep old (IssueBy i origin) a new) chose.1 step in
     let up = added (issued_row i origin counter) old new h.adds i.uid i.id in
-    subst₂ (λ u j. (counter ≡ last_counter u j old + 1) × (counter ≤ last_counter u j new)) is.0 is.1 (h.next, up.0 (same_slot_self i.uid i.id))
+    subst₂ (λ u j. (counter ≡ last_counter u j old + 1) × (counter ≤ last_counter u j new)) is.0 is.1 (h.next, up.0 (slot_itself i.uid i.id))
 answered_now old (ConfirmBy k origin) answer new uid id counter step e = absurd (none-some counter e)
 
 abbrev Answers : List ℕ → ℕ → FileMoment → ℕ → Type 0

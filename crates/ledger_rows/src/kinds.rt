@@ -1,7 +1,7 @@
 //! What a row says was done, and what is read of a row to decide a command.
 
 ghost use Rattle.std.specs.Prelude.{◌≡◌};
-ghost use Rattle.ledger_rows.specs.Kinds.{kind_word, row_kind_of};
+ghost use Rattle.ledger_rows.specs.Kinds.{row_word, row_kind_of};
 
 use key_slots::Counter28;
 
@@ -23,7 +23,7 @@ pub enum RowKind {
 impl RowKind {
     /// The word by which a table and a line name it.
     pub fn word(self) -> &'static str
-        ensures { result.now ≡ kind_word self }
+        ensures { result.now ≡ row_word self }
     {
         match self {
             RowKind::Issued => "issued",

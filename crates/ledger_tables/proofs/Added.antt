@@ -28,13 +28,13 @@ use Rattle.sqlite.specs.State.{State, mode_of, Writes, Executes, CommitsBy, MayC
 use Rattle.sqlite.proofs.Callers.{IsPlain, command_of, statement_of, runs_as, one_step}
 use Rattle.ledger_rows.specs.declared.kinds.RowKind.{RowKind}
 use Rattle.ledger_rows.specs.declared.kinds.RowKind.TheVariants.{Issued, Confirmed, Failed, Imported, Raised}
-use Rattle.ledger_rows.specs.Kinds.{kind_word, row_kind_of}
+use Rattle.ledger_rows.specs.Kinds.{row_word, row_kind_of}
 use Rattle.ledger_rows.specs.Rows.{RowOrigin, LedgerRow}
 use Rattle.ledger_rows.specs.Steps.{AddsRow}
 use Rattle.ledger_tables.specs.declared.adding.NewRow.{NewRow}
 use Rattle.ledger_tables.specs.Table.{entry_table, ledger_schema}
 use Rattle.ledger_tables.specs.Held.{slot_row_in, ledger_row_in, entry_in, ledger_of, ledger_in, HasLedgerTable}
-use Rattle.ledger_tables.specs.Adding.{origin_of, row_of_new}
+use Rattle.ledger_tables.specs.Adding.{origin_by, row_of_new}
 use Rattle.ledger_tables.proofs.Texts.{insert_text, terms, insert_is, insert_plain}
 
 -- ---- small facts
@@ -64,7 +64,7 @@ no_taken false b h = refl
 
 -- ---- a row among the others
 
-pub kind_read : (kind : RowKind) → row_kind_of (kind_word kind) ≡ Some kind
+pub kind_read : (kind : RowKind) → row_kind_of (row_word kind) ≡ Some kind
 unfolding row_kind_of
 kind_read Issued = refl
 kind_read Confirmed = refl
@@ -91,14 +91,14 @@ only_adds new e (r ∷ rs) is free =
 
 module _ (row : NewRow) (station operator time : List ℕ) where
   abbrev pub given : Row
-  given = Blob row.uid ∷ Int (pos row.id) ∷ Int (pos row.counter) ∷ Text (kind_word row.kind) ∷ Blob row.check ∷ Int (pos row.auth) ∷ Text station ∷ Text operator ∷ Text time ∷ []
+  given = Blob row.uid ∷ Int (pos row.id) ∷ Int (pos row.counter) ∷ Text (row_word row.kind) ∷ Blob row.check ∷ Int (pos row.auth) ∷ Text station ∷ Text operator ∷ Text time ∷ []
 
   abbrev pub stored : List Row → Row
   stored rows =
-      Int (next_rowid rows) ∷ Blob row.uid ∷ Int (pos row.id) ∷ Int (pos row.counter) ∷ Text (kind_word row.kind) ∷ Blob row.check ∷ Int (pos row.auth) ∷ Text station ∷ Text operator ∷ Text time ∷ Null ∷ []
+      Int (next_rowid rows) ∷ Blob row.uid ∷ Int (pos row.id) ∷ Int (pos row.counter) ∷ Text (row_word row.kind) ∷ Blob row.check ∷ Int (pos row.auth) ∷ Text station ∷ Text operator ∷ Text time ∷ Null ∷ []
 
   abbrev pub entered : LedgerRow
-  entered = row_of_new row (origin_of station operator time)
+  entered = row_of_new row (origin_by station operator time)
 
   stands : (rows : List Row) → entry_in (stored rows) ≡ Some entered
   stands rows = rw (kind_read row.kind) refl

@@ -30,7 +30,7 @@ use Rattle.ledger_rows.specs.declared.kinds.RowKind.TheVariants.{Issued}
 use Rattle.ledger_rows.specs.declared.kinds.SlotRow.{SlotRow}
 use Rattle.ledger_rows.specs.Rows.{RowOrigin, LedgerRow, is_row_of, slot_row, slot_rows}
 use Rattle.ledger_tables.specs.Table.{ledger_schema}
-use Rattle.ledger_tables.specs.Held.{natural_in, blob_in, slot_row_in, ledger_row_in, entry_in, origin_in, ledger_of, ledger_in}
+use Rattle.ledger_tables.specs.Held.{number_held, blob_held, slot_row_in, ledger_row_in, entry_in, origin_in, ledger_of, ledger_in}
 use Rattle.ledger_tables.specs.Reading.{shown_slot_row}
 use Rattle.ledger_tables.proofs.Texts.{slot_text, slot_filter, slot_query, slot_is, slot_plain}
 
@@ -61,7 +61,7 @@ number_equal n id = grind (arith, nat_tests)
 int_equals : (n id : ℕ) → equals (Int (pos n)) (Int (pos id)) ≡ (n == id)
 int_equals n id = compared (Int (pos n)) (Int (pos id)) refl ∙ ap is_eq (value_cmp-Int (pos n) (pos id)) ∙ number_equal n id
 
-no_blob : (a : Value) (uid : List ℕ) → blob_in a ≡ None → equals a (Blob uid) ≡ false
+no_blob : (a : Value) (uid : List ℕ) → blob_held a ≡ None → equals a (Blob uid) ≡ false
 no_blob Null uid none = compared Null (Blob uid) refl
 no_blob (Int n) uid none = compared (Int n) (Blob uid) refl ∙ ap is_eq (value_cmp-apart (Int n) (Blob uid) (λ e. omega (arith, e)))
 no_blob (Real x) uid none = compared (Real x) (Blob uid) refl ∙ ap is_eq (value_cmp-apart (Real x) (Blob uid) (λ e. omega (arith, e)))
@@ -85,7 +85,7 @@ module _ (uid : List ℕ) (id : ℕ) where
   test_of a b = equals a (Blob uid) && (equals b (Int (pos id)) && true)
 
   abbrev taken_in : Value → Option SlotRow → Option SlotRow
-  taken_in b o = option_and_then (λ (_ : ℕ). o) (natural_in b)
+  taken_in b o = option_and_then (λ (_ : ℕ). o) (number_held b)
 
   abbrev Meant : Bool → Option SlotRow → Option LedgerRow → Type 0
   Meant b o entry = (more : List (Option SlotRow)) (rows : List LedgerRow) → more ≡ map Some (slot_rows uid id rows) → AllByRecursion IsThere (front b o more)
@@ -149,7 +149,7 @@ module _ (uid : List ℕ) (id : ℕ) where
       let is = first_piece b r (found rows) in
       let each = subst (AllByRecursion IsThere) is all in
       let rest = pieces_are rows (rest_of b (taken_in (column r 2) it) (pieces_of (found rows)) each) in
-      is ∙ row_meant (column r 1) (column r 2) it (unwrap_or (natural_in (column r 6)) 0) (origin_in r) (pieces_of (found rows)) (ledger_of rows) rest each
+      is ∙ row_meant (column r 1) (column r 2) it (unwrap_or (number_held (column r 6)) 0) (origin_in r) (pieces_of (found rows)) (ledger_of rows) rest each
 
   -- ---- the answer
 

@@ -13,27 +13,27 @@ use Rattle.ledger_tables.specs.Table.{ledger_schema}
 
 -- ---- what a value reads as
 
-abbrev pub natural_in : Value → Option ℕ
-natural_in Null = None
-natural_in (Int (pos n)) = Some n
-natural_in (Int (negsuc n)) = None
-natural_in (Real x) = None
-natural_in (Text t) = None
-natural_in (Blob b) = None
+abbrev pub number_held : Value → Option ℕ
+number_held Null = None
+number_held (Int (pos n)) = Some n
+number_held (Int (negsuc n)) = None
+number_held (Real x) = None
+number_held (Text t) = None
+number_held (Blob b) = None
 
-abbrev pub text_in : Value → Option (List ℕ)
-text_in Null = None
-text_in (Int n) = None
-text_in (Real x) = None
-text_in (Text t) = Some t
-text_in (Blob b) = None
+abbrev pub text_held : Value → Option (List ℕ)
+text_held Null = None
+text_held (Int n) = None
+text_held (Real x) = None
+text_held (Text t) = Some t
+text_held (Blob b) = None
 
-abbrev pub blob_in : Value → Option (List ℕ)
-blob_in Null = None
-blob_in (Int n) = None
-blob_in (Real x) = None
-blob_in (Text t) = None
-blob_in (Blob b) = Some b
+abbrev pub blob_held : Value → Option (List ℕ)
+blob_held Null = None
+blob_held (Int n) = None
+blob_held (Real x) = None
+blob_held (Text t) = None
+blob_held (Blob b) = Some b
 
 -- ---- a row
 
@@ -41,15 +41,15 @@ blob_in (Blob b) = Some b
 abbrev pub slot_row_in : Value → Value → Value → Option SlotRow
 slot_row_in counter what kcv =
     option_and_then (λ n. option_and_then (λ word. option_and_then (λ kind. option_map (λ check.
-    record { counter = n; kind = kind; check = check }) (blob_in kcv)) (row_kind_of word)) (text_in what))
-    (natural_in counter)
+    record { counter = n; kind = kind; check = check }) (blob_held kcv)) (row_kind_of word)) (text_held what))
+    (number_held counter)
 
 -- the row of a ledger, of the columns uid and slot, of what these decide, of the authorising slot and of the origin
 abbrev pub ledger_row_in : Value → Value → Option SlotRow → ℕ → RowOrigin → Option LedgerRow
 ledger_row_in uid slot it auth origin =
     option_and_then (λ u. option_and_then (λ n. option_map (λ (s : SlotRow).
     record { uid = u; id = n; counter = s.counter; kind = s.kind; check = s.check; auth = auth; origin = origin }) it)
-    (natural_in slot)) (blob_in uid)
+    (number_held slot)) (blob_held uid)
 
 -- the station, the operator and the time of a row
 abbrev pub origin_in : Row → RowOrigin
@@ -59,7 +59,7 @@ origin_in row = record { station = bytes (column row 7); operator = bytes (colum
 abbrev pub entry_in : Row → Option LedgerRow
 entry_in row =
     ledger_row_in (column row 1) (column row 2) (slot_row_in (column row 3) (column row 4) (column row 5))
-    (unwrap_or (natural_in (column row 6)) 0) (origin_in row)
+    (unwrap_or (number_held (column row 6)) 0) (origin_in row)
 
 -- ---- the ledger
 

@@ -6,7 +6,7 @@ ghost use Rattle.sqlite.specs.Held.{state};
 ghost use Rattle.sqlite_trees.specs.Tree.{Trees};
 ghost use Rattle.ledger_rows.specs.Steps.{AddsRow};
 ghost use Rattle.ledger_tables.specs.Held.{ledger_of, ledger_in, HasLedgerTable};
-ghost use Rattle.ledger_tables.specs.Adding.{row_of_new, origin_of};
+ghost use Rattle.ledger_tables.specs.Adding.{row_of_new, origin_by};
 
 use key_slots::{Counter28, SlotId};
 use ledger_rows::RowKind;
@@ -36,7 +36,7 @@ pub(crate) fn add<S: Alter>(
 ) -> Result<usize, Error>
     requires { HasCleanDisk (state S.Store conn.old) → HasLedgerTable (state S.Store conn.old) }
     ensures adds { HasCleanDisk (state S.Store conn.new)
-        → OnOk result (AddsRow (row_of_new row.now (origin_of station.now operator.now time.now))
+        → OnOk result (AddsRow (row_of_new row.now (origin_by station.now operator.now time.now))
         (ledger_in (state S.Store conn.old)) (ledger_in (state S.Store conn.new))) }
     ensures ready { HasCleanDisk (state S.Store conn.new)
         → OnOk result (HasLedgerTable (state S.Store conn.new)) }
@@ -44,7 +44,7 @@ pub(crate) fn add<S: Alter>(
         → OnOk result ((left : Trees) → (state S.Store conn.new).may_leave left
         → left ≡ (state S.Store conn.new).now.trees) }
     ensures crash { Survives (state S.Store conn.old) (state S.Store conn.new)
-        (λ left. AddsRow (row_of_new row.now (origin_of station.now operator.now time.now))
+        (λ left. AddsRow (row_of_new row.now (origin_by station.now operator.now time.now))
         (ledger_in (state S.Store conn.old)) (ledger_of (left 0))) }
 {
     conn.execute(

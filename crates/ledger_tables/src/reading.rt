@@ -9,7 +9,7 @@ ghost use Rattle.sqlite.specs.State.{HasCleanDisk, IsUnchanged, Survives};
 ghost use Rattle.sqlite.specs.Held.{state};
 ghost use Rattle.ledger_rows.specs.Kinds.{row_kind_of};
 ghost use Rattle.ledger_rows.specs.Rows.{slot_rows};
-ghost use Rattle.ledger_tables.specs.Held.{text_in, ledger_in, HasLedgerTable};
+ghost use Rattle.ledger_tables.specs.Held.{text_held, ledger_in, HasLedgerTable};
 ghost use Rattle.ledger_tables.specs.Reading.{shown_slot_row};
 
 use key_slots::{Counter28, SlotId};
@@ -36,7 +36,7 @@ fn check_of_row(row: &Row) -> Result<[u8; 3], Error>
 
 /// What a row was added for.
 fn kind_of_row(row: &Row) -> Result<RowKind, Error>
-    ensures { IfOk result (λ kind. option_and_then row_kind_of (text_in (column row.now 2)) ≡ Some kind) }
+    ensures { IfOk result (λ kind. option_and_then row_kind_of (text_held (column row.now 2)) ≡ Some kind) }
 {
     let word: String = row.get(2)?;
     match RowKind::of_word(word.as_bytes()) {

@@ -7,7 +7,7 @@ ghost use Rattle.sqlite_trees.specs.Tree.{Trees};
 ghost use Rattle.ledger_rows.specs.Rows.{slot_rows as slot_rows_of};
 ghost use Rattle.ledger_rows.specs.Steps.{IssuesRow, RefusesRow, ConfirmsRow, RefusesAnswer};
 ghost use Rattle.ledger_tables.specs.Held.{ledger_of, ledger_in, HasLedgerTable};
-ghost use Rattle.ledger_tables.specs.Adding.{origin_of};
+ghost use Rattle.ledger_tables.specs.Adding.{origin_by};
 
 use crate::adding::{NewRow, add};
 use crate::reading::rows_for;
@@ -32,7 +32,7 @@ pub fn issue<S: Alter>(
 ) -> Result<Result<Counter28, LedgerRefusal>, Error>
     requires { HasCleanDisk (state S.Store conn.old) → HasLedgerTable (state S.Store conn.old) }
     ensures issued { HasCleanDisk (state S.Store conn.new) → IfOk result (λ answer. IfOk answer (λ counter.
-        IssuesRow issue.now (origin_of station.now operator.now time.now) counter
+        IssuesRow issue.now (origin_by station.now operator.now time.now) counter
         (ledger_in (state S.Store conn.old)) (ledger_in (state S.Store conn.new)))) }
     ensures refused { HasCleanDisk (state S.Store conn.new) → IfOk result (λ answer. IfErr answer (λ why.
         RefusesRow (ledger_in (state S.Store conn.old)) issue.now why)) }
@@ -43,7 +43,7 @@ pub fn issue<S: Alter>(
     ensures kept { HasCleanDisk (state S.Store conn.new) → IfOk result (λ answer. OnOk answer ((left : Trees)
         → (state S.Store conn.new).may_leave left → left ≡ (state S.Store conn.new).now.trees)) }
     ensures crash { Survives (state S.Store conn.old) (state S.Store conn.new) (λ left. (counter : ℕ)
-        × IssuesRow issue.now (origin_of station.now operator.now time.now) counter
+        × IssuesRow issue.now (origin_by station.now operator.now time.now) counter
         (ledger_in (state S.Store conn.old)) (ledger_of (left 0))) }
 {
     if !may_authorise(issue.id, issue.auth) {
@@ -80,7 +80,7 @@ pub fn confirm<S: Alter>(
 ) -> Result<Result<Counter28, LedgerRefusal>, Error>
     requires { HasCleanDisk (state S.Store conn.old) → HasLedgerTable (state S.Store conn.old) }
     ensures confirmed { HasCleanDisk (state S.Store conn.new) → IfOk result (λ answer. IfOk answer (λ counter.
-        ConfirmsRow confirm.now (origin_of station.now operator.now time.now) counter
+        ConfirmsRow confirm.now (origin_by station.now operator.now time.now) counter
         (ledger_in (state S.Store conn.old)) (ledger_in (state S.Store conn.new)))) }
     ensures refused { HasCleanDisk (state S.Store conn.new) → IfOk result (λ answer. IfErr answer (λ why.
         RefusesAnswer (slot_rows_of confirm.now.uid confirm.now.id (ledger_in (state S.Store conn.old)))
@@ -92,7 +92,7 @@ pub fn confirm<S: Alter>(
     ensures kept { HasCleanDisk (state S.Store conn.new) → IfOk result (λ answer. OnOk answer ((left : Trees)
         → (state S.Store conn.new).may_leave left → left ≡ (state S.Store conn.new).now.trees)) }
     ensures crash { Survives (state S.Store conn.old) (state S.Store conn.new) (λ left. (counter : ℕ)
-        × ConfirmsRow confirm.now (origin_of station.now operator.now time.now) counter
+        × ConfirmsRow confirm.now (origin_by station.now operator.now time.now) counter
         (ledger_in (state S.Store conn.old)) (ledger_of (left 0))) }
 {
     let rows = rows_for(conn, alloc, &confirm.uid, confirm.id)?;

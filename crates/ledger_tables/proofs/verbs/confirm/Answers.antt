@@ -5,9 +5,9 @@ use Rattle.sqlite.specs.Held.{state}
 use Rattle.ledger_rows.specs.declared.kinds.SlotRow.{SlotRow}
 use Rattle.ledger_rows.specs.Rows.{slot_rows}
 use Rattle.ledger_rows.specs.Steps.{AnswersRow, HasConfirmed, RefusesAnswer, confirmed_row}
-use Rattle.ledger_rows.proofs.Counters.{refuses_permuted}
+use Rattle.ledger_rows.proofs.CallerLemmas.{refuses_permuted}
 use Rattle.ledger_tables.specs.Held.{ledger_of, ledger_in}
-use Rattle.ledger_tables.specs.Adding.{origin_of}
+use Rattle.ledger_tables.specs.Adding.{origin_by}
 use Rattle.ledger_tables.proofs.Deciding.{confirms, from_old, looked_then}
 use Rattle.ledger_tables.proofs.verbs.confirm.Goals as goal
 
@@ -21,7 +21,7 @@ returns-in-Err-clause-refused g c clean =
 pub returns-in_err-add-clause-crash : goal.returns-in_err-add-clause-crash
 returns-in_err-add-clause-crash g c =
     let k = c.args.confirm.now in
-    let origin = origin_of c.args.station.now c.args.operator.now c.args.time.now in
+    let origin = origin_by c.args.station.now c.args.operator.now c.args.time.now in
     let old = state g.S.Store c.args.conn.now in
     let mid = state g.S.Store c.rows_for.new.conn in
     let new = state g.S.Store c.add.new.conn in
@@ -34,7 +34,7 @@ returns-in_err-add-clause-crash g c =
 pub returns-clause-confirmed : goal.returns-clause-confirmed
 returns-clause-confirmed g c clean =
     let k = c.args.confirm.now in
-    let origin = origin_of c.args.station.now c.args.operator.now c.args.time.now in
+    let origin = origin_by c.args.station.now c.args.operator.now c.args.time.now in
     let old = state g.S.Store c.args.conn.now in
     let mid = state g.S.Store c.rows_for.new.conn in
     let new = state g.S.Store c.add.new.conn in
@@ -48,7 +48,7 @@ returns-clause-confirmed g c clean =
 pub returns-clause-crash : goal.returns-clause-crash
 returns-clause-crash g c =
     let k = c.args.confirm.now in
-    let origin = origin_of c.args.station.now c.args.operator.now c.args.time.now in
+    let origin = origin_by c.args.station.now c.args.operator.now c.args.time.now in
     let old = state g.S.Store c.args.conn.now in
     let mid = state g.S.Store c.rows_for.new.conn in
     let new = state g.S.Store c.add.new.conn in

@@ -6,9 +6,9 @@ use Rattle.sqlite.specs.State.{HasCleanDisk}
 use Rattle.sqlite.specs.Held.{state}
 use Rattle.ledger_rows.specs.Rows.{slot_rows, greatest_in}
 use Rattle.ledger_rows.specs.Steps.{issued_row}
-use Rattle.ledger_rows.proofs.Counters.{greatest_permuted}
+use Rattle.ledger_rows.proofs.CallerLemmas.{greatest_permuted}
 use Rattle.ledger_tables.specs.Held.{ledger_of, ledger_in}
-use Rattle.ledger_tables.specs.Adding.{origin_of}
+use Rattle.ledger_tables.specs.Adding.{origin_by}
 use Rattle.ledger_tables.proofs.Deciding.{issues, from_old, looked_then}
 use Rattle.ledger_tables.proofs.verbs.issue.Goals as goal
 
@@ -25,7 +25,7 @@ returns-in_default-clause-refused g c clean =
 pub returns-in_err-add-clause-crash : goal.returns-in_err-add-clause-crash
 returns-in_err-add-clause-crash g c =
     let i = c.args.issue.now in
-    let origin = origin_of c.args.station.now c.args.operator.now c.args.time.now in
+    let origin = origin_by c.args.station.now c.args.operator.now c.args.time.now in
     let old = state g.S.Store c.args.conn.now in
     let mid = state g.S.Store c.rows_for.new.conn in
     let new = state g.S.Store c.add.new.conn in
@@ -37,7 +37,7 @@ returns-in_err-add-clause-crash g c =
 pub returns-clause-issued : goal.returns-clause-issued
 returns-clause-issued g c clean =
     let i = c.args.issue.now in
-    let origin = origin_of c.args.station.now c.args.operator.now c.args.time.now in
+    let origin = origin_by c.args.station.now c.args.operator.now c.args.time.now in
     let old = state g.S.Store c.args.conn.now in
     let mid = state g.S.Store c.rows_for.new.conn in
     let new = state g.S.Store c.add.new.conn in
@@ -50,7 +50,7 @@ returns-clause-issued g c clean =
 pub returns-clause-crash : goal.returns-clause-crash
 returns-clause-crash g c =
     let i = c.args.issue.now in
-    let origin = origin_of c.args.station.now c.args.operator.now c.args.time.now in
+    let origin = origin_by c.args.station.now c.args.operator.now c.args.time.now in
     let old = state g.S.Store c.args.conn.now in
     let mid = state g.S.Store c.rows_for.new.conn in
     let new = state g.S.Store c.add.new.conn in
