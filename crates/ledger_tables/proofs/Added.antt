@@ -1,5 +1,5 @@
 -- What the statement that adds a row does
-use Rattle.std.proofs.Common.{◌≡◌, ◌⊎◌, inl, inr, ℕ, ℤ, pos, List, [], ◌∷◌, append-nil, Bool, true, false, not, ◌&&◌, ◌||◌, cond, Some, None, Option, Ok, Err, Result, OnOk, IsTrue, refl, sym, ap, subst, subst₂, ◌∙◌, arith}
+use Rattle.std.proofs.Common.{◌≡◌, ◌⊎◌, inl, inr, ℕ, ℤ, pos, List, [], ◌∷◌, append-nil, Bool, true, false, not, ◌&&◌, ◌||◌, cond, Some, None, Option, Ok, Err, Result, OnOk, IsTrue, refl, sym, ap, subst, subst₂, ◌∙◌}
 use Rattle.std.specs.declared.cmp.Ordering.{Ordering}
 use Rattle.std.specs.declared.cmp.Ordering.TheVariants.{Less, Equal, Greater}
 use Rattle.std.specs.Ordering.{is_eq, match_ordering}
@@ -29,11 +29,11 @@ use Rattle.sqlite.proofs.Callers.{IsPlain, command_of, statement_of, runs_as, on
 use Rattle.ledger_rows.specs.declared.kinds.RowKind.{RowKind}
 use Rattle.ledger_rows.specs.declared.kinds.RowKind.TheVariants.{Issued, Confirmed, Failed, Imported, Raised}
 use Rattle.ledger_rows.specs.Kinds.{row_word, row_kind_of}
-use Rattle.ledger_rows.specs.Rows.{RowOrigin, LedgerRow}
+use Rattle.ledger_rows.specs.Rows.{LedgerRow}
 use Rattle.ledger_rows.specs.Steps.{AddsRow}
 use Rattle.ledger_tables.specs.declared.adding.NewRow.{NewRow}
 use Rattle.ledger_tables.specs.Table.{entry_table, ledger_schema}
-use Rattle.ledger_tables.specs.Held.{slot_row_in, ledger_row_in, entry_in, ledger_of, ledger_in, HasLedgerTable}
+use Rattle.ledger_tables.specs.Held.{entry_in, ledger_of, ledger_in, HasLedgerTable}
 use Rattle.ledger_tables.specs.Adding.{origin_by, row_of_new}
 use Rattle.ledger_tables.proofs.Texts.{insert_text, terms, insert_is, insert_plain}
 

@@ -10,7 +10,7 @@ use Rattle.sqlite.specs.Effect.{Database}
 use Rattle.sqlite.specs.State.{State, HasCleanDisk, IsUnchanged, Survives}
 use Rattle.sqlite.proofs.StateLemmas.{survives_then}
 use Rattle.ledger_rows.specs.declared.kinds.SlotRow.{SlotRow}
-use Rattle.ledger_rows.specs.Rows.{RowOrigin, LedgerRow, slot_rows, greatest_in, last_counter}
+use Rattle.ledger_rows.specs.Rows.{RowOrigin, LedgerRow, slot_rows, greatest_in}
 use Rattle.ledger_rows.specs.Steps.{AddsRow, issued_row, confirmed_row, IssuesRow, AnswersRow, HasConfirmed, ConfirmsRow}
 use Rattle.ledger_rows.proofs.CallerLemmas.{greatest_permuted, any_permuted, unconfirmed_permuted}
 use Rattle.std.proofs.lemmas.List.Sorted.{IsPermutation-sym}

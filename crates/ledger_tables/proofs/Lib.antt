@@ -3,3 +3,5 @@ pub mod Matching
 pub mod Added
 pub mod Stated
 pub mod Deciding
+pub mod Created
+pub mod Tables

@@ -1,8 +1,6 @@
 -- The rows that a query by unit and slot shows are the ledger's
-use Rattle.std.proofs.Common.{◌≡◌, ◌≢◌, ℕ, ℤ, pos, negsuc, List, [], ◌∷◌, ◌++◌, map, filter, flat_map, Bool, true, false, not, ◌&&◌, ◌==◌, cond, Option, Some, None, All, refl, sym, ap, subst, subst₂, ◌∙◌, arith, unwrap_or}
-use Rattle.std.specs.declared.cmp.Ordering.{Ordering}
-use Rattle.std.specs.declared.cmp.Ordering.TheVariants.{Less, Equal, Greater}
-use Rattle.std.specs.Ordering.{is_eq, int_cmp, nat_cmp}
+use Rattle.std.proofs.Common.{◌≡◌, ◌≢◌, ℕ, pos, negsuc, List, [], ◌∷◌, ◌++◌, map, flat_map, Bool, true, false, not, ◌&&◌, ◌==◌, cond, Option, Some, None, refl, sym, ap, subst, subst₂, ◌∙◌, arith, unwrap_or}
+use Rattle.std.specs.Ordering.{is_eq, int_cmp}
 use Rattle.std.specs.Option.{option_and_then}
 use Rattle.std.specs.Str.{bytes_eq}
 use Rattle.std.specs.List.{AllByRecursion, list_all, cons_option}
@@ -19,7 +17,7 @@ use Rattle.sqlite_value.specs.Order.{Row, column, value_cmp}
 use Rattle.sqlite_value.proofs.OrderLemmas.{value_cmp-Int, value_cmp-Blob, value_cmp-apart}
 use Rattle.sqlite_sql.specs.declared.ops.CompareOp.TheVariants.{Eq}
 use Rattle.sqlite_sql.specs.declared.ops.BinaryOp.TheVariants.{Compare}
-use Rattle.sqlite_sql.specs.Ops.{binary, is_true, is_null, test, from_truth}
+use Rattle.sqlite_sql.specs.Ops.{binary, is_true, is_null, from_truth}
 use Rattle.sqlite_sql.specs.Term.{holds, Env}
 use Rattle.sqlite_sql.specs.Query.{IsAnswer, output, Output}
 use Rattle.sqlite_sql.specs.Program.{overlay}
@@ -28,9 +26,9 @@ use Rattle.sqlite.proofs.Callers.{reads_as}
 use Rattle.key_campaign.specs.Entries.{same_slot}
 use Rattle.ledger_rows.specs.declared.kinds.RowKind.TheVariants.{Issued}
 use Rattle.ledger_rows.specs.declared.kinds.SlotRow.{SlotRow}
-use Rattle.ledger_rows.specs.Rows.{RowOrigin, LedgerRow, is_row_of, slot_row, slot_rows}
+use Rattle.ledger_rows.specs.Rows.{RowOrigin, LedgerRow, slot_rows}
 use Rattle.ledger_tables.specs.Table.{ledger_schema}
-use Rattle.ledger_tables.specs.Held.{number_held, blob_held, slot_row_in, ledger_row_in, entry_in, origin_in, ledger_of, ledger_in}
+use Rattle.ledger_tables.specs.Held.{number_held, blob_held, slot_row_in, ledger_row_in, origin_in, ledger_of, ledger_in}
 use Rattle.ledger_tables.specs.Reading.{shown_slot_row}
 use Rattle.ledger_tables.proofs.Texts.{slot_text, slot_filter, slot_query, slot_is, slot_plain}
 
