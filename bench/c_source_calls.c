@@ -8,13 +8,17 @@
 #include <string.h>
 
 #include "rathonsi_flash.h"
+#include "rathonsi_freshness.h"
 
-enum { DEPTH = 16384, CALLS = 14, TIMES = 20, CELLS = RATHONSI_FLASH_CELLS(2), BANK = 4096 };
+enum { DEPTH = 16384, CALLS = 17, TIMES = 20, CELLS = RATHONSI_FLASH_CELLS(2), BANK = 4096 };
 
 static uint8_t image[RATHONSI_STORE_SIZE(2)], payload[8], pdu[64], uid[15], mac[16], text[64];
 static const uint8_t key[16] = {0x2b, 0x7e, 0x15, 0x16, 0x28, 0xae, 0xd2, 0xa6, 0xab, 0xf7, 0x15, 0x88, 0x09, 0xcf, 0x4f, 0x3c};
 static RathonsiPlan plan;
-static RathonsiRoute sender, receiver;
+static RathonsiRoute sender, receiver, giver, taker;
+/* The receivers as they were opened: each call that accepts begins with one. */
+static RathonsiRoute first_receiver, first_taker;
+static uint64_t freshness;
 static RathonsiUpdate update;
 static RathonsiRequest request;
 static RathonsiReply reply;
@@ -29,7 +33,7 @@ static RathonsiPlan bound;
 static const char *const names[CALLS] = {"nothing", "aes128_encrypt, a block", "cmac, 16 bytes", "secoc_protect, 8 bytes", "route_send, 8 bytes",
                                          "route_receive, 8 bytes", "store_check, 2 routes", "slot_load", "slot_confirm",
                                          "aes128_encrypt, two blocks", "flash, as it was", "flash, a start", "flash, a put",
-                                         "flash_image"};
+                                         "flash_image", "freshness_next", "freshness_candidate", "freshness_accept"};
 
 #ifdef SYSTICK
 static volatile uint32_t *const systick = (volatile uint32_t *)0xE000E010;
@@ -80,7 +84,7 @@ static int32_t call(int which) {
     case 2: return rathonsi_cmac(key, 16, text, 16, mac);
     case 3: return rathonsi_secoc_protect(key, 16, 0x1234, 77, payload, 8, pdu, 64);
     case 4: return rathonsi_route_send(&sender, image, sizeof image, payload, 8, pdu, 64);
-    case 5: receiver.counter = sender.counter - 1; return rathonsi_route_receive(&receiver, image, sizeof image, pdu, 12).status;
+    case 5: receiver = first_receiver; return rathonsi_route_receive(&receiver, image, sizeof image, pdu, 12).status;
     case 6: return rathonsi_store_check(image, sizeof image);
     case 7: memset(&plan, 0, sizeof plan); return rathonsi_slot_load(uid, 0, &request, image, sizeof image, &plan);
     case 8: return rathonsi_slot_confirm(uid, request.m1, image, sizeof image, &reply);
@@ -89,6 +93,9 @@ static int32_t call(int which) {
     case 11: memcpy(banks, kept, sizeof banks); return flash_start();
     case 12: return flash_put();
     case 13: return rathonsi_flash_image(&flash, cells, CELLS, image, sizeof image);
+    case 14: return rathonsi_freshness_next(&giver, image, sizeof image, &freshness);
+    case 15: return rathonsi_freshness_candidate(&taker, image, sizeof image, 5, 8, &freshness);
+    case 16: taker = first_taker; return rathonsi_freshness_accept(&taker, image, sizeof image, 5);
     default: return 0;
     }
 }
@@ -100,6 +107,23 @@ __attribute__((noinline)) static uint32_t stack_of(int which, int32_t *status) {
     *status = call(which);
     while (p < top && *p == 0xc5) p++;
     return (uint32_t)(top - p) + 256;
+}
+
+/* Opens both routes, with and without the library's own MAC, and reserves for all calls. */
+static void open_routes(void) {
+    RathonsiRoute *const both[2] = {&sender, &receiver};
+    giver = sender;
+    taker = receiver;
+    giver.freshness_only = taker.freshness_only = 1;
+    set(rathonsi_route_open(&giver, image, sizeof image));
+    set(rathonsi_route_open(&taker, image, sizeof image));
+    for (int i = 0; i < 2; i++) {
+        set(rathonsi_route_open(both[i], image, sizeof image));
+        set(rathonsi_route_reserve(both[i], 256, image, sizeof image, &plan));
+        set(rathonsi_store_done(image, sizeof image, &plan));
+    }
+    first_receiver = receiver;
+    first_taker = taker;
 }
 
 static void set_up(void) {
@@ -116,20 +140,18 @@ static void set_up(void) {
     sender = receiver = route;
     receiver.cell = 15;
     receiver.direction = RATHONSI_RECEIVES;
-    set(rathonsi_route_make(&sender, 100000, image, sizeof image));
-    set(rathonsi_route_make(&receiver, 100000, image, sizeof image));
+    set(rathonsi_route_make(&sender, 0, image, sizeof image));
+    set(rathonsi_route_make(&receiver, 0, image, sizeof image));
     set(rathonsi_she_make_update(empty, 16, &update, &request));
     set(rathonsi_slot_load(uid, 0, &request, image, sizeof image, &plan));
     set(rathonsi_store_done(image, sizeof image, &plan));
     update.counter = 2;
     set(rathonsi_she_make_update(key, 16, &update, &request));
-    set(rathonsi_route_open(&sender, image, sizeof image));
-    set(rathonsi_route_open(&receiver, image, sizeof image));
-    sender.counter = 10;
+    open_routes();
     set(rathonsi_flash_take(&flash, 8, 2, BANK, image, sizeof image, cells, CELLS));
     set(work());
     set(flash_start());
-    set(rathonsi_route_reserve(&receiver, 100001, image, sizeof image, &bound));
+    set(rathonsi_route_reserve(&receiver, 400, image, sizeof image, &bound));
     for (int i = 0; i < 34; i++) set(flash_put());
     memcpy(kept, banks, sizeof banks);
 }

@@ -7,6 +7,7 @@
 #include <stdlib.h>
 #include <string.h>
 
+#include "../examples/c/open_by_hand.h"
 #include "rathonsi_flash.h"
 #include "rathonsi_freshness.h"
 
@@ -96,7 +97,7 @@ static void add_route(const RathonsiRoute *it) {
     const uint64_t numbers[10] = {it->counter,   it->data_id, it->cell,   it->reserve, it->window, it->slot,
                                   it->direction, it->booted,  it->opened, it->freshness_only};
     for (int i = 0; i < 10; i++) add_number(numbers[i]);
-    add(it->unused, sizeof it->unused);
+    add(it->check, sizeof it->check);
 }
 
 static size_t key_length(void) {
@@ -196,7 +197,7 @@ static void make_store(void) {
         it->slot = (uint8_t)(4 + below(3));
         it->direction = (uint8_t)(1 + i % 2);
         it->booted = (uint8_t)!one_in(4);
-        it->opened = (uint8_t)!one_in(6);
+        if (!one_in(6)) open_by_hand(it, it->counter);
         uint64_t bound = freshness();
         status(rathonsi_route_make(it, bound, image, SIZE));
     }
@@ -223,8 +224,11 @@ static void damage_route(RathonsiRoute *it) {
     case 3: it->slot = (uint8_t)below(16); break;
     case 4: it->direction = (uint8_t)below(4); break;
     case 5: it->booted = (uint8_t)below(3); break;
-    default: it->counter = freshness(); break;
+    default:
+        if (one_in(4)) it->counter = freshness();
+        else open_by_hand(it, freshness());
     }
+    add_number(rathonsi_route_fault(it));
 }
 
 static void reserve(const RathonsiRoute *it, uint64_t bound, size_t size) {
@@ -334,7 +338,7 @@ static void answer_nonce(RathonsiRoute *it, size_t size) {
     status(rathonsi_sync_answer(it, image, size, nonce, answer));
     add(answer, sizeof answer);
     if (one_in(3)) flip(answer, sizeof answer);
-    other.counter = freshness();
+    open_by_hand(&other, freshness());
     add_verdict(rathonsi_sync_take(&other, image, size, nonce, answer));
     add_route(&other);
 }

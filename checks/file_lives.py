@@ -1,12 +1,18 @@
-#!/usr/bin/env python3
 """Lives of a node over one file: killed, cut off from power, and over a file that fails. What a program has printed is never taken back by the next.
 
-file_lives.py killed_node|cut_file|failing_file LIBRARY
+checks/lives runs the three checks of this file, of `bus_replay node B F DISK`, and its own lives of three programs.
 
-The program is crates/bus_replay/out/bus_replay (or what BUS_REPLAY names) with the words `node B F DISK`; LIBRARY is what is preloaded into it. A life
-is a script over a bus of one node. Behind it two next lives are asked, one after the other: whether they send or accept a freshness that was printed, or
-skip more of it than starts and failures may, whether they take an update with a counter that was printed, and whether each slot's key is the one of the
-last update that was printed, or of one that was begun behind it. The last line is `NAME: N passed, M failed`."""
+killed_node    kills it before, within and after calls of its file and lines that it prints
+cut_file       makes of what it writes and syncs all kinds of files that a power cut may leave, at each moment of a
+               script: what was synced, and of what wasn't each write whole, left out or torn
+failing_file   lets each `pread`, `pwrite` and `fsync` fail in its turn, once and from then on, shortens each `pwrite`,
+               lets each write a part and fail, and lets each `pread` give another byte than the file has
+
+A life is a script over a bus of one node. After it two next lives are asked, one after the other: whether they send or
+accept a freshness that was printed, or skip more of it than starts and failures may, whether they take an update with a
+counter that was printed, and whether each slot's key is the one of the last update that was printed, or of one that was
+begun after it.
+"""
 
 import functools
 import hashlib
@@ -15,12 +21,13 @@ import os
 import pathlib
 import random
 import re
+import shutil
 import subprocess
-import sys
 import tempfile
 
 TOP = pathlib.Path(__file__).resolve().parent.parent
 PROGRAM = os.environ.get("BUS_REPLAY", str(TOP / "crates/bus_replay/out/bus_replay"))
+COMPILER = os.environ.get("CC", "cc")
 KEYTOOL = os.environ.get("KEYTOOL", str(TOP / "crates/keytool/out/keytool"))
 SECONDS = 120
 SIZE = 65536
@@ -587,19 +594,30 @@ def failing_file(room, checks):
             checks.check(f"{name}, {way} {at} ({call})", wrong + room.ask(now))
 
 
-def over_disks(name, library, does):
+# of each check the libraries of shims/ that are preloaded, and what it does
+CHECKS = {
+    "killed_node": (["file_record"], killed_node),
+    "cut_file": (["file_record"], cut_file),
+    "failing_file": (["failing_file"], failing_file),
+}
+
+
+def built(folder, names):
+    """The libraries of shims/ with these names, as LD_PRELOAD has them."""
+    for name in names:
+        source = TOP / "checks" / "shims" / f"{name}.c"
+        command = [COMPILER, "-O1", "-shared", "-fPIC", "-o", f"{folder}/{name}.so", source, "-ldl"]
+        subprocess.run(command, check=True)
+    return ":".join(f"{folder}/{name}.so" for name in names)
+
+
+def over_disks(name, libraries, does):
     """Makes the checks of this name in a folder in memory, if there is one."""
     checks = Checks(name)
     memory = "/dev/shm" if os.access("/dev/shm", os.W_OK) else None
-    with tempfile.TemporaryDirectory(dir=memory) as folder:
-        does(Room(folder, library), checks)
+    if shutil.which(COMPILER):
+        with tempfile.TemporaryDirectory(dir=memory) as folder:
+            does(Room(folder, built(folder, libraries)), checks)
+    else:
+        print(f"skipped: {name}, since there is no {COMPILER}")
     return checks.end()
-
-
-def main(words):
-    name, library = words
-    return over_disks(name, library, {"killed_node": killed_node, "cut_file": cut_file, "failing_file": failing_file}[name])
-
-
-if __name__ == "__main__":
-    sys.exit(main(sys.argv[1:]))

@@ -2,10 +2,10 @@
 """Runs the rows of checks/rows/*.toml over the built programs (crates/NAME/out/NAME), each in a folder of its own.
 
     python3 -m pytest checks/test_rows.py -n auto -k "gateway and stop"
-    python3 checks/test_rows.py gateway stop
+    python3 checks/test_rows.py [--try] gateway stop
 
-The second form needs no pytest: it runs the rows whose ids have each of these texts. checks/rows/README.md has the form
-of a row. A row passes if each command's output, standard error, status and files are exactly those that it names.
+The second form needs no pytest: it runs the rows whose ids have each of these texts, with `--try` over programs that
+bin/try builds, which aren't proved. checks/rows/README.md has the form of a row. A row passes if each command's output, standard error, status and files are exactly those that it names.
 """
 import concurrent.futures
 import contextlib
@@ -18,6 +18,8 @@ import pty
 import re
 import shlex
 import shutil
+import socket
+import stat
 import string
 import subprocess
 import sys
@@ -28,15 +30,20 @@ import tomllib
 import tty
 from pathlib import Path
 
-import watch_model
-
 CHECKS = Path(__file__).resolve().parent
 TOP = CHECKS.parent
+sys.path.insert(0, str(CHECKS / "models"))
+import watch_model  # noqa: E402
+
 # a standard output with room for N bytes is a file that may grow to this many
 ROOM = 65536
 SECONDS = 120
 VERSION = re.search(r"^## ([0-9.]+)", (TOP / "CHANGELOG.md").read_text(), re.MULTILINE)[1]
 BUILDING = threading.Lock()
+# the gate of a cell that counts
+LIVE = 0xA7
+# so that a program that makes a file itself says that nobody else may read it
+os.umask(0o022)
 BASH = {
     "stdin": 'exec 0<&-; exec "$@"',
     "stdout": 'exec 1>&-; exec "$@"',
@@ -45,7 +52,8 @@ BASH = {
 }
 FIELDS = set(
     "run input lines output error status room closed full pieces read_fails_after env refuses_allocations columns "
-    "after bytes makes unchanged reads_folder last_word same prompt first size copies judge answers times other".split()
+    "after bytes makes unchanged reads_folder last_word same prompt first size copies judge answers times other "
+    "with for through together only".split()
 )
 
 
@@ -59,10 +67,20 @@ class Names(dict):
         return string.Template(text).substitute(self)
 
 
-def whole_of(parts):
-    """What the tables of a row say of it, and its commands: one without `run` goes on with the command before it."""
+def whole_of(parts, forms):
+    """What the parts of a row say of it, and its commands. A text is one of the table's forms and what its words are;
+    a table without `run` goes on with the command before it."""
     about, steps = {}, []
-    for part in [parts] if isinstance(parts, dict) else parts:
+    for part in parts if isinstance(parts, list) else [parts]:
+        if isinstance(part, str):
+            name, *words = shlex.split(part)
+            of_form = forms[name]
+            named = of_form["takes"].split()
+            if len(words) != len(named):
+                raise ValueError(f"{part}: the words of {name} are {named}")
+            more = {field: value for field, value in of_form.items() if field not in ("takes", "steps")}
+            steps += [{**step, "with": dict(zip(named, words))} for step in of_form.get("steps", [more])]
+            continue
         own = {name: value for name, value in part.items() if name in ("names", "files", "has", "each")}
         rest = {name: value for name, value in part.items() if name not in own}
         about.update({name: {**about[name], **it} if name in about else it for name, it in own.items()})
@@ -77,7 +95,7 @@ class Row:
     """One row: its id, its steps, and the names and files that they cite."""
 
     def __init__(self, table, key, parts, case):
-        about, self.steps = whole_of(parts)
+        about, self.steps = whole_of(parts, table["forms"])
         self.names = Names({"top": str(TOP), "version": VERSION, **table["names"], **about.get("names", {}), **case})
         told = string.Template(key).substitute(case)
         self.id = f"{table['program']}/{re.sub('[^A-Za-z0-9_.]+', '-', told).strip('-')}"
@@ -112,12 +130,19 @@ class Row:
             return "".join(filled).encode("latin-1")
         if "model" in spec:
             return self.modelled(spec)
+        if "numbered" in spec:
+            lines = self.bytes_of(spec["numbered"]).splitlines(True)
+            return b"".join(b"%d %s" % (at, it) for at, it in enumerate(lines, 1))
         if "wide" in spec:
             # a bus of nodes with so many routes each: the first sends what the others receive
             routes = [{"counted": f"${it}_route", "from": 1, "to": spec["wide"]} for it in ("sending", "receiving")]
             nodes = [[self.names["wide_node"] % at, routes[at > 1]] for at in range(1, spec.get("nodes", 8) + 1)]
             return self.bytes_of([f"version = {spec['version']}\n", *nodes])
-        if "of" in spec:
+        if "store" in spec:
+            kind, version = self.names.filled(spec["store"]).split()
+            cells, puts = (self.bytes_of(spec.get(it, "")).decode() for it in ("cells", "puts"))
+            whole = stored(int(kind), int(version), cells, puts)
+        elif "of" in spec:
             whole = self.bytes_of(self.files[self.names.filled(spec["of"])])
         elif "made" in spec:
             whole = (self.folder / self.names.filled(spec["made"])).read_bytes()
@@ -129,19 +154,25 @@ class Row:
             whole = b"".join(line for line in whole.splitlines(True) if not line.startswith(b"#"))
         for old, new in spec.get("replace", {}).items():
             whole = whole.replace(self.bytes_of(old), self.bytes_of(new))
-        for place, digits in spec.get("changed", {}).items():
+        for old, new in spec.get("patterns", {}).items():
+            whole = re.sub(old.encode(), new.encode(), whole, flags=re.MULTILINE)
+        changes = [it.split(":") for it in self.names.filled(spec.get("changes", "")).split()]
+        for place, digits in [*spec.get("changed", {}).items(), *changes]:
             start, new = int(self.names.filled(place)), bytes.fromhex(self.names.filled(digits))
             whole = whole[:start] + new + whole[start + len(new) :]
-        return whole[number("from") if "from" in spec else 0 : number("to") if "to" in spec else None]
+        if "length" in spec:
+            whole = whole[: number("length")].ljust(number("length"), b"\0")
+        whole = whole[number("from") if "from" in spec else 0 : number("to") if "to" in spec else None]
+        return framed(self.names.filled(spec["frame"]), whole) if "frame" in spec else whole
 
     def modelled(self, spec):
-        """What a model prints, a program of checks/; the files that its arguments name are made before."""
+        """What a model prints, a program of checks/models; the files that its arguments name are made before."""
         name, *words = self.names.filled(spec["model"]).split()
         if not importlib.util.find_spec("cryptography"):
             raise Missing("rows beside models (python3-cryptography)")
         self.make(words)
         given = self.bytes_of(spec.get("input", ""))
-        command = [sys.executable, CHECKS / name, *words]
+        command = [sys.executable, CHECKS / "models" / name, *words]
         return subprocess.run(command, cwd=self.folder, input=given, stdout=subprocess.PIPE, check=True).stdout
 
     def words(self, step):
@@ -154,7 +185,7 @@ class Row:
         mapped, logged = (given if it == "-" else read(self.folder / it) for it in shlex.split(words))
         answers = self.bytes_of(step["answers"])
         totals, status = watch_model.totals(mapped, logged, answers)
-        assert status == int(self.names.filled(str(step.get("status", status)))), f"{self.id}: status {status} is counted"
+        assert str(status) == self.names.filled(str(step.get("status", status))), f"{status} is counted"
         told = {"": answers + totals, " --json": watch_model.objects(answers + totals)}
         for option, text in told.items():
             times = (" --time", watch_model.timed(text, logged)) if "times" in step else ("", text)
@@ -170,16 +201,22 @@ class Row:
             if spec is None or os.path.lexists(folder / name):
                 continue
             kind = spec.get("kind") if isinstance(spec, dict) else None
+            (folder / name).parent.mkdir(exist_ok=True)
             if kind == "folder":
                 (folder / name).mkdir()
+            elif kind == "socket":
+                with socket.socket(socket.AF_UNIX) as it:
+                    it.bind(bytes(folder / name))
             elif kind == "fifo":
                 os.mkfifo(folder / name)
                 if "fed" in spec:
                     threading.Thread(target=feed, args=(folder / name, self.bytes_of(spec["fed"])), daemon=True).start()
             else:
-                (folder / name).write_bytes(self.bytes_of(spec))
+                write(folder / name, self.bytes_of(spec))
             if isinstance(spec, dict) and "mode" in spec:
                 os.chmod(folder / name, int(spec["mode"], 8))
+            if isinstance(spec, dict) and "owner" in spec and not os.getuid():
+                os.chown(folder / name, spec["owner"], -1)
 
     def transcript(self, step):
         """Input and output of a step with `lines`: each `INPUT => ANSWER`, whose answers are numbered."""
@@ -198,13 +235,16 @@ class Row:
     def run_step(self, step, folder, room):
         """Runs a command; raises AssertionError if anything differs."""
         given, wanted = self.wanted_of(step)
-        before = {name: read(folder / name) for name in map(self.names.filled, step.get("unchanged", []))}
-        there = set(os.listdir(folder))
+        # a command changes no file but those that its arguments name, and not those of `unchanged`
+        there, words = set(os.listdir(folder)), self.words(step)
+        stay = there.difference(words, map(os.path.basename, words))
+        stay.update(map(self.names.filled, step.get("unchanged", [])))
+        before = {name: read(folder / name) for name in stay}
         run = Run(self, step, folder, room, given)
         if "refuses_allocations" in step:
             run.refuses_each(wanted)
             return
-        status, output, error = run.started()
+        status, output, error = run.started_together(wanted) if "together" in step else run.started()
         if "columns" in step:
             output = b"".join(b" ".join(line.split(b" ")[: step["columns"]]) + b"\n" for line in output.splitlines())
         if "first" in step:
@@ -225,28 +265,43 @@ class Row:
             name, start, digits = self.names.filled(it).split()
             held = read(folder / name)[int(start) :][: len(digits) // 2].hex()
             same.append(difference(f"{name} from {start}", digits.encode(), held.encode()))
-        made = set(os.listdir(folder)) - there
-        if made != ({self.names.filled(step["makes"])} if "makes" in step else set()):
+        made = {name: os.lstat(folder / name) for name in set(os.listdir(folder)) - there}
+        if set(made) != ({self.names.filled(step["makes"])} if "makes" in step else set()):
             same.append(f"files that were made: {sorted(made)}")
+        # its owner alone may read it, and it has no other name
+        kinds = {name: (it.st_mode, it.st_nlink) for name, it in made.items()}
+        same += [f"{name}: mode {it[0]:o}, {it[1]} links" for name, it in kinds.items() if it != (0o100600, 1)]
         for it in step.get("size", []):
-            name, size = self.names.filled(it).split()
+            name, size = shlex.split(self.names.filled(it))
             same.append(difference(f"size of {name}", size.encode(), str((folder / name).stat().st_size).encode()))
         found = "\n".join(filter(None, same))
-        assert not found, f"{self.id}: {' '.join(self.words(step))}\n{found}"
+        assert not found, f"{' '.join(self.words(step))}\n{found}"
         for name, spec in step.get("copies", {}).items():
-            (folder / self.names.filled(name)).write_bytes(self.bytes_of(spec))
+            write(folder / self.names.filled(name), self.bytes_of(spec))
+
+    def commands(self):
+        """The steps of the row, each with its names: one with `for` is done for each case of this table, in turn."""
+        for step in self.steps:
+            for case in cases(self.names.filled(step["for"])) if "for" in step else [{}]:
+                names = Names({**self.names, **case})
+                # which stream is full or closed may be told by a case, and none by an empty word
+                streams = {name: names.filled(step[name]) for name in ("full", "closed") if name in step}
+                rest = {name: it for name, it in step.items() if name not in streams}
+                yield {**rest, **{name: it for name, it in streams.items() if it}}, Names({**names, **{name: names.filled(it) for name, it in step.get("with", {}).items()}})
 
     def play(self):
-        with tempfile.TemporaryDirectory(prefix="rows-") as place:
-            folder, room = Path(place, "work"), Path(place, "room")
-            folder.mkdir()
+        with tempfile.TemporaryDirectory(prefix="row-", dir=rooms()) as place:
+            self.folder, room = Path(place, "work"), Path(place, "room")
+            self.folder.mkdir()
             room.mkdir()
-            self.folder = folder
-            words = [word for step in self.steps for word in self.words(step)]
-            self.make([*words, *map(self.names.filled, self.has)])
-            for step in self.steps:
-                for command in self.judged(step) if "judge" in step else [step]:
-                    self.run_step(command, folder, room)
+            commands = list(self.commands())
+            for step, self.names in commands:
+                self.make([*self.words(step), *map(self.names.filled, self.has)])
+            for step, self.names in commands:
+                # a row for root, or for anybody else
+                if step.get("only") != ("root" if os.getuid() else "others"):
+                    for command in self.judged(step) if "judge" in step else [step]:
+                        self.run_step(command, self.folder, room)
 
 
 class Run:
@@ -256,11 +311,21 @@ class Run:
         self.row, self.step, self.folder, self.room, self.given = row, step, folder, room, given
         words = row.words(step)
         last = [row.bytes_of(step["last_word"])] if "last_word" in step else []
-        program = os.fsencode(TOP / "crates" / words[0] / "out" / words[0])
+        program = os.fsencode(program_of(words[0]))
         self.command = [program, *(it.encode("latin-1") for it in words[1:]), *last]
         self.env = {**os.environ, **dict(row.names.filled(it).split("=", 1) for it in step.get("env", []))}
         if "env" in step:
-            self.env["LD_PRELOAD"] = shim("failing_file")
+            self.env["LD_PRELOAD"] = shim("file_record" if "FILE_NAME" in self.env else "failing_file")
+        if not os.path.exists(program):
+            raise FileNotFoundError(f"{words[0]} isn't built: bin/{words[0]} proves and builds it; or take --try")
+        if OVER_TRIED and "refuses_allocations" in step:
+            raise Missing(f"{row.id} (the proved program)")
+        if "through" in step:
+            through = shlex.split(row.names.filled(step["through"]))
+            tried = {"cwd": folder, "stdout": subprocess.DEVNULL, "stderr": subprocess.DEVNULL}
+            if not shutil.which(through[0]) or subprocess.run([*through, "true"], **tried).returncode:
+                raise Missing(f"{through[0]}, for {row.id}")
+            self.command = [*through, *self.command]
         for name in [step["closed"]] if "closed" in step else ["room"] if "room" in step else []:
             self.command = [b"bash", b"-c", BASH[name].encode(), b"bash", *self.command]
 
@@ -319,6 +384,14 @@ class Run:
         output, error = (read(self.room / it) if self.step.get("full") != it else b"" for it in ("stdout", "stderr"))
         return status, output[ROOM - self.number("room") :] if "room" in self.step else output, error
 
+    def started_together(self, wanted):
+        """Runs so many of the command at once, whose answers nobody reads."""
+        quiet = dict.fromkeys(("stdin", "stdout", "stderr"), subprocess.DEVNULL)
+        begun = [subprocess.Popen(self.command, cwd=self.folder, **quiet) for _ in range(self.step["together"])]
+        for it in begun:
+            it.wait(SECONDS)
+        return 0, wanted, b""
+
     def refuses_each(self, wanted):
         """One of the first allocations is refused, each in turn: the command ends with 7 and says nothing, or does all
         without it; it is seen to end with 7. Then none is refused, and it does all."""
@@ -329,8 +402,8 @@ class Run:
             ended = self.started()
             seen = seen or ended == (7, b"", b"")
             right = [(0, wanted, b"")] + ([(7, b"", b"")] if at else [])
-            assert ended in right, f"{self.row.id}: allocation {at} is refused: status {ended[0]}"
-        assert seen, f"{self.row.id}: never ended with 7"
+            assert ended in right, f"allocation {at} is refused: status {ended[0]}"
+        assert seen, "never ended with 7"
 
 
 def feed(path, given):
@@ -338,9 +411,17 @@ def feed(path, given):
         path.write_bytes(given)
 
 
+def write(path, given):
+    """Writes a file that its owner alone may read, as the programs make theirs: `station` says if it is otherwise."""
+    with open(path, "wb", opener=lambda it, how: os.open(it, how, 0o600)) as file:
+        file.write(given)
+
+
 def read(path):
+    """The bytes of a file; of anything else what it is."""
     try:
-        return path.read_bytes()
+        kind = os.stat(path).st_mode
+        return path.read_bytes() if stat.S_ISREG(kind) else f"(kind {stat.S_IFMT(kind):o})".encode()
     except OSError as fault:
         return f"({fault.strerror})".encode()
 
@@ -359,9 +440,30 @@ class Missing(Exception):
 
 
 @functools.cache
-def built_shims():
-    """The folder of the shims that are built, which goes when the run ends."""
-    return tempfile.TemporaryDirectory(prefix="rows-shims-")
+def rooms():
+    """The folder of all that is made here. However this process ends, another one that waits for its end removes it."""
+    room = tempfile.mkdtemp(prefix="rows-")
+    remover = 'cat; rm -rf "$0" || { sleep 5; rm -rf "$0"; }'
+    rooms.remover = subprocess.Popen(["/bin/sh", "-c", remover, room], stdin=subprocess.PIPE, start_new_session=True)
+    return room
+
+
+# whether the rows run over programs that aren't proved
+OVER_TRIED = False
+
+
+@functools.cache
+def tried(name):
+    """The program as bin/try builds and keeps it."""
+    subprocess.run([TOP / "bin" / "try", name], stdin=subprocess.DEVNULL, capture_output=True)
+    return max(TOP.glob(f"crates/{name}/out/tried/*"), key=os.path.getmtime, default="")
+
+
+def program_of(name):
+    if not OVER_TRIED:
+        return TOP / "crates" / name / "out" / name
+    with BUILDING:
+        return tried(name)
 
 
 def shim(name):
@@ -370,11 +472,45 @@ def shim(name):
     if not compiler:
         raise Missing("rows of calls that fail (a C compiler)")
     with BUILDING:
-        built = Path(built_shims().name, f"{name}.so")
+        built = Path(rooms(), f"{name}.so")
         if not built.exists():
             source = CHECKS / "shims" / f"{name}.c"
             subprocess.run([compiler, "-O1", "-shared", "-fPIC", "-o", built, source, "-ldl"], check=True)
     return str(built)
+
+
+def stored(kind, version, cells, puts):
+    """A new store with these cells, each in hexadecimal digits to which zeros are added; `14*00` is fourteen of them.
+    Then with these puts, each `PLACE:CELL`: to the other copy of a twin store, or after the cells of a log."""
+    cell = lambda digits: bytes.fromhex(digits).ljust(32, b"\0")
+    held, count = [], {}
+    for times, _, digits in (it.rpartition("*") for it in cells.split()):
+        held += [cell(digits)] * int(times or 1)
+    before = 32768 * (version - 1)
+    head = bytes(before) + b"SECOCST1" + bytes([kind, version]) + len(held).to_bytes(2, "big") + bytes(20)
+    if kind == 1:
+        body = b"".join(b"\xa7\0" + it + b"\xa7\2" + it for it in held)
+    else:
+        body = b"\xa7\0" + b"".join(held) + bytes(2240) + b"\0\2" + bytes(32 * len(held) + 2240)
+    whole = bytearray(head + body)
+    for number, (place, digits) in enumerate(it.split(":") for it in puts.split()):
+        at = int(place)
+        mark = count[at] = count.get(at, 0) + 1
+        if kind == 1:
+            start, new = 68 * at + 34 * (mark % 2), bytes([LIVE, mark % 3]) + cell(digits)
+        else:
+            start, new = 2 + 32 * len(held) + 35 * number, bytes([LIVE, 0, at]) + cell(digits)
+        start += before + 32
+        whole[start : start + len(new)] = new
+    return bytes(whole)
+
+
+def framed(flags, data):
+    """A frame of these hexadecimal digits: a classic one, or one of CAN FD, of the next length that CAN FD has."""
+    if len(data) <= 16:
+        return b"#" + data
+    length = next(it for it in (12, 16, 20, 24, 32, 48, 64) if len(data) <= 2 * it)
+    return f"##{flags}".encode() + data.ljust(2 * length, b"0")
 
 
 def cases(table):
@@ -405,9 +541,11 @@ def rows():
         if path.stem == "common":
             continue
         table = tomllib.loads(path.read_text())
-        whole = {name: {**common.get(name, {}), **table.get(name, {})} for name in ("names", "files", "tables")}
+        parts = ("names", "files", "tables", "forms")
+        whole = {name: {**common.get(name, {}), **table.get(name, {})} for name in parts}
         for key, fields in table["rows"].items():
-            each = [list(cases(whole["tables"].get(it, it))) for it in whole_of(fields)[0].get("each", [])]
+            about, _ = whole_of(fields, whole["forms"])
+            each = [list(cases(whole["tables"].get(it, it))) for it in about.get("each", [])]
             for chosen in itertools.product(*each):
                 case = {name: value for it in chosen for name, value in it.items()}
                 yield Row({"program": path.stem, **whole}, key, fields, case)
@@ -449,9 +587,21 @@ def outcome(row):
 
 
 def main(texts):
+    global OVER_TRIED
+    if texts[:1] == ["--try"]:
+        OVER_TRIED, texts = True, texts[1:]
+        os.environ["ASAN_OPTIONS"] = "verify_asan_link_order=0"
     chosen = [row for row in ROWS.values() if all(it in row.id for it in texts)]
-    with concurrent.futures.ThreadPoolExecutor(os.cpu_count()) as pool:
+    try:
+        rooms()
+    except OSError as fault:
+        print(f"FAILED: {fault}\nrows: 0 passed, 1 failed")
+        return 1
+    pool = concurrent.futures.ThreadPoolExecutor(len(os.sched_getaffinity(0)))
+    try:
         outcomes = list(pool.map(outcome, chosen))
+    except KeyboardInterrupt:
+        os._exit(130)
     said = [it for it in dict.fromkeys(outcomes) if it != "passed"]
     failed = sum(it.startswith("FAILED") for it in outcomes)
     print(*said, f"rows: {outcomes.count('passed')} passed, {failed} failed", sep="\n")

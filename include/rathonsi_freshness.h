@@ -16,7 +16,8 @@
  *   - The sender's freshness is found if it is 1 to window above the counter. If the answer is
  *     RATHONSI_RESERVE and its plan is done, the same call gives it, and it can be accepted.
  *   - While the counter of a route stays, candidates make at most (window + reserve - 1) / reserve
- *     plans, rounded down: see rathonsi_freshness_candidate.
+ *     plans, rounded down. Over all lives they make (rise + window + reserve - 1) / reserve at most,
+ *     if the counter rises by so much: see rathonsi_freshness_candidate.
  *
  * Freshness is a whole number of 64 bits here. SecOC modules pass it as bytes, the most significant
  * one first, and count lengths in bits. If the full freshness of a PDU has fewer bits in the
@@ -52,6 +53,8 @@
  *      for the same PDU gets this answer, too: there is one candidate.
  *   4. The authenticator was found right (verification status callout): call
  *      rathonsi_freshness_accept with that freshness. It was found wrong: call nothing.
+ *   5. PDUs are refused one after another: the receiver may be more than its window behind. It gets
+ *      back by rathonsi_sync_take, under the key in the route's slot.
  *   No PDU waits if the caller reserves ahead, so that the bound is at least counter + window. The
  *   price comes with a power cut: the receiver then refuses what is reserved and not accepted.
  */
@@ -96,7 +99,9 @@ int32_t rathonsi_freshness_next(RathonsiRoute *route, const uint8_t *image, size
  * the device write. This ends once the bound is at least counter + window. That takes at most
  * (window + reserve - 1) / reserve plans, rounded down: one if reserve is at least the window. It
  * begins anew once the counter moves: by a PDU that is accepted, by an answer that is taken, or
- * because the route is opened.
+ * because the route is opened. So over all lives such PDUs make at most (rise + window + reserve - 1)
+ * / reserve plans, rounded down, if the counter rises by so much. window is the largest one, and
+ * reserve the smallest. A plan that the power cuts isn't counted.
  * A receiver that is opened begins at its bound. So such PDUs may take its counter up by window +
  * reserve - 1 at each power-up, and it refuses as many genuine PDUs. A small window keeps this
  * small. */

@@ -45,7 +45,8 @@
  *   - A Data ID in one direction has one cell and one route. No other route uses the cell.
  *     rathonsi_routes_open sees to it, if one call gets all routes of the store. rathonsi_route_make
  *     and rathonsi_store_grow refuse a second cell, and rathonsi_store_look names one.
- *   - An open route is not filled in with another Data ID, direction or cell.
+ *   - An open route is not filled in with another Data ID, direction or cell. Every call refuses
+ *     it then, by the check value of the route.
  *   - A route has the same Data ID, direction and cell in every life. Slot, window, reserve and
  *     booted may change. The caller zeroes opened at power-up, and never sets it.
  *   - While a plan is pending, routes send and receive as before. A new plan answers RATHONSI_BUSY.
@@ -97,7 +98,7 @@
  *
  *     static uint8_t image[RATHONSI_STORE_SIZE(2)];
  *     static RathonsiPlan plan;
- *     static RathonsiRoute routes[2]; // filled in, but counter and opened
+ *     static RathonsiRoute routes[2]; // filled in, but counter, opened and check
  *     static RathonsiRoute *const speed = &routes[0], *const brake = &routes[1];
  *
  *     // at power-up, and when all begins again
@@ -234,8 +235,8 @@ typedef struct RathonsiPlan {
 #define RATHONSI_SENDS 1u
 #define RATHONSI_RECEIVES 2u
 
-/* A Data ID in one direction. The caller fills in all fields except counter and opened, and zeroes
- * opened. Reserve, window, slot and booted may change at any time. A route may be opened again at
+/* A Data ID in one direction. The caller zeroes counter, opened and check, and fills in the other
+ * fields. Reserve, window, slot and booted may change at any time. A route may be opened again at
  * any time. */
 typedef struct RathonsiRoute {
     /* The last freshness that was sent or accepted. rathonsi_route_open sets it to the bound that
@@ -260,13 +261,17 @@ typedef struct RathonsiRoute {
     /* 1 after a secure boot that succeeded in this life, else 0. */
     uint8_t booted;
     /* 1 once rathonsi_route_open or rathonsi_routes_open has opened the route. They alone set it, and
-     * zero it if they fail. */
+     * zero it if they fail. With another value, or another check value, the route isn't open. */
     uint8_t opened;
     /* 1 if another module makes and checks the authenticators, and asks for the freshness alone: see
      * rathonsi_freshness.h. Else 0. The same in every life. */
     uint8_t freshness_only;
-    /* Not read. */
-    uint8_t unused[3];
+    /* The check value of an open route: 1 + (counter + 3 * who) mod 16777213 in three bytes, big-endian.
+     * who is direction * 2^32 + cell * 2^16 + data_id. The calls alone write it. An open route is refused
+     * if one of these four alone was set by hand, unless the counter was moved by a multiple of
+     * 16,777,213: that is proved. A struct of zeros or of bytes ff is never open, and one of random
+     * bytes is in one of 2^32. */
+    uint8_t check[3];
 } RathonsiRoute;
 
 /* What is told of a route. */
@@ -416,6 +421,13 @@ int32_t rathonsi_route_open(RathonsiRoute *route, const uint8_t *image, size_t i
 RATHONSI_CHECKED
 int32_t rathonsi_routes_open(RathonsiRoute *routes, size_t count, const uint8_t *image, size_t image_length, uint32_t *which);
 
+/* For the bench: why a route is refused with RATHONSI_BAD_VALUE. Tells the number of its first field
+ * outside its range: 1 cell, 2 reserve, 3 window, 4 slot, 5 direction, 6 booted, 7 freshness_only.
+ * 8: all are within their ranges, but the route isn't open. 0: it is open. It reads the route alone,
+ * and the answer is no status. */
+RATHONSI_CHECKED
+uint32_t rathonsi_route_fault(const RathonsiRoute *route);
+
 /* For a route that sends: plans the bound that covers its next freshness and reserve - 1 more, at
  * most 2^64 - 1.
  * RATHONSI_BUSY.
@@ -473,7 +485,9 @@ int32_t rathonsi_route_reserve(const RathonsiRoute *route, uint64_t freshness, c
  * after RATHONSI_RESERVE of rathonsi_sync_take doesn't open the route anew: it makes that call again.
  * RATHONSI_BUSY.
  * RATHONSI_BAD_VALUE: a number of the route is outside its range, or the route isn't open.
- * RATHONSI_WRONG_CELL, RATHONSI_DAMAGED: as for rathonsi_route_open. */
+ * RATHONSI_WRONG_CELL, RATHONSI_DAMAGED: as for rathonsi_route_open.
+ * RATHONSI_EXHAUSTED: freshness + reserve - 1 is 2^64 - 1 or more. The route would be opened at
+ * 2^64 - 1, and no freshness is above that. */
 RATHONSI_CHECKED
 int32_t rathonsi_route_advance(const RathonsiRoute *route, uint64_t freshness, const uint8_t *image, size_t image_length,
                                RathonsiPlan *plan);

@@ -11,6 +11,8 @@ typedef enum {
     FVM_MEMORY_FAILED
 } FvM_MemoryState;
 
+/* length is that of the image: the store and the room after it. */
+
 /* Begins to read the store into the image. What it reads is durable, and reads the same ever after. */
 Std_ReturnType FvM_Memory_Read(uint8 *image, uint32 length);
 

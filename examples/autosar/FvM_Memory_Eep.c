@@ -64,7 +64,7 @@ Std_ReturnType FvM_Memory_Write(const RathonsiPlan *plan, const uint8 *image, ui
     return begin_jobs();
 }
 
-/* The header comes last: before it the bytes are no store. */
+/* The header comes last: before it the bytes are no store. The room after the store is written, too. */
 Std_ReturnType FvM_Memory_Make(const uint8 *image, uint32 length)
 {
     static const uint8 none[32];

@@ -8,6 +8,11 @@
 #include "rathonsi_flash.h"
 
 #define FVM_FLASH_CELLS RATHONSI_FLASH_CELLS(FVM_CELLS)
+#define FVM_FLASH_STORE RATHONSI_STORE_SIZE(FVM_CELLS)
+
+#if FVM_MADE != FVM_CELLS
+#error "a store on flash doesn't grow: the production line makes all cells, those of later software, too"
+#endif
 
 static RathonsiFlash FvM_Flash;
 static RathonsiFlashOperation FvM_Operation;
@@ -34,14 +39,16 @@ static void begin_job(void)
     }
 }
 
-/* The last operation was done: tells the image if the store was read. */
+/* The last operation was done: tells the image if the store was read, and that there is nothing after it. */
 static void finish(void)
 {
     FvM_Memory = FVM_MEMORY_DONE;
-    if ((FvM_Read != NULL)
-        && (rathonsi_flash_image(&FvM_Flash, FvM_FlashCells, FVM_FLASH_CELLS, FvM_Read, FvM_ReadLength)
-            != RATHONSI_OK)) {
-        FvM_Memory = FVM_MEMORY_FAILED;
+    if (FvM_Read != NULL) {
+        (void)memset(FvM_Read, 0xff, FvM_ReadLength);
+        if (rathonsi_flash_image(&FvM_Flash, FvM_FlashCells, FVM_FLASH_CELLS, FvM_Read, FVM_FLASH_STORE)
+            != RATHONSI_OK) {
+            FvM_Memory = FVM_MEMORY_FAILED;
+        }
     }
     FvM_Read = NULL;
 }
@@ -85,9 +92,10 @@ Std_ReturnType FvM_Memory_Write(const RathonsiPlan *plan, const uint8 *image, ui
 
 Std_ReturnType FvM_Memory_Make(const uint8 *image, uint32 length)
 {
+    (void)length;
     FvM_Read = NULL;
     return begin(rathonsi_flash_take(&FvM_Flash, FVM_FLASH_UNIT, FVM_FLASH_BANKS, FVM_FLASH_BANK_SIZE, image,
-                                     length, FvM_FlashCells, FVM_FLASH_CELLS));
+                                     FVM_FLASH_STORE, FvM_FlashCells, FVM_FLASH_CELLS));
 }
 
 FvM_MemoryState FvM_Memory_Poll(void)

@@ -1,12 +1,13 @@
-/* The store in one block of NvM, over Fee or Ea. README.md says how the block is configured. */
+/* The store in one block of NvM, over Fee or Ea, of RATHONSI_STORE_SIZE(FVM_ROOM) bytes in all versions of the software.
+ * README.md says how the block is configured. */
 #include <string.h>
 
 #include "FvM_Cfg.h"
 #include "FvM_Memory.h"
 #include "NvM.h"
 
-/* What NvM writes: the store with the plan done. NvM reads it until the job ended. */
-static uint8 FvM_Block[RATHONSI_STORE_SIZE(FVM_CELLS)];
+/* What NvM writes: the store with the plan done, and the room after it. NvM reads it until the job ended. */
+static uint8 FvM_Block[RATHONSI_STORE_SIZE(FVM_ROOM)];
 
 Std_ReturnType FvM_Memory_Read(uint8 *image, uint32 length)
 {

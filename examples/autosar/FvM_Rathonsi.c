@@ -12,7 +12,12 @@ static FvM_StateType FvM_State = FVM_STOPPED;
 static boolean FvM_Writing;
 static int32_t FvM_Fault = RATHONSI_OK;
 
-static uint8 FvM_Image[RATHONSI_STORE_SIZE(FVM_CELLS)];
+/* The store, and the room after it. */
+static uint8 FvM_Image[RATHONSI_STORE_SIZE(FVM_ROOM)];
+/* How long the store is that was read: newer software may have added cells. */
+static uint32_t FvM_Size;
+/* The next cell that the store may lack. */
+static uint16 FvM_Cell;
 static RathonsiPlan FvM_Plan;
 static RathonsiRoute FvM_Route[FVM_ROUTES];
 /* What SecOC was given and verifies now; 0 if there is nothing. */
@@ -21,6 +26,9 @@ static uint64 FvM_Candidate[FVM_ROUTES];
 static uint64 FvM_Wanted[FVM_ROUTES];
 /* SecOC asked for a freshness of the route in this life. Before that nothing is reserved: each power-up would skip it. */
 static boolean FvM_Asked[FVM_ROUTES];
+/* How many PDUs were refused in a row, FVM_MISSES at most. */
+static uint8 FvM_Missed[FVM_ROUTES];
+#define FVM_MISSES 3u
 /* The plan is that of a key, and isn't begun yet. */
 static boolean FvM_KeyWaits;
 
@@ -85,12 +93,26 @@ static void fill_routes(void)
         FvM_Route[i].window = FvM_Routes[i].window;
         FvM_Route[i].direction = FvM_Routes[i].direction;
         FvM_Route[i].freshness_only = 1u;
-        /* A slot has to be named. It isn't read. */
-        FvM_Route[i].slot = 4u;
+        FvM_Route[i].slot = FvM_Routes[i].slot;
         FvM_Candidate[i] = 0u;
         FvM_Wanted[i] = 0u;
         FvM_Asked[i] = 0u;
+        FvM_Missed[i] = 0u;
     }
+}
+
+/* The route of a cell, of whichever version of the software. */
+static RathonsiRoute route_of_cell(uint16 cell)
+{
+    RathonsiRoute route;
+    (void)memset(&route, 0, sizeof route);
+    route.data_id = FvM_Cells[cell].freshnessId;
+    route.direction = FvM_Cells[cell].direction;
+    route.cell = (uint16)(RATHONSI_SLOT_CELLS + cell);
+    route.reserve = 1u;
+    route.window = 1u;
+    route.slot = 4u;
+    return route;
 }
 
 /* The freshness that the next bound of a route has to cover, or 0 if its bound is far enough. */
@@ -98,7 +120,7 @@ static uint64 due(uint32 i)
 {
     RathonsiRouteState told;
     uint64 freshness = 0u;
-    const int32_t status = rathonsi_route_state(&FvM_Route[i], FvM_Image, sizeof FvM_Image, &told);
+    const int32_t status = rathonsi_route_state(&FvM_Route[i], FvM_Image, FvM_Size, &told);
     if (status != RATHONSI_OK) {
         stop(status);
     } else if (FvM_Wanted[i] > told.bound) {
@@ -114,19 +136,64 @@ static uint64 due(uint32 i)
 
 /* ---- The memory ----------------------------------------------------------------------------------------------------- */
 
-/* The store was read: all routes are opened. */
+/* The store has all cells: all routes are opened. */
 static void open_routes(void)
 {
     uint32_t which = 0u;
-    int32_t status = rathonsi_store_check(FvM_Image, sizeof FvM_Image);
+    int32_t status = rathonsi_store_size(FvM_Image, &FvM_Size);
+    if ((status == RATHONSI_OK) && (FvM_Size > sizeof FvM_Image)) {
+        status = RATHONSI_BAD_LENGTH;
+    }
     if (status == RATHONSI_OK) {
-        status = rathonsi_routes_open(FvM_Route, FVM_ROUTES, FvM_Image, sizeof FvM_Image, &which);
+        status = rathonsi_store_check(FvM_Image, FvM_Size);
+    }
+    if (status == RATHONSI_OK) {
+        status = rathonsi_routes_open(FvM_Route, FVM_ROUTES, FvM_Image, FvM_Size, &which);
     }
     if (status == RATHONSI_OK) {
         FvM_State = FVM_UP;
     } else {
         stop(status);
     }
+}
+
+static boolean is_planned(void)
+{
+    return ((FvM_Plan.writes[0].length != 0u) || (FvM_Plan.writes[1].length != 0u)
+            || (FvM_Plan.writes[2].length != 0u)) ? 1u : 0u;
+}
+
+/* Asks for each cell that the production line didn't make, at each start and whatever the store says of its size: a cut may
+ * leave any number there. A cell that is there plans nothing. Says whether there is a plan; if none is left, all opens. */
+static boolean make_growth(void)
+{
+    int32_t status = RATHONSI_OK;
+    while ((FvM_Cell < FVM_CELLS) && (status == RATHONSI_OK) && (is_planned() == 0u)) {
+        const RathonsiRoute route = route_of_cell(FvM_Cell);
+        status = rathonsi_store_grow(&route, 0u, FvM_Image, sizeof FvM_Image, &FvM_Plan);
+        if (is_planned() == 0u) {
+            FvM_Cell++;
+        }
+    }
+    if (status != RATHONSI_OK) {
+        stop(status);
+    } else if (is_planned() == 0u) {
+        open_routes();
+    } else {
+        /* The plan is written, and the cell is asked for again. */
+    }
+    return is_planned();
+}
+
+/* Plans the bound of a route that covers a freshness. An answer may tell one that is further ahead than PDUs can be, or
+ * one that is at the end of its counter: RATHONSI_EXHAUSTED. */
+static int32_t plan_bound(uint32 i, uint64 freshness)
+{
+    int32_t status = rathonsi_route_reserve(&FvM_Route[i], freshness, FvM_Image, FvM_Size, &FvM_Plan);
+    if (status == RATHONSI_BAD_VALUE) {
+        status = rathonsi_route_advance(&FvM_Route[i], freshness, FvM_Image, FvM_Size, &FvM_Plan);
+    }
+    return status;
 }
 
 /* Plans the bound of the next route that is due, unless the plan of a key waits. The routes take turns. Says whether there is a plan. */
@@ -139,11 +206,12 @@ static boolean make_plan(void)
         const uint32 i = (turn + k) % FVM_ROUTES;
         const uint64 freshness = due(i);
         if ((FvM_State == FVM_UP) && (freshness != 0u)) {
-            const int32_t status =
-                rathonsi_route_reserve(&FvM_Route[i], freshness, FvM_Image, sizeof FvM_Image, &FvM_Plan);
+            const int32_t status = plan_bound(i, freshness);
             if (status == RATHONSI_OK) {
                 turn = i + 1u;
                 planned = 1u;
+            } else if (status == RATHONSI_EXHAUSTED) {
+                FvM_Wanted[i] = 0u;
             } else {
                 stop(status);
             }
@@ -160,11 +228,11 @@ static void take_outcome(FvM_MemoryState memory)
     } else if (memory == FVM_MEMORY_BUSY) {
         /* It goes on. */
     } else if (FvM_State == FVM_READING) {
-        open_routes();
+        FvM_State = FVM_GROWING;
     } else if (FvM_State == FVM_MAKING) {
         stop(RATHONSI_OK);
     } else {
-        const int32_t status = rathonsi_store_done(FvM_Image, sizeof FvM_Image, &FvM_Plan);
+        const int32_t status = rathonsi_store_done(FvM_Image, FvM_Size, &FvM_Plan);
         FvM_Writing = 0u;
         if (status != RATHONSI_OK) {
             stop(status);
@@ -178,6 +246,8 @@ void FvM_Init(void)
     stop(RATHONSI_OK);
     (void)memset(&FvM_Plan, 0, sizeof FvM_Plan);
     fill_routes();
+    FvM_Size = sizeof FvM_Image;
+    FvM_Cell = FVM_MADE;
     FvM_KeyWaits = 0u;
     FVM_LEAVE();
     /* The read is begun before FvM_MainFunction asks what became of it. */
@@ -198,8 +268,14 @@ void FvM_MainFunction(void)
         FVM_LEAVE();
     }
     FVM_ENTER();
-    if ((FvM_State == FVM_UP) && (FvM_Writing == 0u)) {
-        begins = make_plan();
+    if (FvM_Writing == 0u) {
+        if (FvM_State == FVM_GROWING) {
+            begins = make_growth();
+        } else if (FvM_State == FVM_UP) {
+            begins = make_plan();
+        } else {
+            /* Nothing is planned. */
+        }
         FvM_Writing = begins;
     }
     FVM_LEAVE();
@@ -236,16 +312,30 @@ static Std_ReturnType answer_of(int32_t status)
     return answer;
 }
 
+/* What a callout answers before all routes are open, or after a fault. */
+static Std_ReturnType answer_down(void)
+{
+    return ((FvM_State == FVM_READING) || (FvM_State == FVM_GROWING)) ? E_BUSY : E_NOT_OK;
+}
+
+/* This freshness of a route has to be covered. */
+static void want(uint32 i, uint64 freshness)
+{
+    if (FvM_Wanted[i] < freshness) {
+        FvM_Wanted[i] = freshness;
+    }
+}
+
 /* Takes the next freshness of a sender. */
 static Std_ReturnType next_freshness(uint32 i, uint64 *freshness)
 {
-    Std_ReturnType answer = (FvM_State == FVM_READING) ? E_BUSY : E_NOT_OK;
+    Std_ReturnType answer = answer_down();
     if (FvM_State == FVM_UP) {
         FvM_Asked[i] = 1u;
         const int32_t status =
-            rathonsi_freshness_next(&FvM_Route[i], FvM_Image, sizeof FvM_Image, freshness);
+            rathonsi_freshness_next(&FvM_Route[i], FvM_Image, FvM_Size, freshness);
         if (status == RATHONSI_RESERVE) {
-            FvM_Wanted[i] = FvM_Route[i].counter + 1u;
+            want(i, FvM_Route[i].counter + 1u);
         }
         answer = answer_of(status);
     }
@@ -288,14 +378,14 @@ Std_ReturnType SecOC_GetTxFreshness(uint16 SecOCFreshnessValueID, uint8 *SecOCFr
 /* The freshness is the next one with these low bits, and SecOC verifies with it. */
 static Std_ReturnType candidate(uint32 i, uint64 truncated, uint32 bits, uint64 *freshness)
 {
-    Std_ReturnType answer = (FvM_State == FVM_READING) ? E_BUSY : E_NOT_OK;
+    Std_ReturnType answer = answer_down();
     FvM_Candidate[i] = 0u;
     if (FvM_State == FVM_UP) {
         FvM_Asked[i] = 1u;
-        const int32_t status = rathonsi_freshness_candidate(&FvM_Route[i], FvM_Image, sizeof FvM_Image, truncated,
+        const int32_t status = rathonsi_freshness_candidate(&FvM_Route[i], FvM_Image, FvM_Size, truncated,
                                                             (uint8)bits, freshness);
         if (status == RATHONSI_RESERVE) {
-            FvM_Wanted[i] = *freshness;
+            want(i, *freshness);
         }
         answer = answer_of(status);
         if ((answer == E_OK) && (fits(*freshness, FvM_Routes[i].bits) == 0u)) {
@@ -341,17 +431,80 @@ void FvM_VerificationStatus(SecOC_VerificationStatusType status)
     const uint32 i = route_of(status.freshnessValueID, RATHONSI_RECEIVES);
     if (i < FVM_ROUTES) {
         FVM_ENTER();
-        if ((FvM_State == FVM_UP) && (status.verificationStatus == SECOC_VERIFICATIONSUCCESS)) {
+        if (status.verificationStatus != SECOC_VERIFICATIONSUCCESS) {
+            if (FvM_Missed[i] < FVM_MISSES) {
+                FvM_Missed[i]++;
+            }
+        } else if (FvM_State == FVM_UP) {
             /* A success without a candidate is one of another life, or of a PDU before: 0 is refused. */
-            const int32_t accepted = rathonsi_freshness_accept(&FvM_Route[i], FvM_Image, sizeof FvM_Image,
-                                                               FvM_Candidate[i]);
+            const int32_t accepted =
+                rathonsi_freshness_accept(&FvM_Route[i], FvM_Image, FvM_Size, FvM_Candidate[i]);
             if (accepted != RATHONSI_OK) {
                 stop(accepted);
             }
+            FvM_Missed[i] = 0u;
+        } else {
+            /* Nothing is accepted while the store isn't open. */
         }
         FvM_Candidate[i] = 0u;
         FVM_LEAVE();
     }
+}
+
+/* ---- A receiver that fell behind ---------------------------------------------------------------------------------- */
+
+boolean FvM_IsBehind(uint16 freshnessId)
+{
+    const uint32 i = route_of(freshnessId, RATHONSI_RECEIVES);
+    return ((i < FVM_ROUTES) && (FvM_Missed[i] == FVM_MISSES)) ? 1u : 0u;
+}
+
+Std_ReturnType FvM_MakeAnswer(uint16 freshnessId, const uint8 nonce[16], uint8 answer[24])
+{
+    Std_ReturnType result = E_NOT_OK;
+    const uint32 i = route_of(freshnessId, RATHONSI_SENDS);
+    if (i < FVM_ROUTES) {
+        FVM_ENTER();
+        result = answer_down();
+        if (FvM_State == FVM_UP) {
+            result = answer_of(rathonsi_sync_answer(&FvM_Route[i], FvM_Image, FvM_Size, nonce, answer));
+        }
+        FVM_LEAVE();
+    }
+    return result;
+}
+
+/* Takes an answer for a route, on whose candidate no verdict is out. */
+static Std_ReturnType take_answer(uint32 i, const uint8 nonce[16], const uint8 answer[24])
+{
+    const RathonsiVerdict verdict = rathonsi_sync_take(&FvM_Route[i], FvM_Image, FvM_Size, nonce, answer);
+    if (verdict.status == RATHONSI_RESERVE) {
+        want(i, verdict.freshness);
+    } else if ((verdict.status == RATHONSI_OK) || (verdict.status == RATHONSI_FRESHNESS_FAILURE)) {
+        /* It isn't behind any more, or it never was. */
+        FvM_Missed[i] = 0u;
+    } else {
+        /* It is no answer. */
+    }
+    return answer_of(verdict.status);
+}
+
+Std_ReturnType FvM_TakeAnswer(uint16 freshnessId, const uint8 nonce[16], const uint8 answer[24])
+{
+    Std_ReturnType result = E_NOT_OK;
+    const uint32 i = route_of(freshnessId, RATHONSI_RECEIVES);
+    if (i < FVM_ROUTES) {
+        FVM_ENTER();
+        if (FvM_State != FVM_UP) {
+            result = answer_down();
+        } else if (FvM_Candidate[i] != 0u) {
+            result = E_BUSY;
+        } else {
+            result = take_answer(i, nonce, answer);
+        }
+        FVM_LEAVE();
+    }
+    return result;
 }
 
 /* ---- Keys, for the Crypto driver -------------------------------------------------------------------------------------- */
@@ -361,7 +514,7 @@ int32_t FvM_LoadKey(const RathonsiRequest *request)
     int32_t status = RATHONSI_BUSY;
     FVM_ENTER();
     if ((FvM_State == FVM_UP) && (FvM_Writing == 0u)) {
-        status = rathonsi_slot_load(FvM_Uid, 0u, request, FvM_Image, sizeof FvM_Image, &FvM_Plan);
+        status = rathonsi_slot_load(FvM_Uid, 0u, request, FvM_Image, FvM_Size, &FvM_Plan);
         if (status == RATHONSI_OK) {
             FvM_KeyWaits = 1u;
         }
@@ -375,7 +528,7 @@ int32_t FvM_ConfirmKey(const uint8 m1[16], RathonsiReply *reply)
     int32_t status = RATHONSI_BUSY;
     FVM_ENTER();
     if ((FvM_State == FVM_UP) && (FvM_Writing == 0u) && (FvM_KeyWaits == 0u)) {
-        status = rathonsi_slot_confirm(FvM_Uid, m1, FvM_Image, sizeof FvM_Image, reply);
+        status = rathonsi_slot_confirm(FvM_Uid, m1, FvM_Image, FvM_Size, reply);
     }
     FVM_LEAVE();
     return status;
@@ -386,7 +539,7 @@ int32_t FvM_MakeMac(uint8 slot, const uint8 *message, uint32 length, uint8 mac[1
     int32_t status = RATHONSI_BUSY;
     FVM_ENTER();
     if (FvM_State == FVM_UP) {
-        status = rathonsi_slot_mac(slot, 0u, FvM_Image, sizeof FvM_Image, message, length, mac);
+        status = rathonsi_slot_mac(slot, 0u, FvM_Image, FvM_Size, message, length, mac);
     }
     FVM_LEAVE();
     return status;
@@ -396,10 +549,13 @@ int32_t FvM_MakeMac(uint8 slot, const uint8 *message, uint32 length, uint8 mac[1
 
 Std_ReturnType FvM_MakeStore(void)
 {
-    int32_t status = rathonsi_store_make(FvM_Image, sizeof FvM_Image);
-    fill_routes();
-    for (uint32 i = 0u; (i < FVM_ROUTES) && (status == RATHONSI_OK); i++) {
-        status = rathonsi_route_make(&FvM_Route[i], 0u, FvM_Image, sizeof FvM_Image);
+    const uint32 size = RATHONSI_STORE_SIZE(FVM_CELLS);
+    int32_t status = rathonsi_store_make(FvM_Image, size);
+    /* The room after the store is erased: later software adds cells there. */
+    (void)memset(&FvM_Image[size], 0xff, (sizeof FvM_Image) - size);
+    for (uint16 cell = 0u; (cell < FVM_CELLS) && (status == RATHONSI_OK); cell++) {
+        const RathonsiRoute route = route_of_cell(cell);
+        status = rathonsi_route_make(&route, 0u, FvM_Image, size);
     }
     stop(status);
     if (status == RATHONSI_OK) {

@@ -26,13 +26,23 @@ typedef struct {
     uint8 direction;
     /* SecOCFreshnessValueLength in bits, 1 to 64. */
     uint8 bits;
+    /* The slot of the key for answers, 4 to 13. */
+    uint8 slot;
 } FvM_RouteConfig;
+
+/* Whose counter a cell keeps, in all versions of the software. */
+typedef struct {
+    uint16 freshnessId;
+    uint8 direction;
+} FvM_CellConfig;
 
 typedef enum {
     /* Before FvM_Init, or after a fault: no freshness is given. FvM_Init begins again. */
     FVM_STOPPED,
     /* The store is being read. SecOC gets E_BUSY. */
     FVM_READING,
+    /* It gets the cells that it lacks. SecOC gets E_BUSY. */
+    FVM_GROWING,
     /* The production line makes the store. */
     FVM_MAKING,
     FVM_UP
@@ -41,18 +51,35 @@ typedef enum {
 /* Begins at power-up, and whenever all is to begin again. NvM_Init and the drivers below come before it. */
 void FvM_Init(void);
 
-/* Cyclic: reads the store, plans and writes bounds. One job of the memory is begun or ended in each call. */
+/* Cyclic: reads the store, makes it grow, plans and writes bounds. In each call a job of the memory ends, or one
+ * begins, or both. */
 void FvM_MainFunction(void);
 
 FvM_StateType FvM_GetState(void);
 
 /* The status of Rathonsi that stopped it, for a diagnostic event. RATHONSI_OK if none did. RATHONSI_FAILED:
- * the memory failed. */
+ * the memory failed. RATHONSI_BAD_LENGTH: the store has more cells than FVM_ROOM. */
 int32_t FvM_GetFault(void);
 
 /* Configured as SecOCVerificationStatusCallout, with all results propagated. It accepts the freshness that
  * SecOC_GetRxFreshness gave last for this ID if the authenticator was right. */
 void FvM_VerificationStatus(SecOC_VerificationStatusType status);
+
+/* A receiver that is more than its window behind accepts nothing, until it takes an answer of its sender. It draws a
+ * nonce of 16 random bytes, never the same one twice, and sends it. The other unit calls FvM_MakeAnswer, and sends the
+ * 24 bytes back. The receiver calls FvM_TakeAnswer with them, and forgets the nonce. Both keep one key in the slot that
+ * is configured. Nonce and answer may travel in plain PDUs. */
+
+/* Says whether three or more PDUs of this ID were refused in a row: time to ask. */
+boolean FvM_IsBehind(uint16 freshnessId);
+
+/* E_BUSY: the store is being read. E_NOT_OK: no sender has this ID, or no key is in the slot. */
+Std_ReturnType FvM_MakeAnswer(uint16 freshnessId, const uint8 nonce[16], uint8 answer[24]);
+
+/* E_OK: PDUs that were sent after the answer are accepted, within the window. E_BUSY: a bound is being written, the store
+ * is being read, or SecOC verifies a PDU of this ID; call again with the same bytes. E_NOT_OK: it is no answer to this
+ * nonce, the receiver isn't behind, or no key is in the slot. */
+Std_ReturnType FvM_TakeAnswer(uint16 freshnessId, const uint8 nonce[16], const uint8 answer[24]);
 
 /* What Crypto_Rathonsi.c asks. RATHONSI_BUSY: the store is being read, or written; ask again. A key is durable
  * before FvM_ConfirmKey confirms it. */
@@ -60,8 +87,8 @@ int32_t FvM_LoadKey(const RathonsiRequest *request);
 int32_t FvM_ConfirmKey(const uint8 m1[16], RathonsiReply *reply);
 int32_t FvM_MakeMac(uint8 slot, const uint8 *message, uint32 length, uint8 mac[16]);
 
-/* For the production line alone: writes a store with the first bound 0 for each route. A later call takes all
- * counters back. FvM_MainFunction writes it. Then FvM_GetState is FVM_STOPPED, and FvM_GetFault RATHONSI_OK. */
+/* For the production line alone: writes a store with a cell of bound 0 for each line of FvM_Cells. A later call takes
+ * all counters back. FvM_MainFunction writes it. Then FvM_GetState is FVM_STOPPED, and FvM_GetFault RATHONSI_OK. */
 Std_ReturnType FvM_MakeStore(void);
 
 #endif

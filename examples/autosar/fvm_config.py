@@ -5,7 +5,8 @@
     fvm_config.py --bus FILE NODE CELLS FOLDER  from a bus file of Rathonsi; its Data IDs are the freshness IDs
 
 CELLS is a text file under version control, with a line `ID DIRECTION` for each cell. A new route is added at its end,
-and no line ever goes: a counter keeps its cell in all versions of the software.
+and no line ever goes: a counter keeps its cell in all versions of the software. When the production line begins, its last
+line becomes `made`: later software adds the cells after it to the stores that the line made.
 """
 import sys
 import tomllib
@@ -45,6 +46,7 @@ def of_arxml(path):
             "window": window,
             # what one start of a sender skips is within the window of its receivers
             "reserve": min(RESERVE, window // 2),
+            "slot": "FVM_ANSWER_SLOT",
         }
 
 
@@ -61,20 +63,26 @@ def of_bus(path, name):
             "bits": 64,
             "window": route.get("window", WINDOW),
             "reserve": route.get("reserve", RESERVE),
+            "slot": f"{route['slot']}u",
         }
 
 
 def cells_of(path, routes):
-    """The cell of each route, after the file has a line for each of them; and how many cells there are."""
+    """Gives each route its cell, after the file has a line for each of them. The lines of the cells, and how many of them
+    the production line made."""
     lines = path.read_text(encoding="utf-8").split("\n") if path.exists() else []
     lines = [line for line in lines if line]
+    if lines.count("made") > 1:
+        sys.exit(f"fvm_config: {path} has more than one line `made`")
+    cells = [line for line in lines if line != "made"]
     for route in routes:
         line = f"{route['id']} {route['direction']}"
-        if line not in lines:
+        if line not in cells:
+            cells.append(line)
             lines.append(line)
-        route["cell"] = 14 + lines.index(line)
+        route["cell"] = 14 + cells.index(line)
     path.write_text("".join(line + "\n" for line in lines), encoding="utf-8")
-    return len(lines)
+    return cells, lines.index("made") if "made" in lines else len(cells)
 
 
 def check(routes):
@@ -94,8 +102,14 @@ def row(route):
     least = max(1, route["reserve"] // 4)
     return (
         f"    {{{route['id']}u, {route['cell']}u, {route['reserve']}u, {route['window']}u, {least}u, "
-        f"(uint8){DIRECTIONS[route['direction']]}, {route['bits']}u}},\n"
+        f"(uint8){DIRECTIONS[route['direction']]}, {route['bits']}u, {route['slot']}}},\n"
     )
+
+
+def cell_row(line):
+    """The row of a cell in the table."""
+    number, direction = line.split()
+    return f"    {{{number}u, (uint8){DIRECTIONS[direction]}}},\n"
 
 
 def main(words):
@@ -107,14 +121,15 @@ def main(words):
         case _:
             sys.exit(__doc__)
     check(routes)
-    count = cells_of(Path(cells), routes)
-    template = (Path(__file__).parent / "FvM_Cfg.h.in").read_text(encoding="utf-8")
-    header = template.replace("@ROUTES@", str(len(routes))).replace("@CELLS@", str(count))
-    table = "".join(row(route) for route in routes)
+    cells, made = cells_of(Path(cells), routes)
+    header = (Path(__file__).parent / "FvM_Cfg.h.in").read_text(encoding="utf-8")
+    for name, number in (("ROUTES", len(routes)), ("CELLS", len(cells)), ("MADE", made)):
+        header = header.replace(f"@{name}@", str(number))
     Path(folder, "FvM_Cfg.h").write_text(header, encoding="utf-8")
     Path(folder, "FvM_Routes.c").write_text(
         '/* Written by fvm_config.py. */\n#include "FvM_Cfg.h"\n\n'
-        f"const FvM_RouteConfig FvM_Routes[FVM_ROUTES] = {{\n{table}}};\n",
+        f"const FvM_RouteConfig FvM_Routes[FVM_ROUTES] = {{\n{''.join(row(route) for route in routes)}}};\n\n"
+        f"const FvM_CellConfig FvM_Cells[FVM_CELLS] = {{\n{''.join(cell_row(line) for line in cells)}}};\n",
         encoding="utf-8",
     )
 

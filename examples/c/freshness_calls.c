@@ -5,6 +5,7 @@
 #include <stdio.h>
 #include <string.h>
 
+#include "open_by_hand.h"
 #include "rathonsi_freshness.h"
 
 enum { ROUTES = 2, SLOT = 4, SIZE = RATHONSI_STORE_SIZE(ROUTES) };
@@ -94,7 +95,7 @@ static const struct {
 static void worked_rows(void) {
     for (size_t i = 0; i < sizeof rows / sizeof rows[0]; i++) {
         uint64_t told = 77;
-        receiver.counter = rows[i].counter;
+        open_by_hand(&receiver, rows[i].counter);
         receiver.window = rows[i].window;
         int32_t status = rathonsi_freshness_candidate(&receiver, image, SIZE, rows[i].truncated, rows[i].bits, &told);
         expect(status, rows[i].freshness == 0 ? RATHONSI_FRESHNESS_FAILURE : RATHONSI_OK, "a worked row");
@@ -115,7 +116,7 @@ static void drawn_rows(long count) {
         const unsigned bits = 1 + (unsigned)(draw() % 64);
         const uint64_t most = bits < 9 ? UINT64_C(1) << bits : 256;
         uint64_t told = 77, wanted = 77, found = 0;
-        receiver.counter = draw() % 4 == 0 ? UINT64_MAX - draw() % 600 : draw() >> draw() % 64;
+        open_by_hand(&receiver, draw() % 4 == 0 ? UINT64_MAX - draw() % 600 : draw() >> draw() % 64);
         receiver.window = (uint16_t)(1 + draw() % most);
         uint64_t truncated = receiver.counter + draw() % 300;
         if (bits < 64) truncated &= (UINT64_C(1) << bits) - 1;

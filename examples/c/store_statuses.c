@@ -8,6 +8,7 @@
 #include <stdlib.h>
 #include <string.h>
 
+#include "open_by_hand.h"
 #include "rathonsi_store.h"
 
 enum { ROUTES = 2, SLOT = 4, SIZE = RATHONSI_STORE_SIZE(ROUTES), PAYLOAD = 8, PDU = PAYLOAD + RATHONSI_TRAILER };
@@ -44,8 +45,7 @@ static RathonsiRoute route_of(int which) {
     route.window = 16;
     route.slot = SLOT;
     route.direction = which == 0 ? RATHONSI_SENDS : RATHONSI_RECEIVES;
-    route.counter = 3;
-    route.opened = 1; /* as rathonsi_route_open leaves it; the counter is one that it had later */
+    open_by_hand(&route, 3); /* the counter is one below its bound */
     return route;
 }
 
@@ -190,7 +190,15 @@ static void damaged_slot(struct unit *unit) { gates_closed(unit, SLOT); }
 static void damaged_authority(struct unit *unit) { gates_closed(unit, 1); }
 static void four_cells(struct unit *unit) { unit->image_length = 32 + 68 * 4; }
 static void damaged_last_slot(struct unit *unit) { gates_closed(unit, 13); }
-static void other_id(struct unit *unit) { unit->route.data_id++; }
+static void other_id(struct unit *unit) {
+    unit->route.data_id++;
+    open_by_hand(&unit->route, 3);
+}
+static void id_by_hand(struct unit *unit) { unit->route.data_id++; }
+static void counter_by_hand(struct unit *unit) { unit->route.counter = 0; }
+static void by_chance(struct unit *unit) { /* opened is 1, and nothing else was written by an opening */
+    memset(unit->route.check, 0, sizeof unit->route.check);
+}
 static void short_image(struct unit *unit) { unit->image_length = RATHONSI_STORE_SIZE(0) + 67; }
 static void shorter_image(struct unit *unit) { unit->image_length = 32 + 68 * 13; }
 static void odd_image(struct unit *unit) { unit->image_length = SIZE - 1; }
@@ -203,8 +211,8 @@ static void boot_and_booted(struct unit *unit) {
     unit->route.slot = 6;
     unit->route.booted = 1;
 }
-static void last_counter(struct unit *unit) { unit->route.counter = UINT64_MAX; }
-static void counter_at_bound(struct unit *unit) { unit->route.counter = 4; }
+static void last_counter(struct unit *unit) { open_by_hand(&unit->route, UINT64_MAX); }
+static void counter_at_bound(struct unit *unit) { open_by_hand(&unit->route, 4); }
 static void empty_and_last(struct unit *unit) {
     empty_slot(unit);
     last_counter(unit);
@@ -217,6 +225,9 @@ static void busy_and_wrong(struct unit *unit) {
 }
 static void not_open(struct unit *unit) { unit->route.opened = 0; }
 static void open_twice(struct unit *unit) { unit->route.opened = 2; }
+static void before_the_last(struct unit *unit) { unit->freshness = UINT64_MAX - 8; }
+static void no_place(struct unit *unit) { unit->freshness = UINT64_MAX - 7; }
+static void last_freshness(struct unit *unit) { unit->freshness = UINT64_MAX; }
 static void farthest(struct unit *unit) { unit->freshness = 4 + 256; }
 static void too_far(struct unit *unit) { unit->freshness = 4 + 257; }
 static void never_made(struct unit *unit) { memset(unit->image + 32 + 68 * unit->route.cell + 2, 0, 32); }
@@ -299,12 +310,12 @@ static void busy_and_closed(struct unit *unit) {
     unit->plan.writes[1].length = 1;
     unit->route.opened = 0;
 }
-static void counter_far_above(struct unit *unit) { unit->route.counter = 4 + 256; }
-static void counter_above(struct unit *unit) { unit->route.counter = 4 + 255; }
+static void counter_far_above(struct unit *unit) { open_by_hand(&unit->route, 4 + 256); }
+static void counter_above(struct unit *unit) { open_by_hand(&unit->route, 4 + 255); }
 static void freshness_far_above(struct unit *unit) { unit->freshness = 4 + 257; }
 static void reserve_of_one(struct unit *unit) { unit->route.reserve = 1; }
 static void accepted(struct unit *unit) { unit->verdict = RATHONSI_OK; }
-static void two_left(struct unit *unit) { unit->route.counter = 2; }
+static void two_left(struct unit *unit) { open_by_hand(&unit->route, 2); }
 static void over_the_header(struct unit *unit) { unit->plan.writes[0].length = 32; }
 
 static const struct {
@@ -373,6 +384,20 @@ static const struct {
     {ADVANCE, 0, not_open, RATHONSI_BAD_VALUE, "a route that isn't open"},
     {ADVANCE, 0, other_id, RATHONSI_WRONG_CELL, "another Data ID"},
     {ADVANCE, 0, damaged_bound, RATHONSI_DAMAGED, "a damaged cell"},
+    {ADVANCE, 0, before_the_last, RATHONSI_OK, "one freshness left above the bound"},
+    {ADVANCE, 0, no_place, RATHONSI_EXHAUSTED, "none left"},
+    {ADVANCE, 0, last_freshness, RATHONSI_EXHAUSTED, "the last freshness"},
+    {ADVANCE, 1, last_freshness, RATHONSI_EXHAUSTED, "the last freshness of a receiver"},
+    {RESERVE, 0, counter_by_hand, RATHONSI_BAD_VALUE, "a counter that was set by hand"},
+    {RESERVE_NEXT, 0, counter_by_hand, RATHONSI_BAD_VALUE, "a counter that was set by hand"},
+    {RESERVE_FOR, 1, counter_by_hand, RATHONSI_BAD_VALUE, "a counter that was set by hand"},
+    {RESERVE_AHEAD, 0, counter_by_hand, RATHONSI_BAD_VALUE, "a counter that was set by hand"},
+    {ADVANCE, 0, counter_by_hand, RATHONSI_BAD_VALUE, "a counter that was set by hand"},
+    {SEND, 0, counter_by_hand, RATHONSI_BAD_VALUE, "a counter that was set by hand"},
+    {SEND, 0, id_by_hand, RATHONSI_BAD_VALUE, "another Data ID after the opening"},
+    {SEND, 0, by_chance, RATHONSI_BAD_VALUE, "opened without a check value"},
+    {RECEIVE, 1, counter_by_hand, RATHONSI_BAD_VALUE, "a counter that was set by hand"},
+    {RECEIVE, 1, by_chance, RATHONSI_BAD_VALUE, "opened without a check value"},
     {SEND, 0, nothing, RATHONSI_OK, "a payload"},
     {SEND, 0, no_payload, RATHONSI_BAD_LENGTH, "no payload"},
     {SEND, 0, long_payload, RATHONSI_BAD_LENGTH, "61 bytes"},

@@ -6,6 +6,7 @@
 #include <stdio.h>
 #include <string.h>
 
+#include "open_by_hand.h"
 #include "rathonsi_store.h"
 
 enum { ROUTES = 2, SLOT = 4, SIZE = RATHONSI_STORE_SIZE(ROUTES), GROWN = SIZE + 68, ROOM = GROWN + 136, PAYLOAD = 8,
@@ -69,7 +70,7 @@ static void begin(void) {
         routes[i] = route_of(i);
     expect(rathonsi_routes_open(routes, ROUTES, image, SIZE, &which), RATHONSI_OK, "all routes open");
     for (unsigned i = 0; i < ROUTES; i++)
-        routes[i].counter = 3; /* as it was before its bound was reserved */
+        open_by_hand(&routes[i], 3); /* as it was before its bound was reserved */
 }
 
 static void gates_closed(unsigned cell) {
@@ -324,12 +325,14 @@ static void answer_nonce(void) {
     uint8_t answer[24];
     begin();
     answers(RATHONSI_OK, "answer");
-    routes[0].counter = UINT64_MAX;
+    open_by_hand(&routes[0], UINT64_MAX);
     answers(RATHONSI_OK, "answer: the last counter");
     routes[0].opened = 0;
     answers(RATHONSI_BAD_VALUE, "answer: not open");
     begin();
     routes[0].data_id++;
+    answers(RATHONSI_BAD_VALUE, "answer: another Data ID after the opening");
+    open_by_hand(&routes[0], 3);
     answers(RATHONSI_WRONG_CELL, "answer: another Data ID");
     begin();
     gates_closed(SLOT);
@@ -345,7 +348,7 @@ static void answer_nonce(void) {
     begin();
     routes[0].data_id = routes[1].data_id; /* a sender of the same Data ID, whose cell is made for it */
     expect(rathonsi_route_make(&routes[0], 1000, image, SIZE), RATHONSI_OK, "take: a sender");
-    routes[0].counter = 4;
+    open_by_hand(&routes[0], 4);
     expect(rathonsi_sync_answer(&routes[0], image, SIZE, nonce, answer), RATHONSI_OK, "take: its answer");
     takes(answer, RATHONSI_OK, "take: within the bound");
     takes(answer, RATHONSI_FRESHNESS_FAILURE, "take: the same again");
@@ -357,7 +360,7 @@ static void answer_nonce(void) {
     answer[8] ^= 1;
     answer[0] = 1;
     takes(answer, RATHONSI_VERIFICATION_FAILURE, "take: another counter");
-    routes[0].counter = 1000;
+    open_by_hand(&routes[0], 1000);
     expect(rathonsi_sync_answer(&routes[0], image, SIZE, nonce, answer), RATHONSI_OK, "take: an answer far ahead");
     takes(answer, RATHONSI_RESERVE, "take: above the bound");
     expect(rathonsi_route_reserve(&routes[1], 1000, image, SIZE, &plan), RATHONSI_BAD_VALUE, "take: too far for a reserve");
@@ -373,7 +376,42 @@ static void answer_nonce(void) {
     gates_closed(6);
     takes(answer, RATHONSI_DAMAGED, "take: a damaged slot");
     routes[1].data_id++;
+    open_by_hand(&routes[1], 3);
     takes(answer, RATHONSI_WRONG_CELL, "take: another Data ID");
+}
+
+/* ---- Faults of a route ---- */
+
+/* The number of the first field outside its range; a field before it and one after it are right. */
+static void faults(void) {
+    begin();
+    for (unsigned field = 0; field <= 8; field++)
+        for (unsigned low = 0; low < 2; low++) {
+            RathonsiRoute route = routes[0];
+            if (field == 1) route.cell = (uint16_t)(low ? 13 : 0);
+            if (field == 2) route.reserve = (uint16_t)(low ? 0 : 129);
+            if (field == 3) route.window = (uint16_t)(low ? 0 : 257);
+            if (field == 4) route.slot = (uint8_t)(low ? 3 : 14);
+            if (field == 5) route.direction = (uint8_t)(low ? 0 : 3);
+            if (field == 6) route.booted = (uint8_t)(low ? 2 : 255);
+            if (field == 7) route.freshness_only = (uint8_t)(low ? 2 : 255);
+            if (field == 8) route.opened = (uint8_t)(low ? 0 : 2);
+            expect((long)rathonsi_route_fault(&route), (long)field, "fault: the field");
+            if (field < 8) route.opened = 0;
+            expect((long)rathonsi_route_fault(&route), field == 0 ? 8 : (long)field, "fault: before the opening");
+            for (unsigned after = field + 1; after <= 7; after++) {
+                if (after == 2) route.reserve = 0;
+                if (after == 3) route.window = 0;
+                if (after == 4) route.slot = 0;
+                if (after == 5) route.direction = 0;
+                if (after == 6) route.booted = 9;
+                if (after == 7) route.freshness_only = 9;
+                if (field != 0)
+                    expect((long)rathonsi_route_fault(&route), (long)field, "fault: the first field");
+            }
+        }
+    routes[0].counter++;
+    expect((long)rathonsi_route_fault(&routes[0]), 8, "fault: a counter that was set by hand");
 }
 
 /* ---- Two steps ---- */
@@ -398,7 +436,7 @@ static void two_steps(void) {
     same(pdu, plain, PDU, "two steps make the PDU of one");
     same(&routes[0], &plain_route, sizeof plain_route, "and the route");
     expect(rathonsi_send_mac(&routes[0], image, SIZE, payload, PAYLOAD, &input, mac, pdu, PDU), RATHONSI_RESERVE, "send_mac: twice");
-    routes[0].counter = UINT64_MAX;
+    open_by_hand(&routes[0], UINT64_MAX);
     expect(rathonsi_send_input(&routes[0], image, SIZE, payload, PAYLOAD, &input), RATHONSI_EXHAUSTED, "send_input: the last counter");
 
     expect(rathonsi_secoc_protect(key, 16, routes[1].data_id, 4, payload, PAYLOAD, pdu, PDU), RATHONSI_OK, "a PDU");
@@ -427,8 +465,8 @@ static void two_steps(void) {
     expect(rathonsi_receive_input(&routes[1], image, SIZE, pdu, PDU, &input), RATHONSI_OK, "receive_input: reads no slot");
     gates_closed(routes[1].cell);
     expect(rathonsi_receive_input(&routes[1], image, SIZE, pdu, PDU, &input), RATHONSI_DAMAGED, "receive_input: a damaged cell");
-    routes[0].counter = 3;
     routes[0].data_id++;
+    open_by_hand(&routes[0], 3);
     expect(rathonsi_send_input(&routes[0], image, SIZE, payload, PAYLOAD, &input), RATHONSI_WRONG_CELL, "send_input: another Data ID");
 }
 
@@ -511,6 +549,7 @@ int main(void) {
     torn_counts_of_two();
     damaged_after_it();
     answer_nonce();
+    faults();
     two_steps();
     pieces();
     boot();

@@ -1,7 +1,6 @@
 -- What a command promises that ends in a row of the table, or did the first events of a replay
 use Rattle.std.specs.Prelude.{◌≡◌, ◌≢◌, ◌⊎◌, ℕ, ◌<◌, List, [], length, get_or, None, Some, Option, Result, Ok, Err, codes}
-use Rattle.std.specs.Result.{result_err}
-use Rattle.std.proofs.Common.{refl, sym, ap, subst, arith, inl, inr}
+use Rattle.std.proofs.Common.{refl, sym, subst, arith, inl, inr}
 use Rattle.program_edge.specs.declared.input.InputFault.TheVariants as input
 use Rattle.text_lines.specs.Readings.{Fault}
 use Rattle.text_lines.specs.Texts.{fault_text_of}
@@ -24,16 +23,16 @@ use Rattle.bus_programs.proofs.CallerLemmas.{told_fault, told_too_much, bus_or_f
 use Rattle.bus_commands.specs.declared.words.Command.TheVariants.{World}
 use Rattle.bus_commands.specs.declared.words.WorldCommand.TheVariants.{Replay, Trial}
 use Rattle.bus_commands.specs.Words.{AsksNothing}
-use Rattle.bus_commands.specs.Tasks.{Task, frame, judge, check, replay}
+use Rattle.bus_commands.specs.Tasks.{Task, check, replay}
 use Rattle.bus_commands.specs.Texts.{usage, IsOutput, fault_of}
 use Rattle.bus_programs.specs.BusFiles.{IsConfigFault}
 use Rattle.bus_programs.specs.Inputs.{BusInputs}
 use Rattle.bus_commands.specs.Inputs.{AsksOverBus, AsksWorld, NoConfig, NoScript, OverLines, OverWorld, OffersTask, OffersTrial, start_of}
 use Rattle.run_driver.specs.Statuses.{unwritten_status}
 use Rattle.bus_world.specs.StartRows.{start_row, StoreCause, LeavesEach}
-use Rattle.bus_world.specs.StartAnswers.{ComesOfStart, disks_refused, store_refused, start_without_memory, BusHasDisks}
+use Rattle.bus_world.specs.StartAnswers.{ComesOfStart, store_refused, BusHasDisks}
 use Rattle.bus_commands.specs.StartRows.{CommandDisks, HoldsNoNode}
-use Rattle.bus_commands.specs.Rows.{ReplaysScript, ComesOfInputs, no_form, no_config, config_refused, no_script, script_refused, done, ComesInRun, without_disks, not_started, tried, tried_without_memory, RowOrReplay, in_row, replayed}
+use Rattle.bus_commands.specs.Rows.{ReplaysScript, ComesOfInputs, config_refused, ComesInRun, without_disks, not_started, tried, tried_without_memory, RowOrReplay, in_row, replayed}
 use Rattle.bus_commands.specs.Table.{by_replay, TaskHasDisks, RunsCommand}
 use Rattle.bus_commands.proofs.Asking.{apart}
 use Rattle.bus_commands.proofs.Unread.{row_config_unread, row_lines_unread, AskedIsDone, answers_done}
@@ -50,10 +49,7 @@ None_not_Some o fault none some = cc
 
 -- an input that something is printed of has no fault
 prints_no_fault : (task : Task) (input text : List ℕ) → IsOutput task input text → fault_of task input ≡ None
-prints_no_fault frame input text prints = ap (λ r. result_err r) prints.1
-prints_no_fault judge input text prints = ap (λ r. result_err r) prints.1
-prints_no_fault (check bus) input text prints = ap (λ r. result_err r) prints.1
-prints_no_fault (replay start bus) input text prints = absurd prints
+prints_no_fault task input text prints = grind arith
 
 abbrev no_bus : NamedBus
 no_bus = record { nodes = []; kind = Twin; version = One }
@@ -79,139 +75,53 @@ not_low n low high = omega (arith, low, high)
 
 -- the status of a bus that doesn't start
 start_status : {V : Type 0} (i : BusInputs) (d : CommandDisks V) (e : Ending) (start : Start) (bus : NamedBus) (row : Row) → ComesOfStart start bus d.states row → (row.status ≡ 0) ⊎ ((row.status ≡ 6) ⊎ ((row.status ≡ 7) ⊎ ((row.status ≡ 9) ⊎ (row.status ≡ 10))))
-start_status i d e start bus row (disks_refused fault finds same) = inr (inr (inr (inl refl)))
-start_status i d e start bus row (store_refused fault room cause left) = inr (inr (inr (inr refl)))
-start_status i d e start bus row (start_without_memory fault may refused calm) = inr (inr (inl refl))
+start_status i d e start bus row comes = grind arith
 
 row_disks : {V : Type 0} (i : BusInputs) (d : CommandDisks V) (e : Ending) (row : Row) → ComesInRun i d row → ¬ AsksWorld i.words → d.new ≡ d.old
-row_disks i d e row (without_disks _ comes same) lacks = same
-row_disks i d e row (not_started _ (c, bus, events, set, comes) nine) lacks = absurd (lacks (c, set.asks))
-row_disks i d e row (tried summary (trial, bus, events, set, ran)) lacks = absurd (lacks (Trial trial, set.asks))
-row_disks i d e row (tried_without_memory summary (trial, bus, events, set, ran)) lacks = absurd (lacks (Trial trial, set.asks))
+row_disks i d e row comes lacks = grind arith
 
 row_unused : {V : Type 0} (i : BusInputs) (d : CommandDisks V) (e : Ending) (row : Row) → ComesInRun i d row → LowStatus row.status → d.new ≡ d.old
-row_unused i d e row (without_disks _ comes same) low = same
-row_unused i d e row (not_started _ (c, bus, events, set, comes) nine) low =
-    nine (let is : row.status ≡ 9 = omega (arith, low, start_status i d e (start_of c) bus row comes.1) in is)
-row_unused i d e row (tried summary (trial, bus, events, set, ran)) low = absurd (not_low 0 low (inl refl))
-row_unused i d e row (tried_without_memory summary (trial, bus, events, set, ran)) low = absurd (not_low 7 low (inr (inr refl)))
+row_unused i d e row comes low = grind (arith, start_status, not_low)
 
 unused : {V : Type 0} (i : BusInputs) (d : CommandDisks V) (e : Ending) → EndsInRow (ComesInRun i d) e → LowStatus e.status → d.new ≡ d.old
-unused i d e ends low = elim ends.told [
-  | inl (status_is, well) ↦ row_unused i d e ends.row ends.comes (subst LowStatus status_is low)
-  | inr (six, rose, part) ↦ absurd (not_low e.status low (inr (inl six)))
-]
+unused i d e ends low = grind (arith, row_unused, not_low)
 
 -- the rows of each status
 
 inputs_0 : {V : Type 0} (i : BusInputs) (d : CommandDisks V) (e : Ending) (row : Row) → ComesOfInputs i row → row.status ≡ 0 → PrintsWhole e row.text
     → AskedIsDone i d.states e
-inputs_0 i d e row (no_form none config script) is well = absurd (let no : ⊥ = omega (arith, is) in no)
-inputs_0 i d e row (no_config input.ReadFault of) is well = absurd (let no : ⊥ = omega (arith, is) in no)
-inputs_0 i d e row (no_config input.TooLong of) is well = absurd (let no : ⊥ = omega (arith, is) in no)
-inputs_0 i d e row (no_config input.Memory of) is well = absurd (let no : ⊥ = omega (arith, is) in no)
-inputs_0 i d e row (config_refused fault text asks of told unread) is well = absurd (let no : ⊥ = omega (arith, is) in no)
-inputs_0 i d e row (no_script input.ReadFault of) is well = absurd (let no : ⊥ = omega (arith, is) in no)
-inputs_0 i d e row (no_script input.TooLong of) is well = absurd (let no : ⊥ = omega (arith, is) in no)
-inputs_0 i d e row (no_script input.Memory of) is well = absurd (let no : ⊥ = omega (arith, is) in no)
-inputs_0 i d e row (script_refused fault of) is well = absurd (let no : ⊥ = omega (arith, is) in no)
-inputs_0 i d e row (done text (task, set, (read, whole, prints))) is well = answers_done i d.states e task read text set whole prints well
+inputs_0 i d e row comes is well = grind (arith, answers_done)
 
 inputs_2 : {V : Type 0} (i : BusInputs) (d : CommandDisks V) (e : Ending) (row : Row) → ComesOfInputs i row → row.status ≡ 2 → PrintsWhole e row.text
     → AsksNothing i.words × IsUnread i.config × IsUnread i.script × PrintsWhole e usage
-inputs_2 i d e row (no_form none config script) is well = (none, config, script, well)
-inputs_2 i d e row (no_config input.ReadFault of) is well = absurd (let no : ⊥ = omega (arith, is) in no)
-inputs_2 i d e row (no_config input.TooLong of) is well = absurd (let no : ⊥ = omega (arith, is) in no)
-inputs_2 i d e row (no_config input.Memory of) is well = absurd (let no : ⊥ = omega (arith, is) in no)
-inputs_2 i d e row (config_refused fault text asks of told unread) is well = absurd (let no : ⊥ = omega (arith, is) in no)
-inputs_2 i d e row (no_script input.ReadFault of) is well = absurd (let no : ⊥ = omega (arith, is) in no)
-inputs_2 i d e row (no_script input.TooLong of) is well = absurd (let no : ⊥ = omega (arith, is) in no)
-inputs_2 i d e row (no_script input.Memory of) is well = absurd (let no : ⊥ = omega (arith, is) in no)
-inputs_2 i d e row (script_refused fault of) is well = absurd (let no : ⊥ = omega (arith, is) in no)
-inputs_2 i d e row (done text of) is well = absurd (let no : ⊥ = omega (arith, is) in no)
+inputs_2 i d e row comes is well = grind arith
 
 inputs_3 : {V : Type 0} (i : BusInputs) (d : CommandDisks V) (e : Ending) (row : Row) → ComesOfInputs i row → row.status ≡ 3 → PrintsWhole e row.text
     → AsksOverBus i.words × IsUnread i.script × ((fault : ConfigFault) × IsConfigFault i.config fault × (text : List ℕ) × (config_fault_text fault ≡ Some text) × PrintsWhole e text)
-inputs_3 i d e row (no_form none config script) is well = absurd (let no : ⊥ = omega (arith, is) in no)
-inputs_3 i d e row (no_config input.ReadFault of) is well = absurd (let no : ⊥ = omega (arith, is) in no)
-inputs_3 i d e row (no_config input.TooLong of) is well = absurd (let no : ⊥ = omega (arith, is) in no)
-inputs_3 i d e row (no_config input.Memory of) is well = absurd (let no : ⊥ = omega (arith, is) in no)
 inputs_3 i d e row (config_refused fault text asks of told unread) is well = (asks, unread, (fault, of, text, told, well))
-inputs_3 i d e row (no_script input.ReadFault of) is well = absurd (let no : ⊥ = omega (arith, is) in no)
-inputs_3 i d e row (no_script input.TooLong of) is well = absurd (let no : ⊥ = omega (arith, is) in no)
-inputs_3 i d e row (no_script input.Memory of) is well = absurd (let no : ⊥ = omega (arith, is) in no)
-inputs_3 i d e row (script_refused fault of) is well = absurd (let no : ⊥ = omega (arith, is) in no)
-inputs_3 i d e row (done text of) is well = absurd (let no : ⊥ = omega (arith, is) in no)
+inputs_3 i d e row comes is well = absurd (grind arith)
 
 inputs_4 : {V : Type 0} (i : BusInputs) (d : CommandDisks V) (e : Ending) (row : Row) → ComesOfInputs i row → row.status ≡ 4 → PrintsWhole e row.text
     → OverLines i (λ task input. (fault : Fault) × (fault_of task input ≡ Some fault) × PrintsWhole e (fault_text_of fault))
-inputs_4 i d e row (no_form none config script) is well = absurd (let no : ⊥ = omega (arith, is) in no)
-inputs_4 i d e row (no_config input.ReadFault of) is well = absurd (let no : ⊥ = omega (arith, is) in no)
-inputs_4 i d e row (no_config input.TooLong of) is well = absurd (let no : ⊥ = omega (arith, is) in no)
-inputs_4 i d e row (no_config input.Memory of) is well = absurd (let no : ⊥ = omega (arith, is) in no)
-inputs_4 i d e row (config_refused fault text asks of told unread) is well = absurd (let no : ⊥ = omega (arith, is) in no)
-inputs_4 i d e row (no_script input.ReadFault of) is well = absurd (let no : ⊥ = omega (arith, is) in no)
-inputs_4 i d e row (no_script input.TooLong of) is well = absurd (let no : ⊥ = omega (arith, is) in no)
-inputs_4 i d e row (no_script input.Memory of) is well = absurd (let no : ⊥ = omega (arith, is) in no)
-inputs_4 i d e row (script_refused fault (task, set, (read, whole, found))) is well = (task, set, (read, whole, (fault, found, well)))
-inputs_4 i d e row (done text of) is well = absurd (let no : ⊥ = omega (arith, is) in no)
+inputs_4 i d e row comes is well = grind arith
 
 inputs_5 : {V : Type 0} (i : BusInputs) (d : CommandDisks V) (e : Ending) (row : Row) → ComesOfInputs i row → row.status ≡ 5 → PrintsWhole e row.text
     → (NoConfig i input.ReadFault ⊎ NoScript i input.ReadFault) × PrintsWhole e (codes "read fault\n")
-inputs_5 i d e row (no_form none config script) is well = absurd (let no : ⊥ = omega (arith, is) in no)
-inputs_5 i d e row (no_config input.ReadFault of) is well = (inl of, well)
-inputs_5 i d e row (no_config input.TooLong of) is well = absurd (let no : ⊥ = omega (arith, is) in no)
-inputs_5 i d e row (no_config input.Memory of) is well = absurd (let no : ⊥ = omega (arith, is) in no)
-inputs_5 i d e row (config_refused fault text asks of told unread) is well = absurd (let no : ⊥ = omega (arith, is) in no)
-inputs_5 i d e row (no_script input.ReadFault of) is well = (inr of, well)
-inputs_5 i d e row (no_script input.TooLong of) is well = absurd (let no : ⊥ = omega (arith, is) in no)
-inputs_5 i d e row (no_script input.Memory of) is well = absurd (let no : ⊥ = omega (arith, is) in no)
-inputs_5 i d e row (script_refused fault of) is well = absurd (let no : ⊥ = omega (arith, is) in no)
-inputs_5 i d e row (done text of) is well = absurd (let no : ⊥ = omega (arith, is) in no)
+inputs_5 i d e row comes is well = grind arith
 
 inputs_8 : {V : Type 0} (i : BusInputs) (d : CommandDisks V) (e : Ending) (row : Row) → ComesOfInputs i row → row.status ≡ 8 → PrintsWhole e row.text
     → (NoConfig i input.TooLong ⊎ NoScript i input.TooLong) × PrintsWhole e (codes "input too long\n")
-inputs_8 i d e row (no_form none config script) is well = absurd (let no : ⊥ = omega (arith, is) in no)
-inputs_8 i d e row (no_config input.ReadFault of) is well = absurd (let no : ⊥ = omega (arith, is) in no)
-inputs_8 i d e row (no_config input.TooLong of) is well = (inl of, well)
-inputs_8 i d e row (no_config input.Memory of) is well = absurd (let no : ⊥ = omega (arith, is) in no)
-inputs_8 i d e row (config_refused fault text asks of told unread) is well = absurd (let no : ⊥ = omega (arith, is) in no)
-inputs_8 i d e row (no_script input.ReadFault of) is well = absurd (let no : ⊥ = omega (arith, is) in no)
-inputs_8 i d e row (no_script input.TooLong of) is well = (inr of, well)
-inputs_8 i d e row (no_script input.Memory of) is well = absurd (let no : ⊥ = omega (arith, is) in no)
-inputs_8 i d e row (script_refused fault of) is well = absurd (let no : ⊥ = omega (arith, is) in no)
-inputs_8 i d e row (done text of) is well = absurd (let no : ⊥ = omega (arith, is) in no)
+inputs_8 i d e row comes is well = grind arith
 
 inputs_7 : {V : Type 0} (i : BusInputs) (d : CommandDisks V) (e : Ending) (row : Row) → ComesOfInputs i row → row.status ≡ 7 → PrintsWhole e row.text → ComesOfInputs i memory_row × PrintsWhole e []
-inputs_7 i d e row (no_form none config script) is well = absurd (let no : ⊥ = omega (arith, is) in no)
-inputs_7 i d e row (no_config input.ReadFault of) is well = absurd (let no : ⊥ = omega (arith, is) in no)
-inputs_7 i d e row (no_config input.TooLong of) is well = absurd (let no : ⊥ = omega (arith, is) in no)
-inputs_7 i d e row (no_config input.Memory of) is well = (no_config input.Memory of, well)
-inputs_7 i d e row (config_refused fault text asks of told unread) is well = absurd (let no : ⊥ = omega (arith, is) in no)
-inputs_7 i d e row (no_script input.ReadFault of) is well = absurd (let no : ⊥ = omega (arith, is) in no)
-inputs_7 i d e row (no_script input.TooLong of) is well = absurd (let no : ⊥ = omega (arith, is) in no)
-inputs_7 i d e row (no_script input.Memory of) is well = (no_script input.Memory of, well)
-inputs_7 i d e row (script_refused fault of) is well = absurd (let no : ⊥ = omega (arith, is) in no)
-inputs_7 i d e row (done text of) is well = absurd (let no : ⊥ = omega (arith, is) in no)
+inputs_7 i d e row comes is well = grind arith
 
 inputs_not : {V : Type 0} (i : BusInputs) (d : CommandDisks V) (e : Ending) (row : Row) → ComesOfInputs i row → (row.status < 9) × (row.status ≢ 6)
-inputs_not i d e row (no_form none config script) = (omega arith, λ six. omega (arith, six))
-inputs_not i d e row (no_config input.ReadFault of) = (omega arith, λ six. omega (arith, six))
-inputs_not i d e row (no_config input.TooLong of) = (omega arith, λ six. omega (arith, six))
-inputs_not i d e row (no_config input.Memory of) = (omega arith, λ six. omega (arith, six))
-inputs_not i d e row (config_refused fault text asks of told unread) = (omega arith, λ six. omega (arith, six))
-inputs_not i d e row (no_script input.ReadFault of) = (omega arith, λ six. omega (arith, six))
-inputs_not i d e row (no_script input.TooLong of) = (omega arith, λ six. omega (arith, six))
-inputs_not i d e row (no_script input.Memory of) = (omega arith, λ six. omega (arith, six))
-inputs_not i d e row (script_refused fault of) = (omega arith, λ six. omega (arith, six))
-inputs_not i d e row (done text of) = (omega arith, λ six. omega (arith, six))
+inputs_not i d e row comes = grind arith
 
 row_2 : {V : Type 0} (i : BusInputs) (d : CommandDisks V) (e : Ending) (row : Row) → ComesInRun i d row → row.status ≡ 2 → PrintsWhole e row.text
     → AsksNothing i.words × IsUnread i.config × IsUnread i.script × PrintsWhole e usage
-row_2 i d e row (without_disks _ comes same) is well = inputs_2 i d e row comes is well
-row_2 i d e row (not_started _ (c, bus, events, set, comes) nine) is well = absurd (let no : ⊥ = omega (arith, start_status i d e (start_of c) bus row comes.1, is) in no)
-row_2 i d e row (tried summary ran) is well = absurd (let no : ⊥ = omega (arith, is) in no)
-row_2 i d e row (tried_without_memory summary ran) is well = absurd (let no : ⊥ = omega (arith, is) in no)
+row_2 i d e row comes is well = grind (arith, inputs_2, start_status)
 
 row_3 : {V : Type 0} (i : BusInputs) (d : CommandDisks V) (e : Ending) (row : Row) → ComesInRun i d row → row.status ≡ 3 → PrintsWhole e row.text
     → AsksOverBus i.words × IsUnread i.script × ((fault : ConfigFault) × IsConfigFault i.config fault × (text : List ℕ) × (config_fault_text fault ≡ Some text) × PrintsWhole e text)
@@ -222,10 +132,7 @@ row_3 i d e row (tried_without_memory summary ran) is well = absurd (let no : �
 
 row_4 : {V : Type 0} (i : BusInputs) (d : CommandDisks V) (e : Ending) (row : Row) → ComesInRun i d row → row.status ≡ 4 → PrintsWhole e row.text
     → OverLines i (λ task input. (fault : Fault) × (fault_of task input ≡ Some fault) × PrintsWhole e (fault_text_of fault))
-row_4 i d e row (without_disks _ comes same) is well = inputs_4 i d e row comes is well
-row_4 i d e row (not_started _ (c, bus, events, set, comes) nine) is well = absurd (let no : ⊥ = omega (arith, start_status i d e (start_of c) bus row comes.1, is) in no)
-row_4 i d e row (tried summary ran) is well = absurd (let no : ⊥ = omega (arith, is) in no)
-row_4 i d e row (tried_without_memory summary ran) is well = absurd (let no : ⊥ = omega (arith, is) in no)
+row_4 i d e row comes is well = grind (arith, inputs_4, start_status)
 
 row_5 : {V : Type 0} (i : BusInputs) (d : CommandDisks V) (e : Ending) (row : Row) → ComesInRun i d row → row.status ≡ 5 → PrintsWhole e row.text
     → (NoConfig i input.ReadFault ⊎ NoScript i input.ReadFault) × PrintsWhole e (codes "read fault\n")
@@ -244,32 +151,23 @@ row_8 i d e row (tried_without_memory summary ran) is well = absurd (let no : �
 -- a bus that doesn't start
 
 start_not_0 : {V : Type 0} (i : BusInputs) (d : CommandDisks V) (e : Ending) (start : Start) (bus : NamedBus) (row : Row) → ComesOfStart start bus d.states row → row.status ≡ 0 → ⊥
-start_not_0 i d e start bus row (disks_refused fault finds same) is = omega (arith, is)
-start_not_0 i d e start bus row (store_refused fault room cause left) is = omega (arith, is)
-start_not_0 i d e start bus row (start_without_memory fault may refused calm) is = omega (arith, is)
+start_not_0 i d e start bus row comes is = grind arith
 
 start_not_6 : {V : Type 0} (i : BusInputs) (d : CommandDisks V) (e : Ending) (start : Start) (bus : NamedBus) (row : Row) → ComesOfStart start bus d.states row → row.status ≢ 6
-start_not_6 i d e start bus row (disks_refused fault finds same) is = omega (arith, is)
-start_not_6 i d e start bus row (store_refused fault room cause left) is = omega (arith, is)
-start_not_6 i d e start bus row (start_without_memory fault may refused calm) is = omega (arith, is)
+start_not_6 i d e start bus row comes is = grind arith
 
 start_9 : {V : Type 0} (i : BusInputs) (d : CommandDisks V) (e : Ending) (start : Start) (bus : NamedBus) (row : Row) → ComesOfStart start bus d.states row → row.status ≡ 9 → PrintsWhole e row.text
     → (d.states.after ≡ d.states.before) × ((fault : StartFault) × FindsRoom bus d.states.before fault × PrintsWhole e (start_row fault).text)
-start_9 i d e start bus row (disks_refused fault finds same) is well = (same, (fault, finds, well))
-start_9 i d e start bus row (store_refused fault room cause left) is well = absurd (let no : ⊥ = omega (arith, is) in no)
-start_9 i d e start bus row (start_without_memory fault may refused calm) is well = absurd (let no : ⊥ = omega (arith, is) in no)
+start_9 i d e start bus row comes is well = grind arith
 
 start_10 : {V : Type 0} (i : BusInputs) (d : CommandDisks V) (e : Ending) (start : Start) (bus : NamedBus) (row : Row) → ComesOfStart start bus d.states row → row.status ≡ 10 → PrintsWhole e row.text
     → HasRoom bus d.states.before × LeavesEach start bus d.states.before d.states.after
     × ((fault : StartFault) × StoreCause start bus d.states.before d.states.after fault × PrintsWhole e (start_row fault).text)
-start_10 i d e start bus row (disks_refused fault finds same) is well = absurd (let no : ⊥ = omega (arith, is) in no)
 start_10 i d e start bus row (store_refused fault room cause left) is well = (room, left, (fault, cause, well))
-start_10 i d e start bus row (start_without_memory fault may refused calm) is well = absurd (let no : ⊥ = omega (arith, is) in no)
+start_10 i d e start bus row comes is well = absurd (omega arith)
 
 start_7 : {V : Type 0} (i : BusInputs) (d : CommandDisks V) (e : Ending) (start : Start) (bus : NamedBus) (row : Row) → ComesOfStart start bus d.states row → row.status ≡ 7 → PrintsWhole e row.text → ComesOfStart start bus d.states memory_row × PrintsWhole e []
-start_7 i d e start bus row (disks_refused fault finds same) is well = absurd (let no : ⊥ = omega (arith, is) in no)
-start_7 i d e start bus row (store_refused fault room cause left) is well = absurd (let no : ⊥ = omega (arith, is) in no)
-start_7 i d e start bus row (start_without_memory fault may refused calm) is well = (start_without_memory fault may refused calm, well)
+start_7 i d e start bus row comes is well = grind arith
 
 row_0 : {V : Type 0} (i : BusInputs) (d : CommandDisks V) (e : Ending) (row : Row) → ComesInRun i d row → row.status ≡ 0 → PrintsWhole e row.text
     → AskedIsDone i d.states e
@@ -279,112 +177,66 @@ row_0 i d e row (tried summary (trial, bus, events, set, ran)) is well = (World 
 row_0 i d e row (tried_without_memory summary ran) is well = absurd (let no : ⊥ = omega (arith, is) in no)
 
 row_7 : {V : Type 0} (i : BusInputs) (d : CommandDisks V) (e : Ending) (row : Row) → ComesInRun i d row → row.status ≡ 7 → PrintsWhole e row.text → ComesInRun i d memory_row × PrintsWhole e []
-row_7 i d e row (without_disks _ comes same) is well = let at = inputs_7 i d e row comes is well in (without_disks memory_row at.0 same, at.1)
-row_7 i d e row (not_started _ (c, bus, events, set, comes) nine) is well =
-    let at = start_7 i d e (start_of c) bus row comes.1 is well in
-    (not_started memory_row (c, bus, events, set, (comes.0, at.0)) (λ ninth. absurd (let no : ⊥ = omega (arith, ninth) in no)), at.1)
-row_7 i d e row (tried summary ran) is well = absurd (let no : ⊥ = omega (arith, is) in no)
-row_7 i d e row (tried_without_memory summary ran) is well = (tried_without_memory summary ran, well)
+row_7 i d e row comes is well = grind (arith, inputs_7, start_7)
 
 row_9 : {V : Type 0} (i : BusInputs) (d : CommandDisks V) (e : Ending) (row : Row) → ComesInRun i d row → row.status ≡ 9 → PrintsWhole e row.text
     → OverWorld i (λ start bus events. IsNamedBus bus × (d.states.after ≡ d.states.before) × ((fault : StartFault) × FindsRoom bus d.states.before fault × PrintsWhole e (start_row fault).text))
-row_9 i d e row (without_disks _ comes same) is well = absurd (let no : ⊥ = omega (arith, (inputs_not i d e row comes).0, is) in no)
-row_9 i d e row (not_started _ (c, bus, events, set, comes) nine) is well = let at = start_9 i d e (start_of c) bus row comes.1 is well in (c, bus, events, set, (comes.0, at.0, at.1))
-row_9 i d e row (tried summary ran) is well = absurd (let no : ⊥ = omega (arith, is) in no)
-row_9 i d e row (tried_without_memory summary ran) is well = absurd (let no : ⊥ = omega (arith, is) in no)
+row_9 i d e row comes is well = grind (arith, inputs_not, start_9)
 
 row_10 : {V : Type 0} (i : BusInputs) (d : CommandDisks V) (e : Ending) (row : Row) → ComesInRun i d row → row.status ≡ 10 → PrintsWhole e row.text
     → OverWorld i (λ start bus events. HasRoom bus d.states.before × LeavesEach start bus d.states.before d.states.after
     × ((fault : StartFault) × StoreCause start bus d.states.before d.states.after fault × PrintsWhole e (start_row fault).text))
-row_10 i d e row (without_disks _ comes same) is well = absurd (let no : ⊥ = omega (arith, (inputs_not i d e row comes).0, is) in no)
-row_10 i d e row (not_started _ (c, bus, events, set, comes) nine) is well = (c, bus, events, set, start_10 i d e (start_of c) bus row comes.1 is well)
-row_10 i d e row (tried summary ran) is well = absurd (let no : ⊥ = omega (arith, is) in no)
-row_10 i d e row (tried_without_memory summary ran) is well = absurd (let no : ⊥ = omega (arith, is) in no)
+row_10 i d e row comes is well = grind (arith, inputs_not, start_10)
 
 row_not_6 : {V : Type 0} (i : BusInputs) (d : CommandDisks V) (e : Ending) (row : Row) → ComesInRun i d row → row.status ≢ 6
-row_not_6 i d e row (without_disks _ comes same) = (inputs_not i d e row comes).1
-row_not_6 i d e row (not_started _ (c, bus, events, set, comes) nine) = start_not_6 i d e (start_of c) bus row comes.1
-row_not_6 i d e row (tried summary ran) = λ six. omega (arith, six)
-row_not_6 i d e row (tried_without_memory summary ran) = λ six. omega (arith, six)
+row_not_6 i d e row comes = grind (arith, inputs_not, start_not_6)
 
 -- what makes a row come
 
 refused_of : {V : Type 0} (i : BusInputs) (d : CommandDisks V) (e : Ending) (row : Row) (task : Task) (input : List ℕ) (fault : Fault) → fault_of task input ≡ Some fault → OfTask d.states row task input → (row.status ≡ 4) ⊎ (row.status ≡ 7)
-refused_of i d e row task input fault is (inl seven) = inr seven
-refused_of i d e row task input fault is (inr (inl (other, four, found))) = inl four
-refused_of i d e row task input fault is (inr (inr (inl (text, zero, prints)))) = absurd (None_not_Some (fault_of task input) fault (prints_no_fault task input text prints) is)
-refused_of i d e row task input fault is (inr (inr (inr (start, bus, replays, none, comes)))) = absurd (None_not_Some (fault_of task input) fault none is)
+refused_of i d e row task input fault is comes = grind (arith, None_not_Some, prints_no_fault)
 
 complete_of : {V : Type 0} (i : BusInputs) (d : CommandDisks V) (e : Ending) (row : Row) (task : Task) (input : List ℕ) → fault_of task input ≡ None → TaskHasDisks task d.states → OfTask d.states row task input → (row.status ≡ 0) ⊎ (row.status ≡ 7)
-complete_of i d e row task input none able (inl seven) = inr seven
-complete_of i d e row task input none able (inr (inl (fault, four, found))) = absurd (None_not_Some (fault_of task input) fault none found)
-complete_of i d e row task input none able (inr (inr (inl (text, zero, prints)))) = inl zero
-complete_of i d e row task input none able (inr (inr (inr (start, bus, replays, also, comes)))) =
-    inr (start_complete start bus d.states row comes (subst (λ (t : Task). TaskHasDisks t d.states) replays able))
+complete_of i d e row task input none able comes = grind (arith, None_not_Some, start_complete)
 
 without_room_of : {V : Type 0} (i : BusInputs) (d : CommandDisks V) (e : Ending) (row : Row) (start : Start) (bus : NamedBus) (input : List ℕ) → fault_of (replay start bus) input ≡ None → ¬ HasRoom bus d.states.before → OfTask d.states row (replay start bus) input
     → (row.status ≡ 9) ⊎ (row.status ≡ 7)
-without_room_of i d e row start bus input none lacks (inl seven) = inr seven
-without_room_of i d e row start bus input none lacks (inr (inl (fault, four, found))) = absurd (None_not_Some (fault_of (replay start bus) input) fault none found)
-without_room_of i d e row start bus input none lacks (inr (inr (inl (text, zero, prints)))) = absurd prints
-without_room_of i d e row start bus input none lacks (inr (inr (inr (how, over, replays, also, comes)))) =
-    let one : bus ≡ over = ap bus_in_task replays in
-    start_without_room how bus d.states row (subst (λ (b : NamedBus). ComesOfStart how b d.states row) (sym one) comes) lacks
+without_room_of i d e row start bus input none lacks comes = grind (arith, None_not_Some, start_without_room)
 
 -- with room, a bus of whose disks one is no node's doesn't start
 in_room_of : {V : Type 0} (i : BusInputs) (d : CommandDisks V) (e : Ending) (row : Row) (start : Start) (bus : NamedBus) (input : List ℕ) → fault_of (replay start bus) input ≡ None
     → HasRoom bus d.states.before → OfTask d.states row (replay start bus) input → (row.status ≡ 10) ⊎ (row.status ≡ 7)
-in_room_of i d e row start bus input none room (inl seven) = inr seven
-in_room_of i d e row start bus input none room (inr (inl (fault, four, found))) = absurd (None_not_Some (fault_of (replay start bus) input) fault none found)
-in_room_of i d e row start bus input none room (inr (inr (inl (text, zero, prints)))) = absurd prints
-in_room_of i d e row start bus input none room (inr (inr (inr (how, over, replays, also, comes)))) =
-    let one : bus ≡ over = ap bus_in_task replays in
-    start_in_room how bus d.states row (subst (λ (b : NamedBus). ComesOfStart how b d.states row) (sym one) comes) room
+in_room_of i d e row start bus input none room comes = grind (arith, None_not_Some, start_in_room)
 
 trial_complete_of : {V : Type 0} (i : BusInputs) (d : CommandDisks V) (e : Ending) (row : Row) (bus : NamedBus) → BusHasDisks Format bus d.states → OfTrial d.states row bus → (row.status ≡ 0) ⊎ (row.status ≡ 7)
-trial_complete_of i d e row bus able (inl seven) = inr seven
-trial_complete_of i d e row bus able (inr (inl comes)) = inr (start_complete Format bus d.states row comes able)
-trial_complete_of i d e row bus able (inr (inr (zero, room))) = inl zero
+trial_complete_of i d e row bus able comes = grind (arith, start_complete)
 
 trial_without_room_of : {V : Type 0} (i : BusInputs) (d : CommandDisks V) (e : Ending) (row : Row) (bus : NamedBus) → ¬ HasRoom bus d.states.before → OfTrial d.states row bus → (row.status ≡ 9) ⊎ (row.status ≡ 7)
-trial_without_room_of i d e row bus lacks (inl seven) = inr seven
-trial_without_room_of i d e row bus lacks (inr (inl comes)) = start_without_room Format bus d.states row comes lacks
-trial_without_room_of i d e row bus lacks (inr (inr (zero, room))) = absurd (lacks room)
+trial_without_room_of i d e row bus lacks comes = grind (arith, start_without_room)
 
 -- ---- if it did the first events of a replay
 
 done_status : {V : Type 0} (i : BusInputs) (d : CommandDisks V) (e : Ending) → (result : Result (Unit {0}) Unwritten) → e.status ≡ unwritten_status result → (e.status ≡ 0) ⊎ ((e.status ≡ 6) ⊎ (e.status ≡ 7))
-done_status i d e (Ok _) is = inl is
-done_status i d e (Err unwritten.SinkFailed) is = inr (inl is)
-done_status i d e (Err unwritten.Memory) is = inr (inr is)
+done_status i d e result is = grind arith
 
 status_of : {V : Type 0} (i : BusInputs) (d : CommandDisks V) (e : Ending) → (result : Result (Unit {0}) Unwritten) → ReplaysScript i d.states e result → (e.status ≡ 0) ⊎ ((e.status ≡ 6) ⊎ (e.status ≡ 7))
 status_of i d e result over = done_status i d e result over.4.status_is
 
 done_0 : {V : Type 0} (i : BusInputs) (d : CommandDisks V) (e : Ending) → (result : Result (Unit {0}) Unwritten) → ReplaysScript i d.states e result → e.status ≡ 0 → ReplaysScript i d.states e (Ok tt)
 done_0 i d e (Ok tt) over is = over
-done_0 i d e (Err unwritten.SinkFailed) over is = absurd (let no : ⊥ = omega (arith, over.4.status_is, is) in no)
-done_0 i d e (Err unwritten.Memory) over is = absurd (let no : ⊥ = omega (arith, over.4.status_is, is) in no)
+done_0 i d e result over is = absurd (grind arith)
 
 done_6 : {V : Type 0} (i : BusInputs) (d : CommandDisks V) (e : Ending) → (result : Result (Unit {0}) Unwritten) → ReplaysScript i d.states e result → e.status ≡ 6 → SinkFailed e × ReplaysScript i d.states e (Err unwritten.SinkFailed)
-done_6 i d e (Ok _) over is = absurd (let no : ⊥ = omega (arith, over.4.status_is, is) in no)
-done_6 i d e (Err unwritten.SinkFailed) over is = (over.4.ran.printed.holds.written.0, over)
-done_6 i d e (Err unwritten.Memory) over is = absurd (let no : ⊥ = omega (arith, over.4.status_is, is) in no)
+done_6 i d e result over is = grind arith
 
 done_7 : {V : Type 0} (i : BusInputs) (d : CommandDisks V) (e : Ending) → (result : Result (Unit {0}) Unwritten) → ReplaysScript i d.states e result → e.status ≡ 7 → ReplaysScript i d.states e (Err unwritten.Memory)
-done_7 i d e (Ok _) over is = absurd (let no : ⊥ = omega (arith, over.4.status_is, is) in no)
-done_7 i d e (Err unwritten.SinkFailed) over is = absurd (let no : ⊥ = omega (arith, over.4.status_is, is) in no)
-done_7 i d e (Err unwritten.Memory) over is = over
+done_7 i d e result over is = grind arith
 
 done_writes : {V : Type 0} (i : BusInputs) (d : CommandDisks V) (e : Ending) → (result : Result (Unit {0}) Unwritten) → ReplaysScript i d.states e result → CountsWriteFault e → e.status ≡ 6
-done_writes i d e (Ok _) over rose = absurd (let no : ⊥ = omega (arith, over.4.ran.printed.holds.1.0, rose) in no)
-done_writes i d e (Err unwritten.SinkFailed) over rose = over.4.status_is
-done_writes i d e (Err unwritten.Memory) over rose = absurd (let no : ⊥ = omega (arith, over.4.ran.printed.holds.written.0, rose) in no)
+done_writes i d e result over rose = grind arith
 
 done_well : {V : Type 0} (i : BusInputs) (d : CommandDisks V) (e : Ending) → (result : Result (Unit {0}) Unwritten) → ReplaysScript i d.states e result → ¬ SinkFailed e → (e.status ≡ 0) ⊎ (e.status ≡ 7)
-done_well i d e (Ok _) over well = inl over.4.status_is
-done_well i d e (Err unwritten.SinkFailed) over well = absurd (well over.4.ran.printed.holds.written.0)
-done_well i d e (Err unwritten.Memory) over well = inr over.4.status_is
+done_well i d e result over well = grind arith
 
 -- no count of a source rose in it
 replay_calm : {V : Type 0} (i : BusInputs) (d : CommandDisks V) (e : Ending) → (result : Result (Unit {0}) Unwritten) → ReplaysScript i d.states e result → CountsFault i.config ⊎ CountsFault i.script → ⊥

@@ -87,7 +87,7 @@ use Rattle.bus_machine.specs.Bus.{World, First, Moments, Step}
 use Rattle.bus_machine.specs.Freshness.{Rising, Single, AllCovered}
 use Rattle.bus_machine.specs.Authentic.{Authentic}
 use Rattle.bus_machine.specs.KeysKept.{KeysKept}
-use Rattle.bus_script.specs.LineKinds.{IsLine}
+use Rattle.bus_machine.specs.LineKinds.{IsLine}
 use Rattle.cut_disk.specs.State.{DiskState}
 use Rattle.store_keeping.specs.DiskTurns.{FailuresTold}
 use Rattle.bus_world.specs.NodeDisks.{mark_at, fails_at, DisksFollow}

@@ -10,3 +10,4 @@ pub mod Skips
 pub mod Honest
 pub mod Past
 pub mod Tells
+pub mod LineKinds

@@ -7,7 +7,9 @@
 #![tactic(auto)]
 
 mod events;
+mod line_values;
 mod lines;
 
 pub use events::Event;
+pub use line_values::every_line_is_one;
 pub use lines::{Line, Refusal};

@@ -8,7 +8,7 @@ use Rattle.std.proofs.lemmas.List.Elements.{All-head, All-tail}
 use Rattle.run_driver.specs.Printed.{texts}
 use Rattle.bus_machine.specs.declared.lines.Line.{Line}
 use Rattle.bus_script.specs.LineTexts.{line_text, text_of, told_words}
-use Rattle.bus_script.specs.LineKinds.{IsLine}
+use Rattle.bus_machine.specs.LineKinds.{IsLine}
 use Rattle.text_lines.specs.Spaced.{spaced}
 use Rattle.text_lines.proofs.CallerLemmas.{written-spaced}
 use Rattle.bus_script.proofs.Cutting.{cut_first, cut_words}

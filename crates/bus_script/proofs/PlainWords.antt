@@ -25,7 +25,7 @@ use Rattle.bus_machine.specs.declared.lines.Line.TheVariants.{Sent, Accepted, Fr
 use Rattle.bus_machine.specs.declared.lines.Refusal.{Refusal}
 use Rattle.bus_machine.specs.declared.lines.Refusal.TheVariants.{Down, NoRoute, BadLength, Key, Exhausted, MemoryFailure, NotFormatted, Damaged, BadSlot, BadBound}
 use Rattle.bus_script.specs.LineTexts.{told_words, refusal_words, source_word, boot_word}
-use Rattle.bus_script.specs.LineKinds.{IsLine, IsRefusal}
+use Rattle.bus_machine.specs.LineKinds.{IsLine, IsRefusal}
 use Rattle.bus_script.proofs.Cutting.{is_plain, is_plain_word, are_plain}
 
 -- ---- digits

@@ -4,7 +4,6 @@ pub mod Canon
 pub mod ScriptEvents
 pub mod WordsAdded
 pub mod LineTexts
-pub mod LineKinds
 pub mod Draws
 pub mod Trials
 pub mod TrialLaws

@@ -2,7 +2,7 @@
 ghost use Rattle.std.specs.Prelude.{◌≡◌, ◌<◌, ◌^◌, ◌++◌, ℕ, List, All, length};
 ghost use Rattle.bus_machine.specs.declared.lines.Line.{Line};
 ghost use Rattle.bus_script.specs.LineTexts.{line_text, text_of};
-ghost use Rattle.bus_script.specs.LineKinds.{IsLine};
+ghost use Rattle.bus_machine.specs.LineKinds.{IsLine};
 
 /// Lists of lines that have one text are the same.
 pub fn texts_are_one_to_one()

@@ -24,7 +24,7 @@ use Rattle.bus_store_commands.specs.CheckRows.{BusCheckInputs, AsksBusCheck, Ove
 use Rattle.bus_store_commands.specs.CheckRows.{ComesOfBusCheck, no_form, no_node, done, bus_check_usage}
 use Rattle.bus_store_commands.specs.CheckRows as rows
 use Rattle.bus_store_commands.specs.ChecksOverBus.{ChecksOverBus}
-use Rattle.bus_store_commands.proofs.CheckTells.{row_tells, asks_or_not, IsCheckStatus, check_status, check_once, kind_status, good_stands}
+use Rattle.bus_store_commands.proofs.CheckTells.{row_tells, node_status, asks_or_not, IsCheckStatus, check_status, check_once, kind_status, good_stands}
 
 -- ---- what a check comes to, by its status
 
@@ -40,58 +40,26 @@ check_1 bus x row (found findings text some checks) is = (findings, some, checks
 check_1 bus x row (not_checked _ none) is = absurd (omega (arith, no_store_row x row none, is))
 
 check_9 : (bus : NamedBus) (x : List ℕ) (row : Row) → DoesBusCheck bus x row → row.status ≡ 9 → NoStoreIn x row
-check_9 bus x row (found_nothing text checks) is = absurd (omega (arith, is))
-check_9 bus x row (found findings text some checks) is = absurd (omega (arith, is))
-check_9 bus x row (not_checked _ none) is = none
+check_9 bus x row comes is = grind arith
 
 not_check : (n : ℕ) (bus : NamedBus) (x : List ℕ) (row : Row) → DoesBusCheck bus x row → ¬ IsCheckStatus n → row.status ≡ n → ⊥
 not_check n bus x row does other is = other (subst IsCheckStatus is (check_status bus x row does))
 
-not_2 : ¬ IsCheckStatus 2
-not_2 (inl is) = omega (arith, is)
-not_2 (inr (inl is)) = omega (arith, is)
-not_2 (inr (inr is)) = omega (arith, is)
-
-not_3 : ¬ IsCheckStatus 3
-not_3 (inl is) = omega (arith, is)
-not_3 (inr (inl is)) = omega (arith, is)
-not_3 (inr (inr is)) = omega (arith, is)
-
 not_5 : ¬ IsCheckStatus 5
-not_5 (inl is) = omega (arith, is)
-not_5 (inr (inl is)) = omega (arith, is)
-not_5 (inr (inr is)) = omega (arith, is)
-
-not_6 : ¬ IsCheckStatus 6
-not_6 (inl is) = omega (arith, is)
-not_6 (inr (inl is)) = omega (arith, is)
-not_6 (inr (inr is)) = omega (arith, is)
+not_5 comes = grind arith
 
 not_7 : ¬ IsCheckStatus 7
-not_7 (inl is) = omega (arith, is)
-not_7 (inr (inl is)) = omega (arith, is)
-not_7 (inr (inr is)) = omega (arith, is)
+not_7 comes = grind arith
 
 not_8 : ¬ IsCheckStatus 8
-not_8 (inl is) = omega (arith, is)
-not_8 (inr (inl is)) = omega (arith, is)
-not_8 (inr (inr is)) = omega (arith, is)
+not_8 comes = grind arith
 
 module _ (i : BusCheckInputs) (e : Ending) where
   -- ---- rows by their status
 
   -- at 0, 1 and 9 the check was done
   done_at : (n : ℕ) → IsCheckStatus n → (row : Row) → ComesOfBusCheck i row → row.status ≡ n → OverStoreAndBus i (λ bus x. DoesBusCheck bus x row)
-  done_at n of row (no_form none bus_unread unread) is = absurd (not_2 (subst IsCheckStatus (sym is) of))
-  done_at n of row (no_node _ asks (no_bus _ (no_file input.ReadFault lacks)) unread) is = absurd (not_5 (subst IsCheckStatus (sym is) of))
-  done_at n of row (no_node _ asks (no_bus _ (no_file input.TooLong lacks)) unread) is = absurd (not_8 (subst IsCheckStatus (sym is) of))
-  done_at n of row (no_node _ asks (no_bus _ (no_file input.Memory lacks)) unread) is = absurd (not_7 (subst IsCheckStatus (sym is) of))
-  done_at n of row (no_node _ asks (no_bus _ (file_refused fault text is_fault says)) unread) is = absurd (not_3 (subst IsCheckStatus (sym is) of))
-  done_at n of row (no_node _ asks (other_nodes bus reads others) unread) is = absurd (not_3 (subst IsCheckStatus (sym is) of))
-  done_at n of row (rows.no_file bus input.ReadFault asks reads lacks) is = absurd (not_5 (subst IsCheckStatus (sym is) of))
-  done_at n of row (rows.no_file bus input.TooLong asks reads lacks) is = absurd (not_8 (subst IsCheckStatus (sym is) of))
-  done_at n of row (rows.no_file bus input.Memory asks reads lacks) is = absurd (not_7 (subst IsCheckStatus (sym is) of))
-  done_at n of row (done bus x _ asks reads whole does) is = (bus, x, reads, whole, does)
+  done_at n of row comes is = grind (arith, node_status)
 
   good_at : (row : Row) → ComesOfBusCheck i row → row.status ≡ 0 → PrintsWhole e row.text
       → OverStoreAndBus i (λ bus x. (text : List ℕ) × ChecksNodeStore bus x [] text × PrintsWhole e text)
@@ -121,29 +89,11 @@ module _ (i : BusCheckInputs) (e : Ending) where
 
   at_2 : (row : Row) → ComesOfBusCheck i row → row.status ≡ 2 → PrintsWhole e row.text
       → (asks_over_bus (codes "check") i.words ≡ false) × IsUnread i.bus × IsUnread i.file × PrintsWhole e bus_check_usage
-  at_2 row (no_form none bus_unread unread) is prints = (none, bus_unread, unread, prints)
-  at_2 row (no_node _ asks (no_bus _ (no_file input.ReadFault lacks)) unread) is prints = absurd (omega (arith, is))
-  at_2 row (no_node _ asks (no_bus _ (no_file input.TooLong lacks)) unread) is prints = absurd (omega (arith, is))
-  at_2 row (no_node _ asks (no_bus _ (no_file input.Memory lacks)) unread) is prints = absurd (omega (arith, is))
-  at_2 row (no_node _ asks (no_bus _ (file_refused fault text is_fault says)) unread) is prints = absurd (omega (arith, is))
-  at_2 row (no_node _ asks (other_nodes bus reads others) unread) is prints = absurd (omega (arith, is))
-  at_2 row (rows.no_file bus input.ReadFault asks reads lacks) is prints = absurd (omega (arith, is))
-  at_2 row (rows.no_file bus input.TooLong asks reads lacks) is prints = absurd (omega (arith, is))
-  at_2 row (rows.no_file bus input.Memory asks reads lacks) is prints = absurd (omega (arith, is))
-  at_2 row (done bus x _ asks reads whole does) is prints = absurd (not_check 2 bus x row does not_2 is)
+  at_2 row comes is prints = grind (arith, check_status, node_status)
 
   at_3 : (row : Row) → ComesOfBusCheck i row → row.status ≡ 3 → PrintsWhole e row.text
       → AsksBusCheck i.words × IsUnread i.file × ((row : Row) × LacksNodeBus i.bus row × (row.status ≡ 3) × PrintsWhole e row.text)
-  at_3 row (no_form none bus_unread unread) is prints = absurd (omega (arith, is))
-  at_3 row (no_node _ asks (no_bus _ (no_file input.ReadFault lacks)) unread) is prints = absurd (omega (arith, is))
-  at_3 row (no_node _ asks (no_bus _ (no_file input.TooLong lacks)) unread) is prints = absurd (omega (arith, is))
-  at_3 row (no_node _ asks (no_bus _ (no_file input.Memory lacks)) unread) is prints = absurd (omega (arith, is))
-  at_3 row (no_node _ asks (no_bus _ (file_refused fault text is_fault says)) unread) is prints = (asks, unread, (row, no_bus row (file_refused fault text is_fault says), is, prints))
-  at_3 row (no_node _ asks (other_nodes bus reads others) unread) is prints = (asks, unread, (row, other_nodes bus reads others, is, prints))
-  at_3 row (rows.no_file bus input.ReadFault asks reads lacks) is prints = absurd (omega (arith, is))
-  at_3 row (rows.no_file bus input.TooLong asks reads lacks) is prints = absurd (omega (arith, is))
-  at_3 row (rows.no_file bus input.Memory asks reads lacks) is prints = absurd (omega (arith, is))
-  at_3 row (done bus x _ asks reads whole does) is prints = absurd (not_check 3 bus x row does not_3 is)
+  at_3 row comes is prints = grind (arith, check_status)
 
   at_5 : (row : Row) → ComesOfBusCheck i row → row.status ≡ 5 → PrintsWhole e row.text
       → (SourceFailed i.bus ⊎ SourceFailed i.file) × PrintsWhole e (codes "read fault\n")
@@ -184,24 +134,12 @@ module _ (i : BusCheckInputs) (e : Ending) where
   at_8 row (done bus x _ asks reads whole does) is prints = absurd (not_check 8 bus x row does not_8 is)
 
   never_6 : (row : Row) → ComesOfBusCheck i row → ¬ (row.status ≡ 6)
-  never_6 row (no_form none bus_unread unread) is = omega (arith, is)
-  never_6 row (no_node _ asks (no_bus _ (no_file input.ReadFault lacks)) unread) is = omega (arith, is)
-  never_6 row (no_node _ asks (no_bus _ (no_file input.TooLong lacks)) unread) is = omega (arith, is)
-  never_6 row (no_node _ asks (no_bus _ (no_file input.Memory lacks)) unread) is = omega (arith, is)
-  never_6 row (no_node _ asks (no_bus _ (file_refused fault text is_fault says)) unread) is = omega (arith, is)
-  never_6 row (no_node _ asks (other_nodes bus reads others) unread) is = omega (arith, is)
-  never_6 row (rows.no_file bus input.ReadFault asks reads lacks) is = omega (arith, is)
-  never_6 row (rows.no_file bus input.TooLong asks reads lacks) is = omega (arith, is)
-  never_6 row (rows.no_file bus input.Memory asks reads lacks) is = omega (arith, is)
-  never_6 row (done bus x _ asks reads whole does) is = not_check 6 bus x row does not_6 is
+  never_6 row comes is = grind (arith, check_status, node_status)
 
   -- ---- which rows come
 
   only_2 : asks_over_bus (codes "check") i.words ≡ false → (row : Row) → ComesOfBusCheck i row → row.status ≡ 2
-  only_2 none row (no_form also bus_unread unread) = refl
-  only_2 none row (no_node _ asks lacks unread) = absurd (asks_or_not (asks_over_bus (codes "check") i.words) none asks)
-  only_2 none row (rows.no_file bus fault asks reads lacks) = absurd (asks_or_not (asks_over_bus (codes "check") i.words) none asks)
-  only_2 none row (done bus x _ asks reads whole does) = absurd (asks_or_not (asks_over_bus (codes "check") i.words) none asks)
+  only_2 none row comes = grind (arith, asks_or_not)
 
   only_config : (config : List ℕ) (fault : ConfigFault) → AsksBusCheck i.words → Offers i.bus config → bus_of config ≡ Err fault
       → (row : Row) → ComesOfBusCheck i row → (row.status ≡ 3) ⊎ (row.status ≡ 7)

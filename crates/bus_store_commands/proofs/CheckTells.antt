@@ -1,12 +1,11 @@
 -- What a row of `slots check FILE BUS` says of the sources, and what a check comes to
-use Rattle.std.proofs.Common.{◌≡◌, ◌⊎◌, ◌∙◌, ℕ, List, [], true, false, refl, sym, ap, subst, inl, inr}
+use Rattle.std.proofs.Common.{◌≡◌, ◌⊎◌, ◌∙◌, ℕ, List, [], true, false, refl, sym, ap, subst, inl, inr, arith}
 use Rattle.std.specs.Prelude.{Bool, Option, Some}
 use Rattle.program_edge.specs.Input.{input_fault_text}
 use Rattle.program_edge.specs.Rows.{Row}
 use Rattle.program_edge.specs.Inputs.{Reading, IsUnread}
 use Rattle.bus_config.specs.Buses.{NamedBus}
 use Rattle.bus_programs.specs.BusRoutes.{routes_of}
-use Rattle.bus_programs.specs.BusFiles.{no_file, file_refused}
 use Rattle.bus_programs.proofs.CallerLemmas.{RowTells, calm_unread, calm_whole, told_first, told_second}
 use Rattle.cell_store.specs.declared.kinds.Layout.{Layout}
 use Rattle.cell_store.specs.declared.kinds.Kind.{Kind}
@@ -21,16 +20,17 @@ use Rattle.key_commands.specs.Counting.{StoreThatCounts, counting_store, moved_u
 use Rattle.key_commands.specs.Opening.{layout_of}
 use Rattle.slot_commands.specs.Stores.{HasStoreToCheck}
 use Rattle.slot_commands.proofs.CallerLemmas.{checked_once, check_clash, no_store_row, same_found, has_store, good_layout, good_number}
-use Rattle.bus_store_commands.specs.NodeBuses.{LacksNodeBus, no_bus, other_nodes}
+use Rattle.bus_store_commands.specs.NodeBuses.{LacksNodeBus}
 use Rattle.bus_store_commands.specs.CheckRows.{BusCheckInputs, wanted_store, ChecksNodeStore, DoesBusCheck, found_nothing, found, not_checked, ComesOfBusCheck, no_form, no_node, done}
 use Rattle.bus_store_commands.specs.CheckRows as rows
 
 -- a bus file that gives no bus of one node, before a source that wasn't read
 pub lacks_tells : (config file : Reading) (row : Row) → LacksNodeBus config row → IsUnread file → RowTells row config file
-lacks_tells config file row (no_bus _ (no_file fault lacks)) unread = told_first fault (input_fault_text fault) config file lacks (calm_unread file unread)
-lacks_tells config file row (no_bus _ (file_refused fault text (read, whole, is) says)) unread =
-    inr (inr (calm_whole config read whole, calm_unread file unread))
-lacks_tells config file row (other_nodes bus (read, whole, is) others) unread = inr (inr (calm_whole config read whole, calm_unread file unread))
+lacks_tells config file row comes unread = grind (arith, told_first, calm_unread, calm_whole)
+
+-- its row's status
+pub node_status : (config : Reading) (row : Row) → LacksNodeBus config row → (row.status ≡ 3) ⊎ ((row.status ≡ 5) ⊎ ((row.status ≡ 7) ⊎ (row.status ≡ 8)))
+node_status config row comes = grind arith
 
 pub row_tells : (i : BusCheckInputs) (row : Row) → ComesOfBusCheck i row → RowTells row i.bus i.file
 row_tells i row (no_form none bus_unread unread) = inr (inr (calm_unread i.bus bus_unread, calm_unread i.file unread))
@@ -48,9 +48,7 @@ abbrev pub IsCheckStatus : ℕ → Type 0
 IsCheckStatus status = (status ≡ 0) ⊎ ((status ≡ 1) ⊎ (status ≡ 9))
 
 pub check_status : (bus : NamedBus) (x : List ℕ) (row : Row) → DoesBusCheck bus x row → IsCheckStatus row.status
-check_status bus x row (found_nothing text checks) = inl refl
-check_status bus x row (found findings text some checks) = inr (inl refl)
-check_status bus x row (not_checked _ none) = inr (inr (no_store_row x row none))
+check_status bus x row comes = grind (arith, no_store_row)
 
 -- and it is one
 pub check_once : (bus : NamedBus) (x : List ℕ) (row other : Row) → DoesBusCheck bus x row → DoesBusCheck bus x other → row.status ≡ other.status

@@ -12,7 +12,7 @@ use Rattle.cut_disk.specs.Calls.{Rose, AsBefore}
 use Rattle.file_disk.specs.NamedDisks.{TellsFirmBytes}
 use Rattle.cell_store.specs.declared.kinds.Layout.{Layout}
 use Rattle.cell_store.specs.declared.kinds.Version.{Version}
-use Rattle.cell_store.specs.declared.kinds.Version.TheVariants.{One, Two}
+use Rattle.cell_store.specs.declared.kinds.Version.TheVariants.{One}
 use Rattle.cell_store.specs.Layout.{twin_layout}
 use Rattle.std.proofs.lemmas.List.Elements.{All-get_or}
 use Rattle.freshness_routes.specs.declared.routes.Route.{Route}
@@ -34,7 +34,7 @@ use Rattle.bus_store_commands.specs.BusWords.{asks_over_bus}
 use Rattle.bus_store_commands.specs.GrowRows.{GrowsOnDisk, no_text, grown, not_grown, grown_row, OrMemory, IsGrowRow}
 use Rattle.bus_store_commands.specs.GrowsOverBus.{GrowInputs, AsksGrowth, grow_usage, LacksGrowth, asks_none, without_bus, ComesNamed, not_opened, over_disk}
 use Rattle.bus_store_commands.specs.GrowsOverBus.{OpensGrownDisk, ComesOfGrowth, lacks_bus, with_bus, file_of, layout_of_bus, OverStore, GrowsOverBus}
-use Rattle.bus_store_commands.proofs.CheckTells.{asks_or_not}
+use Rattle.bus_store_commands.proofs.CheckTells.{asks_or_not, node_status}
 
 -- ---- what comes over a disk, by its status
 
@@ -67,59 +67,24 @@ module _ (wanted : Layout) (routes : List Route) (old new : DiskState) where
   refused fault.DiskFailed row why is = by_disk why is
   refused fault.TooSmall row why is =
       by_cause fault.TooSmall why.0 (λ tells. small_told wanted routes old tells.bytes tells.told why.1) is (status_of is)
-  refused (fault.OtherStore there) row why is =
-      by_text (fault.OtherStore there) _ row refl why.0 (λ tells. why.1 tells.bytes tells.told) (λ says. says) is
   refused fault.NotFormatted row why is = by_cause fault.NotFormatted why.0 (λ tells. why.1 tells.bytes tells.told) is (status_of is)
-  refused (fault.Damaged cell) row why is = by_text (fault.Damaged cell) _ row refl why.0 (λ tells. why.1 tells.bytes tells.told) (λ says. says) is
-  refused (fault.BadSlot cell) row why is = by_text (fault.BadSlot cell) _ row refl why.0 (λ tells. why.1 tells.bytes tells.told) (λ says. says) is
-  refused (fault.BadBound cell) row why is = by_text (fault.BadBound cell) _ row refl why.0 (λ tells. why.1 tells.bytes tells.told) (λ says. says) is
   refused fault.Memory row why is = by_memory why is
+  refused f row why is = by_text f _ row refl why.0 (λ tells. why.1 tells.bytes tells.told) (λ says. says) is
 
   abbrev Grows : Row → Type 0
   Grows row = GrowsOnDisk wanted routes old new row
 
   refused_status : (row : Row) → Unchanged row → IsGrowStatus row.status
-  refused_status row (by_disk why is) = inr (inr (inr (status_of is)))
-  refused_status row (by_memory before is) = inr (inl (status_of is))
-  refused_status row (by_cause f before cannot is nine) = inr (inr (inl nine))
+  refused_status row un = grind (arith, status_of)
 
   pub disk_status : (row : Row) → Grows row → IsGrowStatus row.status
-  disk_status row (no_text same) = inr (inl refl)
-  disk_status row (grown could grows faults) = inl refl
-  disk_status row (not_grown f _ why says) = refused_status row (refused f row why says)
-
-isnt : (n : ℕ) (status : ℕ) → IsGrowStatus status → status ≡ n → ¬ IsGrowStatus n → ⊥
-isnt n status are is other = other (subst IsGrowStatus is are)
-
-not_2 : ¬ IsGrowStatus 2
-not_2 (inl is) = omega (arith, is)
-not_2 (inr (inl is)) = omega (arith, is)
-not_2 (inr (inr (inl is))) = omega (arith, is)
-not_2 (inr (inr (inr is))) = omega (arith, is)
-
-not_3 : ¬ IsGrowStatus 3
-not_3 (inl is) = omega (arith, is)
-not_3 (inr (inl is)) = omega (arith, is)
-not_3 (inr (inr (inl is))) = omega (arith, is)
-not_3 (inr (inr (inr is))) = omega (arith, is)
+  disk_status row comes = grind (arith, refused_status, refused)
 
 not_5 : ¬ IsGrowStatus 5
-not_5 (inl is) = omega (arith, is)
-not_5 (inr (inl is)) = omega (arith, is)
-not_5 (inr (inr (inl is))) = omega (arith, is)
-not_5 (inr (inr (inr is))) = omega (arith, is)
-
-not_6 : ¬ IsGrowStatus 6
-not_6 (inl is) = omega (arith, is)
-not_6 (inr (inl is)) = omega (arith, is)
-not_6 (inr (inr (inl is))) = omega (arith, is)
-not_6 (inr (inr (inr is))) = omega (arith, is)
+not_5 x = grind arith
 
 not_8 : ¬ IsGrowStatus 8
-not_8 (inl is) = omega (arith, is)
-not_8 (inr (inl is)) = omega (arith, is)
-not_8 (inr (inr (inl is))) = omega (arith, is)
-not_8 (inr (inr (inr is))) = omega (arith, is)
+not_8 x = grind arith
 
 module _ (wanted : Layout) (routes : List Route) (old new : DiskState) where
   abbrev Grown : Row → Type 0
@@ -132,9 +97,7 @@ module _ (wanted : Layout) (routes : List Route) (old new : DiskState) where
   why_refused row f why says = refused wanted routes old new f row why says
 
   refused_0 : (row : Row) → Refused row → row.status ≡ 0 → ⊥
-  refused_0 row (by_disk why says) is = omega (arith, is, status_of says)
-  refused_0 row (by_memory before says) is = omega (arith, is, status_of says)
-  refused_0 row (by_cause f before cannot says nine) is = omega (arith, is, nine)
+  refused_0 row un is = grind (arith, status_of)
 
   disk_0 : (row : Row) → TellsFirmBytes old → Grown row → row.status ≡ 0
       → (wanted ≡ twin_layout One) × GrowsStore routes old new × (new.faults ≡ old.faults) × (row ≡ grown_row (route_cell (length routes)))
@@ -143,41 +106,28 @@ module _ (wanted : Layout) (routes : List Route) (old new : DiskState) where
   disk_0 row tells (not_grown f _ why says) is = absurd (refused_0 row (why_refused row f why says) is)
 
   refused_7 : (row : Row) → Refused row → row.status ≡ 7 → (new.told ≡ old.told) × (row ≡ memory_row)
-  refused_7 row (by_disk why says) is = absurd (omega (arith, is, status_of says))
-  refused_7 row (by_memory before says) is = (before.told, says)
-  refused_7 row (by_cause f before cannot says nine) is = absurd (omega (arith, is, nine))
+  refused_7 row comes is = grind (arith, status_of)
 
   disk_7 : (row : Row) → Grown row → row.status ≡ 7 → (new.told ≡ old.told) × (row ≡ memory_row)
-  disk_7 row (no_text same) is = (ap (λ (d : DiskState). d.told) same, refl)
-  disk_7 row (grown could grows faults) is = absurd (omega (arith, is))
-  disk_7 row (not_grown f _ why says) is = refused_7 row (why_refused row f why says) is
+  disk_7 row comes is = grind (arith, refused_7, why_refused)
 
   refused_9 : (row : Row) → TellsFirmBytes old → Refused row → row.status ≡ 9 → AsBefore 2 old new × ((f : GrowFault) × CannotBeGrown wanted routes old f × IsGrowRow f row)
-  refused_9 row tells (by_disk why says) is = absurd (omega (arith, is, status_of says))
-  refused_9 row tells (by_memory before says) is = absurd (omega (arith, is, status_of says))
-  refused_9 row tells (by_cause f before cannot says nine) is = (before, (f, cannot tells, says))
+  refused_9 row tells comes is = grind (arith, status_of)
 
   disk_9 : (row : Row) → TellsFirmBytes old → Grown row → row.status ≡ 9 → AsBefore 2 old new × ((f : GrowFault) × CannotBeGrown wanted routes old f × IsGrowRow f row)
-  disk_9 row tells (no_text same) is = absurd (omega (arith, is))
-  disk_9 row tells (grown could grows faults) is = absurd (omega (arith, is))
   disk_9 row tells (not_grown f _ why says) is = refused_9 row tells (why_refused row f why says) is
+  disk_9 row tells comes is = absurd (omega arith)
 
   refused_10 : (row : Row) → Refused row → row.status ≡ 10 → NotGrown wanted routes old new fault.DiskFailed × IsGrowRow fault.DiskFailed row
-  refused_10 row (by_disk why says) is = (why, says)
-  refused_10 row (by_memory before says) is = absurd (omega (arith, is, status_of says))
-  refused_10 row (by_cause f before cannot says nine) is = absurd (omega (arith, is, nine))
+  refused_10 row comes is = grind (arith, status_of)
 
   disk_10 : (row : Row) → Grown row → row.status ≡ 10 → NotGrown wanted routes old new fault.DiskFailed × IsGrowRow fault.DiskFailed row
-  disk_10 row (no_text same) is = absurd (omega (arith, is))
-  disk_10 row (grown could grows faults) is = absurd (omega (arith, is))
-  disk_10 row (not_grown f _ why says) is = refused_10 row (why_refused row f why says) is
+  disk_10 row comes is = grind (arith, refused_10, why_refused)
 
   -- ---- which rows come over a disk that tells its bytes
 
   refused_cause : (row : Row) → Refused row → ¬ Rose old.faults new.faults → (row.status ≡ 9) ⊎ (row.status ≡ 7)
-  refused_cause row (by_disk why says) calm = absurd (calm why.0)
-  refused_cause row (by_memory before says) calm = inr (status_of says)
-  refused_cause row (by_cause f before cannot says nine) calm = inl nine
+  refused_cause row un calm = grind (arith, status_of)
 
   -- a cause stands, and no call failed
   disk_cause : (row : Row) (f : GrowFault) → length routes ≤ 256 → TellsFirmBytes old → Grown row → CannotBeGrown wanted routes old f → ¬ Rose old.faults new.faults
@@ -189,10 +139,7 @@ module _ (wanted : Layout) (routes : List Route) (old new : DiskState) where
 
   refused_can : (row : Row) → length routes ≤ 256 → TellsFirmBytes old → Refused row → CanBeGrown wanted routes old → ¬ Rose old.faults new.faults
       → (row.status ≡ 0) ⊎ (row.status ≡ 7)
-  refused_can row few tells (by_disk why says) can calm = absurd (calm why.0)
-  refused_can row few tells (by_memory before says) can calm = inr (status_of says)
-  refused_can row few tells (by_cause f before cannot says nine) can calm =
-      absurd (a_store_that_can_grow_is_not_refused wanted routes old f few can (cannot tells))
+  refused_can row few tells un can calm = grind (arith, status_of, a_store_that_can_grow_is_not_refused)
 
   -- the store can be grown, and no call failed
   disk_can : (row : Row) → length routes ≤ 256 → TellsFirmBytes old → Grown row → CanBeGrown wanted routes old → ¬ Rose old.faults new.faults
@@ -202,21 +149,16 @@ module _ (wanted : Layout) (routes : List Route) (old new : DiskState) where
   disk_can row few tells (not_grown f _ why says) can calm = refused_can row few tells (why_refused row f why says) can calm
 
   refused_rose : (row : Row) → Refused row → old.faults < new.faults → row.status ≡ 10
-  refused_rose row (by_disk why says) rose = status_of says
-  refused_rose row (by_memory before says) rose = absurd (let same = before.faults in omega (arith, rose, same))
-  refused_rose row (by_cause f before cannot says nine) rose = absurd (let same = before.faults in omega (arith, rose, same))
+  refused_rose row un rose = grind (arith, status_of)
 
   -- a call failed
   disk_rose : (row : Row) → Grown row → old.faults < new.faults → row.status ≡ 10
-  disk_rose row (no_text same) rose = absurd (omega (arith, rose, ap (λ (d : DiskState). d.faults) same))
-  disk_rose row (grown could grows faults) rose = absurd (omega (arith, rose, faults))
-  disk_rose row (not_grown f _ why says) rose = refused_rose row (why_refused row f why says) rose
+  disk_rose row comes rose = grind (arith, refused_rose, why_refused)
 
 -- ---- a node has at most 256 routes
 
 most_256 : (version : Version) → most_routes version ≤ 256
-most_256 One = omega arith
-most_256 Two = omega arith
+most_256 version = grind arith
 
 pub few_routes : (bus : NamedBus) → IsNamedBus bus → length (routes_of bus) ≤ 256
 few_routes bus is =
@@ -228,12 +170,7 @@ few_routes bus is =
 
 -- its status is 2, 3, 5, 7 or 8
 lacks_0 : (i : GrowInputs) (row : Row) → LacksGrowth i row → (row.status ≡ 0) ⊎ ((row.status ≡ 9) ⊎ ((row.status ≡ 10) ⊎ (row.status ≡ 6))) → ⊥
-lacks_0 i row (asks_none none unread) is = omega (arith, is)
-lacks_0 i row (without_bus _ asks (no_bus _ (no_file input.ReadFault lacks))) is = omega (arith, is)
-lacks_0 i row (without_bus _ asks (no_bus _ (no_file input.TooLong lacks))) is = omega (arith, is)
-lacks_0 i row (without_bus _ asks (no_bus _ (no_file input.Memory lacks))) is = omega (arith, is)
-lacks_0 i row (without_bus _ asks (no_bus _ (file_refused cause text is_fault says))) is = omega (arith, is)
-lacks_0 i row (without_bus _ asks (other_nodes bus reads others)) is = omega (arith, is)
+lacks_0 i row lacks is = grind (arith, node_status)
 
 -- ---- the statuses of a run
 
@@ -242,18 +179,10 @@ abbrev pub IsRunStatus : ℕ → Type 0
 IsRunStatus status = (status ≡ 0) ⊎ ((status ≡ 2) ⊎ ((status ≡ 3) ⊎ ((5 ≤ status) × (status ≤ 10))))
 
 grow_status : (status : ℕ) → IsGrowStatus status → IsRunStatus status
-grow_status status (inl is) = inl is
-grow_status status (inr (inl is)) = inr (inr (inr (omega (arith, is), omega (arith, is))))
-grow_status status (inr (inr (inl is))) = inr (inr (inr (omega (arith, is), omega (arith, is))))
-grow_status status (inr (inr (inr is))) = inr (inr (inr (omega (arith, is), omega (arith, is))))
+grow_status status it = grind arith
 
 lacks_status : (i : GrowInputs) (row : Row) → LacksGrowth i row → IsRunStatus row.status
-lacks_status i row (asks_none none unread) = inr (inl refl)
-lacks_status i row (without_bus _ asks (no_bus _ (no_file input.ReadFault lacks))) = inr (inr (inr (omega arith, omega arith)))
-lacks_status i row (without_bus _ asks (no_bus _ (no_file input.TooLong lacks))) = inr (inr (inr (omega arith, omega arith)))
-lacks_status i row (without_bus _ asks (no_bus _ (no_file input.Memory lacks))) = inr (inr (inr (omega arith, omega arith)))
-lacks_status i row (without_bus _ asks (no_bus _ (file_refused cause text is_fault says))) = inr (inr (inl refl))
-lacks_status i row (without_bus _ asks (other_nodes bus reads others)) = inr (inr (inl refl))
+lacks_status i row lacks = grind (arith, node_status)
 
 -- the disk that was left is one
 none_left : {left : Option DiskState} (new : DiskState) → left ≡ Some new → left ≡ None → ⊥
@@ -301,16 +230,12 @@ module _ (opens : List ℕ → DiskState → Type 0) (before after : List (List 
 
   no_memory_at : (row : Row) → Comes row → row.status ≡ 7 → PrintsWhole e row.text
       → PrintsWhole e [] × ((left ≡ None) ⊎ Over (λ bus old new. new.told ≡ old.told))
-  no_memory_at row (lacks_bus _ (asks_none none unread) once unopened opened) is prints = absurd (omega (arith, is))
-  no_memory_at row (lacks_bus _ (without_bus _ asks (no_bus _ (no_file input.ReadFault lacks))) once unopened opened) is prints = absurd (omega (arith, is))
-  no_memory_at row (lacks_bus _ (without_bus _ asks (no_bus _ (no_file input.TooLong lacks))) once unopened opened) is prints = absurd (omega (arith, is))
   no_memory_at row (lacks_bus _ (without_bus _ asks (no_bus _ (no_file input.Memory lacks))) once unopened opened) is prints = (prints, inl opened)
-  no_memory_at row (lacks_bus _ (without_bus _ asks (no_bus _ (file_refused cause text is_fault says))) once unopened opened) is prints = absurd (omega (arith, is))
-  no_memory_at row (lacks_bus _ (without_bus _ asks (other_nodes bus reads others)) once unopened opened) is prints = absurd (omega (arith, is))
   no_memory_at row (with_bus bus _ named asks reads (not_opened once unopened none)) is prints = (prints, inl none)
   no_memory_at row (with_bus bus _ named asks reads (over_disk disk _ comes)) is prints =
       let (told, row_is) = disk_7 _ _ _ _ row comes is in
       (subst (λ (r : Row). PrintsWhole e r.text) row_is prints, inr (bus, named, asks, reads, disk, told))
+  no_memory_at row comes is prints = absurd (omega arith)
 
   no_store_at : (row : Row) → Comes row → row.status ≡ 9 → PrintsWhole e row.text
       → Over (λ bus old new. AsBefore 2 old new × ((f : GrowFault) × (shown : Row) × CannotBeGrown (layout_of_bus bus) (routes_of bus) old f
@@ -329,31 +254,22 @@ module _ (opens : List ℕ → DiskState → Type 0) (before after : List (List 
       let (why, says) = disk_10 _ _ _ _ row comes is in
       (bus, named, asks, reads, disk, (why, subst (λ (r : Row). PrintsWhole e r.text) says prints))
 
+  -- over a bus
+  over_status : (wanted : Layout) (routes : List Route) (row : Row) → ComesNamed opens before after (file_of i) wanted routes was left row → IsGrowStatus row.status
+  over_status wanted routes row (not_opened once unopened none) = inr (inl refl)
+  over_status wanted routes row (over_disk disk _ comes) = disk_status wanted routes disk.old disk.new row comes
+
   over_isnt : (n : ℕ) (bus : NamedBus) (row : Row) → AsksGrowth i.words → ComesNamed opens before after (file_of i) (layout_of_bus bus) (routes_of bus) was left row
       → row.status ≡ n → ¬ IsGrowStatus n → ⊥
-  over_isnt n bus row asks (not_opened once unopened none) is other = other (subst IsGrowStatus is (inr (inl refl)))
-  over_isnt n bus row asks (over_disk disk _ comes) is other = isnt n row.status (disk_status _ _ _ _ row comes) is other
+  over_isnt n bus row asks comes is other = other (subst IsGrowStatus is (over_status _ _ row comes))
 
   at_2 : (row : Row) → Comes row → row.status ≡ 2 → PrintsWhole e row.text
       → (asks_over_bus (codes "grow") i.words ≡ false) × IsUnread i.bus × (after ≡ before) × PrintsWhole e grow_usage
-  at_2 row (lacks_bus _ (asks_none none unread) once unopened opened) is prints = (none, unread, once, prints)
-  at_2 row (lacks_bus _ (without_bus _ asks (no_bus _ (no_file input.ReadFault lacks))) once unopened opened) is prints = absurd (omega (arith, is))
-  at_2 row (lacks_bus _ (without_bus _ asks (no_bus _ (no_file input.TooLong lacks))) once unopened opened) is prints = absurd (omega (arith, is))
-  at_2 row (lacks_bus _ (without_bus _ asks (no_bus _ (no_file input.Memory lacks))) once unopened opened) is prints = absurd (omega (arith, is))
-  at_2 row (lacks_bus _ (without_bus _ asks (no_bus _ (file_refused cause text is_fault says))) once unopened opened) is prints = absurd (omega (arith, is))
-  at_2 row (lacks_bus _ (without_bus _ asks (other_nodes bus reads others)) once unopened opened) is prints = absurd (omega (arith, is))
-  at_2 row (with_bus bus _ named asks reads comes) is prints = absurd (over_isnt 2 bus row asks comes is not_2)
+  at_2 row comes is prints = grind (arith, over_status, node_status)
 
   at_3 : (row : Row) → Comes row → row.status ≡ 3 → PrintsWhole e row.text
       → AsksGrowth i.words × (after ≡ before) × ((row : Row) × LacksNodeBus i.bus row × (row.status ≡ 3) × PrintsWhole e row.text)
-  at_3 row (lacks_bus _ (asks_none none unread) once unopened opened) is prints = absurd (omega (arith, is))
-  at_3 row (lacks_bus _ (without_bus _ asks (no_bus _ (no_file input.ReadFault lacks))) once unopened opened) is prints = absurd (omega (arith, is))
-  at_3 row (lacks_bus _ (without_bus _ asks (no_bus _ (no_file input.TooLong lacks))) once unopened opened) is prints = absurd (omega (arith, is))
-  at_3 row (lacks_bus _ (without_bus _ asks (no_bus _ (no_file input.Memory lacks))) once unopened opened) is prints = absurd (omega (arith, is))
-  at_3 row (lacks_bus _ (without_bus _ asks (no_bus _ (file_refused cause text is_fault says))) once unopened opened) is prints =
-      (asks, once, (row, no_bus row (file_refused cause text is_fault says), is, prints))
-  at_3 row (lacks_bus _ (without_bus _ asks (other_nodes bus reads others)) once unopened opened) is prints = (asks, once, (row, other_nodes bus reads others, is, prints))
-  at_3 row (with_bus bus _ named asks reads comes) is prints = absurd (over_isnt 3 bus row asks comes is not_3)
+  at_3 row comes is prints = grind (arith, over_status)
 
   at_5 : (row : Row) → Comes row → row.status ≡ 5 → PrintsWhole e row.text
       → SourceFailed i.bus × (after ≡ before) × PrintsWhole e (codes "read fault\n")
@@ -376,15 +292,12 @@ module _ (opens : List ℕ → DiskState → Type 0) (before after : List (List 
   at_8 row (with_bus bus _ named asks reads comes) is prints = absurd (over_isnt 8 bus row asks comes is not_8)
 
   never_6 : (row : Row) → Comes row → ¬ (row.status ≡ 6)
-  never_6 row (lacks_bus _ lacks once unopened opened) is = lacks_0 i row lacks (inr (inr (inr is)))
-  never_6 row (with_bus bus _ named asks reads comes) is = over_isnt 6 bus row asks comes is not_6
+  never_6 row comes is = grind (arith, lacks_0, over_status)
 
   -- ---- which rows come
 
   only_2 : asks_over_bus (codes "grow") i.words ≡ false → (row : Row) → Comes row → row.status ≡ 2
-  only_2 none row (lacks_bus _ (asks_none also unread) once unopened opened) = refl
-  only_2 none row (lacks_bus _ (without_bus _ asks lacks) once unopened opened) = absurd (asks_or_not (asks_over_bus (codes "grow") i.words) none asks)
-  only_2 none row (with_bus bus _ named asks reads comes) = absurd (asks_or_not (asks_over_bus (codes "grow") i.words) none asks)
+  only_2 none row comes = grind (arith, asks_or_not)
 
   only_config : (config : List ℕ) (cause : ConfigFault) → AsksGrowth i.words → Offers i.bus config → bus_of config ≡ Err cause
       → (row : Row) → Comes row → (row.status ≡ 3) ⊎ (row.status ≡ 7)
@@ -442,23 +355,13 @@ module _ (opens : List ℕ → DiskState → Type 0) (before after : List (List 
       disk_can (layout_of_bus bus) (routes_of bus) disk.old disk.new row (few_routes bus named) disk.tells comes of.0 of.1)
 
   only_rose : (old new : DiskState) → was ≡ Some old → left ≡ Some new → old.faults < new.faults → (row : Row) → Comes row → row.status ≡ 10
-  only_rose old new is there rose row (lacks_bus _ lacks once unopened opened) = absurd (none_left new there opened)
-  only_rose old new is there rose row (with_bus bus _ named asks reads (not_opened once unopened none)) = absurd (none_left new there none)
-  only_rose old new is there rose row (with_bus bus _ named asks reads (over_disk disk _ comes)) =
-      disk_rose (layout_of_bus bus) (routes_of bus) disk.old disk.new row comes
-      (subst (λ (d : DiskState). d.faults < disk.new.faults) (one_left old disk.old is disk.was_is)
-      (subst (λ (d : DiskState). old.faults < d.faults) (one_left new disk.new there disk.left_is) rose))
+  only_rose old new is there rose row comes = grind (arith, none_left, disk_rose, one_left)
 
   row_status : (row : Row) → Comes row → IsRunStatus row.status
-  row_status row (lacks_bus _ lacks once unopened opened) = lacks_status i row lacks
-  row_status row (with_bus bus _ named asks reads (not_opened once unopened none)) = inr (inr (inr (omega arith, omega arith)))
-  row_status row (with_bus bus _ named asks reads (over_disk disk _ comes)) = grow_status row.status (disk_status _ _ _ _ row comes)
+  row_status row comes = grind (arith, lacks_status, grow_status, disk_status)
 
   run_status : EndsInRow Comes e → IsRunStatus e.status
-  run_status ends = elim ends.told [
-    | inl (is, well) ↦ subst IsRunStatus (sym is) (row_status ends.row ends.comes)
-    | inr (is, rose, part) ↦ inr (inr (inr (omega (arith, is), omega (arith, is))))
-  ]
+  run_status ends = grind (arith, row_status)
 
   pub grows_row : EndsInRow Comes e → GrowsOverBus opens before after i left e
   grows_row ends = record {

@@ -23,80 +23,32 @@ use Rattle.bus_store_commands.specs.BusWords.{asks_over_bus}
 use Rattle.bus_store_commands.specs.MakeRows.{MakeInputs, AsksMake, OpensNoDisk, OverDisk, ComesOfMake, no_form, no_node, no_room, unmade, make_row, IsMakeRow, make_usage, made_text, node_config}
 use Rattle.bus_store_commands.specs.MakeRows as rows
 use Rattle.bus_store_commands.specs.MakesUnitStore.{MakesUnitStore, OpenedWell, NoStoreFits, StoreFits}
-use Rattle.bus_store_commands.proofs.CheckTells.{asks_or_not}
+use Rattle.bus_store_commands.proofs.CheckTells.{asks_or_not, node_status}
 use Rattle.bus_store_commands.proofs.MakeTells.{IsUnmadeStatus, unmade_status, unmade_at_9, unmade_at_10, rose_is_10, unmade_text_7, left_at_7, fit_refused, made_refused, unread_other, make_tells}
 
 not_unmade : (n : ℕ) (cause : MakeFault) (row : Row) → IsMakeRow cause row → ¬ IsUnmadeStatus n → row.status ≡ n → ⊥
 not_unmade n cause row is other same = other (subst IsUnmadeStatus same (unmade_status cause row is))
 
-unlike_0 : ¬ IsUnmadeStatus 0
-unlike_0 (inl is) = omega (arith, is)
-unlike_0 (inr (inl is)) = omega (arith, is)
-unlike_0 (inr (inr is)) = omega (arith, is)
-
-unlike_2 : ¬ IsUnmadeStatus 2
-unlike_2 (inl is) = omega (arith, is)
-unlike_2 (inr (inl is)) = omega (arith, is)
-unlike_2 (inr (inr is)) = omega (arith, is)
-
-unlike_3 : ¬ IsUnmadeStatus 3
-unlike_3 (inl is) = omega (arith, is)
-unlike_3 (inr (inl is)) = omega (arith, is)
-unlike_3 (inr (inr is)) = omega (arith, is)
-
 unlike_5 : ¬ IsUnmadeStatus 5
-unlike_5 (inl is) = omega (arith, is)
-unlike_5 (inr (inl is)) = omega (arith, is)
-unlike_5 (inr (inr is)) = omega (arith, is)
-
-unlike_6 : ¬ IsUnmadeStatus 6
-unlike_6 (inl is) = omega (arith, is)
-unlike_6 (inr (inl is)) = omega (arith, is)
-unlike_6 (inr (inr is)) = omega (arith, is)
+unlike_5 comes = grind arith
 
 unlike_8 : ¬ IsUnmadeStatus 8
-unlike_8 (inl is) = omega (arith, is)
-unlike_8 (inr (inl is)) = omega (arith, is)
-unlike_8 (inr (inr is)) = omega (arith, is)
+unlike_8 comes = grind arith
 
 module _ (opens : List ℕ → DiskState → Type 0) (i : MakeInputs) (e : Ending) where
   -- ---- rows by their status
 
   at_0 : (row : Row) → ComesOfMake opens i row → row.status ≡ 0 → PrintsWhole e row.text
       → OverDisk opens i (λ bus disk after. StoreMade bus.kind bus.version (node_config bus) disk after × PrintsWhole e (made_text bus))
-  at_0 row (no_form none unread opened) is prints = absurd (omega (arith, is))
-  at_0 row (no_node _ asks (no_bus _ (no_file input.ReadFault lacks)) opened) is prints = absurd (omega (arith, is))
-  at_0 row (no_node _ asks (no_bus _ (no_file input.TooLong lacks)) opened) is prints = absurd (omega (arith, is))
-  at_0 row (no_node _ asks (no_bus _ (no_file input.Memory lacks)) opened) is prints = absurd (omega (arith, is))
-  at_0 row (no_node _ asks (no_bus _ (file_refused cause text is_fault says)) opened) is prints = absurd (omega (arith, is))
-  at_0 row (no_node _ asks (other_nodes bus reads others) opened) is prints = absurd (omega (arith, is))
-  at_0 row (no_room bus asks reads opened) is prints = absurd (omega (arith, is))
-  at_0 row (rows.made bus disk after asks reads opened stands) is prints = (asks, (bus, disk, after, reads, opened, (stands, prints)))
-  at_0 row (unmade bus disk after cause _ asks reads good opened un is_row) is prints = absurd (not_unmade 0 cause row is_row unlike_0 is)
+  at_0 row comes is prints = grind (arith, unmade_status, node_status)
 
   at_2 : (row : Row) → ComesOfMake opens i row → row.status ≡ 2 → PrintsWhole e row.text
       → (asks_over_bus (codes "make") i.words ≡ false) × IsUnread i.bus × OpensNoDisk i × PrintsWhole e make_usage
-  at_2 row (no_form none unread opened) is prints = (none, unread, opened, prints)
-  at_2 row (no_node _ asks (no_bus _ (no_file input.ReadFault lacks)) opened) is prints = absurd (omega (arith, is))
-  at_2 row (no_node _ asks (no_bus _ (no_file input.TooLong lacks)) opened) is prints = absurd (omega (arith, is))
-  at_2 row (no_node _ asks (no_bus _ (no_file input.Memory lacks)) opened) is prints = absurd (omega (arith, is))
-  at_2 row (no_node _ asks (no_bus _ (file_refused cause text is_fault says)) opened) is prints = absurd (omega (arith, is))
-  at_2 row (no_node _ asks (other_nodes bus reads others) opened) is prints = absurd (omega (arith, is))
-  at_2 row (no_room bus asks reads opened) is prints = absurd (omega (arith, is))
-  at_2 row (rows.made bus disk after asks reads opened stands) is prints = absurd (omega (arith, is))
-  at_2 row (unmade bus disk after cause _ asks reads good opened un is_row) is prints = absurd (not_unmade 2 cause row is_row unlike_2 is)
+  at_2 row comes is prints = grind (arith, unmade_status, node_status)
 
   at_3 : (row : Row) → ComesOfMake opens i row → row.status ≡ 3 → PrintsWhole e row.text
       → AsksMake i.words × OpensNoDisk i × ((row : Row) × LacksNodeBus i.bus row × (row.status ≡ 3) × PrintsWhole e row.text)
-  at_3 row (no_form none unread opened) is prints = absurd (omega (arith, is))
-  at_3 row (no_node _ asks (no_bus _ (no_file input.ReadFault lacks)) opened) is prints = absurd (omega (arith, is))
-  at_3 row (no_node _ asks (no_bus _ (no_file input.TooLong lacks)) opened) is prints = absurd (omega (arith, is))
-  at_3 row (no_node _ asks (no_bus _ (no_file input.Memory lacks)) opened) is prints = absurd (omega (arith, is))
-  at_3 row (no_node _ asks (no_bus _ (file_refused cause text is_fault says)) opened) is prints = (asks, opened, (row, no_bus row (file_refused cause text is_fault says), is, prints))
-  at_3 row (no_node _ asks (other_nodes bus reads others) opened) is prints = (asks, opened, (row, other_nodes bus reads others, is, prints))
-  at_3 row (no_room bus asks reads opened) is prints = absurd (omega (arith, is))
-  at_3 row (rows.made bus disk after asks reads opened stands) is prints = absurd (omega (arith, is))
-  at_3 row (unmade bus disk after cause _ asks reads good opened un is_row) is prints = absurd (not_unmade 3 cause row is_row unlike_3 is)
+  at_3 row comes is prints = grind (arith, unmade_status)
 
   at_5 : (row : Row) → ComesOfMake opens i row → row.status ≡ 5 → PrintsWhole e row.text
       → SourceFailed i.bus × OpensNoDisk i × PrintsWhole e (codes "read fault\n")
@@ -124,58 +76,33 @@ module _ (opens : List ℕ → DiskState → Type 0) (i : MakeInputs) (e : Endin
 
   at_7 : (row : Row) → ComesOfMake opens i row → row.status ≡ 7 → PrintsWhole e row.text
       → PrintsWhole e [] × (OpensNoDisk i ⊎ OverDisk opens i (λ bus disk after. LeftAsItWas disk after))
-  at_7 row (no_form none unread opened) is prints = absurd (omega (arith, is))
-  at_7 row (no_node _ asks (no_bus _ (no_file input.ReadFault lacks)) opened) is prints = absurd (omega (arith, is))
-  at_7 row (no_node _ asks (no_bus _ (no_file input.TooLong lacks)) opened) is prints = absurd (omega (arith, is))
   at_7 row (no_node _ asks (no_bus _ (no_file input.Memory lacks)) opened) is prints = (prints, inl opened)
-  at_7 row (no_node _ asks (no_bus _ (file_refused cause text is_fault says)) opened) is prints = absurd (omega (arith, is))
-  at_7 row (no_node _ asks (other_nodes bus reads others) opened) is prints = absurd (omega (arith, is))
   at_7 row (no_room bus asks reads opened) is prints = (prints, inl opened)
-  at_7 row (rows.made bus disk after asks reads opened stands) is prints = absurd (omega (arith, is))
   at_7 row (unmade bus disk after cause _ asks reads good opened un is_row) is prints = (
     subst (PrintsWhole e) (unmade_text_7 cause row is_row is) prints,
     inr (asks, (bus, disk, after, reads, opened, left_at_7 bus.kind bus.version (node_config bus) disk after cause row un is_row is)),
   )
+  at_7 row comes is prints = absurd (omega arith)
 
   at_9 : (row : Row) → ComesOfMake opens i row → row.status ≡ 9 → PrintsWhole e row.text
       → OverDisk opens i (λ bus disk after. (cause : MakeFault) × StoreUnmade bus.kind bus.version (node_config bus) disk after cause
       × LeftAsItWas disk after × ((make_row cause).status ≡ 9) × PrintsWhole e (make_row cause).text)
-  at_9 row (no_form none unread opened) is prints = absurd (omega (arith, is))
   at_9 row (no_node _ asks (no_bus _ (no_file input.ReadFault lacks)) opened) is prints = absurd (omega (arith, is))
-  at_9 row (no_node _ asks (no_bus _ (no_file input.TooLong lacks)) opened) is prints = absurd (omega (arith, is))
-  at_9 row (no_node _ asks (no_bus _ (no_file input.Memory lacks)) opened) is prints = absurd (omega (arith, is))
-  at_9 row (no_node _ asks (no_bus _ (file_refused cause text is_fault says)) opened) is prints = absurd (omega (arith, is))
-  at_9 row (no_node _ asks (other_nodes bus reads others) opened) is prints = absurd (omega (arith, is))
-  at_9 row (no_room bus asks reads opened) is prints = absurd (omega (arith, is))
-  at_9 row (rows.made bus disk after asks reads opened stands) is prints = absurd (omega (arith, is))
   at_9 row (unmade bus disk after cause _ asks reads good opened un is_row) is prints =
       let (left, nine, same) = unmade_at_9 bus.kind bus.version (node_config bus) disk after cause row un is_row is in
       (asks, (bus, disk, after, reads, opened, (cause, un, left, nine, subst (λ (r : Row). PrintsWhole e r.text) same prints)))
+  at_9 row comes is prints = absurd (omega arith)
 
   at_10 : (row : Row) → ComesOfMake opens i row → row.status ≡ 10 → PrintsWhole e row.text
       → OverDisk opens i (λ bus disk after. FailedToMake bus.kind bus.version (node_config bus) disk after × PrintsWhole e (codes "store: DiskFailed\n"))
-  at_10 row (no_form none unread opened) is prints = absurd (omega (arith, is))
   at_10 row (no_node _ asks (no_bus _ (no_file input.ReadFault lacks)) opened) is prints = absurd (omega (arith, is))
-  at_10 row (no_node _ asks (no_bus _ (no_file input.TooLong lacks)) opened) is prints = absurd (omega (arith, is))
-  at_10 row (no_node _ asks (no_bus _ (no_file input.Memory lacks)) opened) is prints = absurd (omega (arith, is))
-  at_10 row (no_node _ asks (no_bus _ (file_refused cause text is_fault says)) opened) is prints = absurd (omega (arith, is))
-  at_10 row (no_node _ asks (other_nodes bus reads others) opened) is prints = absurd (omega (arith, is))
-  at_10 row (no_room bus asks reads opened) is prints = absurd (omega (arith, is))
-  at_10 row (rows.made bus disk after asks reads opened stands) is prints = absurd (omega (arith, is))
   at_10 row (unmade bus disk after cause _ asks reads good opened un is_row) is prints =
       let (failed, text) = unmade_at_10 bus.kind bus.version (node_config bus) disk after cause row un is_row is in
       (asks, (bus, disk, after, reads, opened, (failed, subst (PrintsWhole e) text prints)))
+  at_10 row comes is prints = absurd (omega arith)
 
   never_6 : (row : Row) → ComesOfMake opens i row → ¬ (row.status ≡ 6)
-  never_6 row (no_form none unread opened) is = omega (arith, is)
-  never_6 row (no_node _ asks (no_bus _ (no_file input.ReadFault lacks)) opened) is = omega (arith, is)
-  never_6 row (no_node _ asks (no_bus _ (no_file input.TooLong lacks)) opened) is = omega (arith, is)
-  never_6 row (no_node _ asks (no_bus _ (no_file input.Memory lacks)) opened) is = omega (arith, is)
-  never_6 row (no_node _ asks (no_bus _ (file_refused cause text is_fault says)) opened) is = omega (arith, is)
-  never_6 row (no_node _ asks (other_nodes bus reads others) opened) is = omega (arith, is)
-  never_6 row (no_room bus asks reads opened) is = omega (arith, is)
-  never_6 row (rows.made bus disk after asks reads opened stands) is = omega (arith, is)
-  never_6 row (unmade bus disk after cause _ asks reads good opened un is_row) is = not_unmade 6 cause row is_row unlike_6 is
+  never_6 row comes is = grind (arith, node_status, unmade_status)
 
   -- ---- which rows come
 
@@ -183,11 +110,7 @@ module _ (opens : List ℕ → DiskState → Type 0) (i : MakeInputs) (e : Endin
   clash none asks = asks_or_not (asks_over_bus (codes "make") i.words) none asks
 
   only_2 : asks_over_bus (codes "make") i.words ≡ false → (row : Row) → ComesOfMake opens i row → row.status ≡ 2
-  only_2 none row (no_form also unread opened) = refl
-  only_2 none row (no_node _ asks lacks opened) = absurd (clash none asks)
-  only_2 none row (no_room bus asks reads opened) = absurd (clash none asks)
-  only_2 none row (rows.made bus disk after asks reads opened stands) = absurd (clash none asks)
-  only_2 none row (unmade bus disk after cause _ asks reads good opened un is_row) = absurd (clash none asks)
+  only_2 none row comes = grind (arith, clash)
 
   only_config : (config : List ℕ) (err : ConfigFault) → AsksMake i.words → Offers i.bus config → bus_of config ≡ Err err
       → (row : Row) → ComesOfMake opens i row → (row.status ≡ 3) ⊎ (row.status ≡ 7)
@@ -233,11 +156,7 @@ module _ (opens : List ℕ → DiskState → Type 0) (i : MakeInputs) (e : Endin
 
   at_quiet : (bus : NamedBus) (disk after : DiskState) (cause : MakeFault) (row : Row) → StoreUnmade bus.kind bus.version (node_config bus) disk after cause
       → IsMakeRow cause row → ¬ (row.status ≡ 10) → (row.status ≡ 9) ⊎ (row.status ≡ 7)
-  at_quiet bus disk after cause row un is_row not = elim (unmade_status cause row is_row) [
-    | inl nine ↦ inl nine
-    | inr (inl ten) ↦ absurd (not ten)
-    | inr (inr seven) ↦ inr seven
-  ]
+  at_quiet bus disk after cause row un is_row not = grind (arith, unmade_status)
 
   -- a disk that was quiet, or whose count of faults didn't rise, didn't fail
   did_not_fail : (disk that after : DiskState) (bus : NamedBus) → disk ≡ that → i.left ≡ Some after
@@ -268,37 +187,18 @@ module _ (opens : List ℕ → DiskState → Type 0) (i : MakeInputs) (e : Endin
   -- the disk's count of faults rose
   rose_10 : (disk after : DiskState) → i.opened ≡ Some disk → i.left ≡ Some after → disk.faults < after.faults
       → (row : Row) → ComesOfMake opens i row → row.status ≡ 10
-  rose_10 disk after first last rose row (no_form none unread opened) = absurd (no_disk disk first opened)
-  rose_10 disk after first last rose row (no_node _ also lacks opened) = absurd (no_disk disk first opened)
-  rose_10 disk after first last rose row (no_room bus also reads opened) = absurd (no_disk disk first opened)
-  rose_10 disk after first last rose row (rows.made bus that end also reads opened stands) =
-      let before_is = one_disk disk that first opened.opened in
-      let after_is = last_disk after end last opened.left in
-      absurd (omega (arith, rose, stands.faults, ap (λ (d : DiskState). d.faults) before_is, ap (λ (d : DiskState). d.faults) after_is))
-  rose_10 disk after first last rose row (unmade bus that end cause _ also reads good opened un is_row) =
-      let before_is = one_disk disk that first opened.opened in
-      let after_is = last_disk after end last opened.left in
-      rose_is_10 bus.kind bus.version (node_config bus) that end cause row un is_row
-      (let more : that.faults < end.faults = omega (arith, rose, ap (λ (d : DiskState). d.faults) before_is, ap (λ (d : DiskState). d.faults) after_is) in more)
+  rose_10 disk after first last rose row comes = grind (arith, no_disk, one_disk, last_disk, rose_is_10)
 
   fits_7 : (bus : NamedBus) (disk after : DiskState) (cause : MakeFault) (row : Row) → IsConfig (node_config bus)
       → StoreUnmade bus.kind bus.version (node_config bus) disk after cause → IsMakeRow cause row
       → ¬ FailedToMake bus.kind bus.version (node_config bus) disk after
       → (t : Told) → disk.told ≡ Some t → StoreFits bus disk.size t.bytes → (row.status ≡ 0) ⊎ (row.status ≡ 7)
   fits_7 bus disk after (fault.Store store.DiskFailed) row good un is well t tells (room, fit) = absurd (well un)
-  fits_7 bus disk after (fault.Store store.NotFormatted) row good un is well t tells (room, fit) =
-      absurd (fit_refused bus.kind bus.version (node_config bus) t.bytes (fault.Store store.NotFormatted) good fit (un.1 t tells))
-  fits_7 bus disk after (fault.Store (store.Damaged place)) row good un is well t tells (room, fit) =
-      absurd (fit_refused bus.kind bus.version (node_config bus) t.bytes (fault.Store (store.Damaged place)) good fit (un.1 t tells))
   fits_7 bus disk after (fault.Store store.TooSmall) row good un is well t tells (room, fit) = absurd (omega (arith, room, un.0))
   fits_7 bus disk after (fault.Store store.Memory) row good un (inl is) well t tells (room, fit) = inr (ap (λ (r : Row). r.status) is)
   fits_7 bus disk after (fault.Store store.Memory) row good un (inr (number, is)) well t tells (room, fit) = absurd number
-  fits_7 bus disk after (fault.OtherStore there) row good un is well t tells (room, fit) =
-      absurd (fit_refused bus.kind bus.version (node_config bus) t.bytes (fault.OtherStore there) good fit (un.1 t tells))
-  fits_7 bus disk after (fault.BadSlot slot) row good un is well t tells (room, fit) =
-      absurd (fit_refused bus.kind bus.version (node_config bus) t.bytes (fault.BadSlot slot) good fit (un.1 t tells))
-  fits_7 bus disk after (fault.BadBound place) row good un is well t tells (room, fit) =
-      absurd (fit_refused bus.kind bus.version (node_config bus) t.bytes (fault.BadBound place) good fit (un.1 t tells))
+  fits_7 bus disk after cause row good un is well t tells (room, fit) =
+      absurd (fit_refused bus.kind bus.version (node_config bus) t.bytes cause good fit (un.1 t tells))
 
   -- such a disk that is blank gets its store, and one that has it is left, or memory is out
   fits_0 : (bus : NamedBus) → AsksMake i.words → OffersNodeBus i.bus bus → OpenedWell i (StoreFits bus)

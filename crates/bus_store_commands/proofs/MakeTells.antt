@@ -1,13 +1,13 @@
 -- What a row of `slots make FILE BUS` says of the bus file's source, and of the disk
 use Rattle.std.specs.Prelude.{◌≡◌, ◌≢◌, ◌⊎◌, ℕ, ◌<◌, Option, List, [], codes}
-use Rattle.std.proofs.Common.{refl, sym, ap, ◌∙◌, subst, arith, inl, inr}
+use Rattle.std.proofs.Common.{refl, sym, ◌∙◌, subst, arith, inl, inr}
 use Rattle.cut_disk.specs.State.{DiskState, Told}
 use Rattle.cell_store.specs.declared.kinds.Kind.{Kind}
 use Rattle.cell_store.specs.declared.kinds.Version.{Version}
 use Rattle.cell_store.specs.declared.faults.StoreFault.TheVariants as store
 use Rattle.cell_store.proofs.CallerLemmas.{stands_once, stands-whole}
 use Rattle.any_cells.specs.declared.looking.Found.{Found}
-use Rattle.any_cells.specs.declared.looking.Found.TheVariants.{Blank, Standing, Older, Foreign}
+use Rattle.any_cells.specs.declared.looking.Found.TheVariants.{Blank, Standing}
 use Rattle.any_cells.specs.Either.{layout}
 use Rattle.any_cells.specs.Looking.{IsFound}
 use Rattle.any_cells.proofs.CallerLemmas.{found-once}
@@ -34,98 +34,45 @@ abbrev pub IsUnmadeStatus : ℕ → Type 0
 IsUnmadeStatus status = (status ≡ 9) ⊎ ((status ≡ 10) ⊎ (status ≡ 7))
 
 make_status : (cause : MakeFault) → IsUnmadeStatus (make_row cause).status
-make_status (fault.Store store.DiskFailed) = inr (inl refl)
-make_status (fault.Store store.NotFormatted) = inl refl
-make_status (fault.Store (store.Damaged place)) = inl refl
-make_status (fault.Store store.TooSmall) = inl refl
-make_status (fault.Store store.Memory) = inr (inr refl)
-make_status (fault.OtherStore there) = inl refl
-make_status (fault.BadSlot slot) = inl refl
-make_status (fault.BadBound place) = inl refl
+make_status cause = grind arith
 
 pub unmade_status : (cause : MakeFault) (row : Row) → IsMakeRow cause row → IsUnmadeStatus row.status
-unmade_status cause row (inl is) = subst (λ (r : Row). IsUnmadeStatus r.status) (sym is) (make_status cause)
-unmade_status cause row (inr (number, is)) = inr (inr (ap (λ (r : Row). r.status) is))
+unmade_status cause row is = grind (arith, make_status)
 
 module _ (kind : Kind) (version : Version) (config : Config) (before after : DiskState) where
   left_at_9 : (cause : MakeFault) → StoreUnmade kind version config before after cause → (make_row cause).status ≡ 9 → LeftAsItWas before after
-  left_at_9 (fault.Store store.DiskFailed) un is = absurd (omega (arith, is))
-  left_at_9 (fault.Store store.NotFormatted) un is = un.0
-  left_at_9 (fault.Store (store.Damaged place)) un is = un.0
-  left_at_9 (fault.Store store.TooSmall) un is = (ap (λ (d : DiskState). d.told) un.1, ap (λ (d : DiskState). d.faults) un.1)
-  left_at_9 (fault.Store store.Memory) un is = absurd (omega (arith, is))
-  left_at_9 (fault.OtherStore there) un is = un.0
-  left_at_9 (fault.BadSlot slot) un is = un.0
-  left_at_9 (fault.BadBound place) un is = un.0
+  left_at_9 cause un is = grind arith
 
   -- 9: nothing was written
   pub unmade_at_9 : (cause : MakeFault) (row : Row) → StoreUnmade kind version config before after cause → IsMakeRow cause row → row.status ≡ 9
       → LeftAsItWas before after × ((make_row cause).status ≡ 9) × (row ≡ make_row cause)
-  unmade_at_9 cause row un (inl is) nine =
-      let same = sym (ap (λ (r : Row). r.status) is) ∙ nine in
-      (left_at_9 cause un same, same, is)
-  unmade_at_9 cause row un (inr (number, is)) nine = absurd (omega (arith, nine, ap (λ (r : Row). r.status) is))
+  unmade_at_9 cause row un comes nine = grind (arith, left_at_9)
 
   failed_at_10 : (cause : MakeFault) → StoreUnmade kind version config before after cause → (make_row cause).status ≡ 10
       → FailedToMake kind version config before after × ((make_row cause).text ≡ codes "store: DiskFailed\n")
-  failed_at_10 (fault.Store store.DiskFailed) un is = (un, refl)
-  failed_at_10 (fault.Store store.NotFormatted) un is = absurd (omega (arith, is))
-  failed_at_10 (fault.Store (store.Damaged place)) un is = absurd (omega (arith, is))
-  failed_at_10 (fault.Store store.TooSmall) un is = absurd (omega (arith, is))
-  failed_at_10 (fault.Store store.Memory) un is = absurd (omega (arith, is))
-  failed_at_10 (fault.OtherStore there) un is = absurd (omega (arith, is))
-  failed_at_10 (fault.BadSlot slot) un is = absurd (omega (arith, is))
-  failed_at_10 (fault.BadBound place) un is = absurd (omega (arith, is))
+  failed_at_10 cause un is = grind arith
 
   -- 10: the disk failed
   pub unmade_at_10 : (cause : MakeFault) (row : Row) → StoreUnmade kind version config before after cause → IsMakeRow cause row → row.status ≡ 10
       → FailedToMake kind version config before after × (row.text ≡ codes "store: DiskFailed\n")
-  unmade_at_10 cause row un (inl is) ten =
-      let (failed, text) = failed_at_10 cause un (sym (ap (λ (r : Row). r.status) is) ∙ ten) in
-      (failed, ap (λ (r : Row). r.text) is ∙ text)
-  unmade_at_10 cause row un (inr (number, is)) ten = absurd (omega (arith, ten, ap (λ (r : Row). r.status) is))
+  unmade_at_10 cause row un comes ten = grind (arith, failed_at_10)
 
   -- the disk's count rose: it failed
   pub rose_is_10 : (cause : MakeFault) (row : Row) → StoreUnmade kind version config before after cause → IsMakeRow cause row
       → before.faults < after.faults → row.status ≡ 10
-  rose_is_10 (fault.Store store.DiskFailed) row un (inl is) rose = ap (λ (r : Row). r.status) is
-  rose_is_10 (fault.Store store.DiskFailed) row un (inr (number, is)) rose = absurd number
-  rose_is_10 (fault.Store store.NotFormatted) row un is rose = absurd (omega (arith, rose, un.0.1))
-  rose_is_10 (fault.Store (store.Damaged place)) row un is rose = absurd (omega (arith, rose, un.0.1))
-  rose_is_10 (fault.Store store.TooSmall) row un is rose = absurd (omega (arith, rose, ap (λ (d : DiskState). d.faults) un.1))
-  rose_is_10 (fault.Store store.Memory) row un is rose = absurd (omega (arith, rose, un.1))
-  rose_is_10 (fault.OtherStore there) row un is rose = absurd (omega (arith, rose, un.0.1))
-  rose_is_10 (fault.BadSlot slot) row un is rose = absurd (omega (arith, rose, un.0.1))
-  rose_is_10 (fault.BadBound place) row un is rose = absurd (omega (arith, rose, un.0.1))
+  rose_is_10 cause row un is rose = grind arith
 
 -- 7: nothing was written
 pub left_at_7 : (kind : Kind) (version : Version) (config : Config) (before after : DiskState) (cause : MakeFault) (row : Row)
     → StoreUnmade kind version config before after cause → IsMakeRow cause row → row.status ≡ 7 → LeftAsItWas before after
-left_at_7 kind version config before after (fault.Store store.DiskFailed) row un (inl is) seven = absurd (omega (arith, seven, ap (λ (r : Row). r.status) is))
-left_at_7 kind version config before after (fault.Store store.DiskFailed) row un (inr (number, is)) seven = absurd number
-left_at_7 kind version config before after (fault.Store store.NotFormatted) row un is seven = un.0
-left_at_7 kind version config before after (fault.Store (store.Damaged place)) row un is seven = un.0
-left_at_7 kind version config before after (fault.Store store.TooSmall) row un is seven =
-    (ap (λ (d : DiskState). d.told) un.1, ap (λ (d : DiskState). d.faults) un.1)
-left_at_7 kind version config before after (fault.Store store.Memory) row un is seven = un
-left_at_7 kind version config before after (fault.OtherStore there) row un is seven = un.0
-left_at_7 kind version config before after (fault.BadSlot slot) row un is seven = un.0
-left_at_7 kind version config before after (fault.BadBound place) row un is seven = un.0
+left_at_7 kind version config before after cause row un is seven = grind arith
 
 -- 7: nothing is printed
 make_text_7 : (cause : MakeFault) → (make_row cause).status ≡ 7 → (make_row cause).text ≡ []
-make_text_7 (fault.Store store.DiskFailed) is = absurd (omega (arith, is))
-make_text_7 (fault.Store store.NotFormatted) is = absurd (omega (arith, is))
-make_text_7 (fault.Store (store.Damaged place)) is = absurd (omega (arith, is))
-make_text_7 (fault.Store store.TooSmall) is = absurd (omega (arith, is))
-make_text_7 (fault.Store store.Memory) is = refl
-make_text_7 (fault.OtherStore there) is = absurd (omega (arith, is))
-make_text_7 (fault.BadSlot slot) is = absurd (omega (arith, is))
-make_text_7 (fault.BadBound place) is = absurd (omega (arith, is))
+make_text_7 cause is = grind arith
 
 pub unmade_text_7 : (cause : MakeFault) (row : Row) → IsMakeRow cause row → row.status ≡ 7 → row.text ≡ []
-unmade_text_7 cause row (inl is) seven = ap (λ (r : Row). r.text) is ∙ make_text_7 cause (sym (ap (λ (r : Row). r.status) is) ∙ seven)
-unmade_text_7 cause row (inr (number, is)) seven = ap (λ (r : Row). r.text) is
+unmade_text_7 cause row is seven = grind (arith, make_text_7)
 
 -- ---- bytes are refused, or a store is made or found
 
@@ -139,25 +86,14 @@ module _ (kind : Kind) (version : Version) (config : Config) (x : List ℕ) wher
 
   -- zeros are taken, and so is a store that stands
   blank_taken : IsUnused kind version config x → IsNotTaken kind version config x → ⊥
-  blank_taken blank (inl foreign) = two_found Blank Foreign blank.0 foreign (λ same. cc same)
-  blank_taken blank (inr (inl older)) = two_found Blank Older blank.0 older (λ same. cc same)
-  blank_taken blank (inr (inr used)) = used.1 blank.1
+  blank_taken blank it = grind (arith, two_found)
 
   standing_taken : IsFound kind version (cells_in config) x Standing → IsNotTaken kind version config x → ⊥
-  standing_taken standing (inl foreign) = two_found Standing Foreign standing foreign (λ clash. cc clash)
-  standing_taken standing (inr (inl older)) = two_found Standing Older standing older (λ clash. cc clash)
-  standing_taken standing (inr (inr used)) = two_found Standing Blank standing used.0 (λ clash. cc clash)
+  standing_taken standing it = grind (arith, two_found)
 
   -- zeros aren't refused
   pub blank_refused : (cause : MakeFault) → IsUnused kind version config x → BytesRefused kind version config x cause → ⊥
-  blank_refused (fault.Store store.DiskFailed) blank refused = refused
-  blank_refused (fault.OtherStore there) blank refused = blank_taken blank refused.0
-  blank_refused (fault.Store store.NotFormatted) blank refused = blank_taken blank refused.0
-  blank_refused (fault.Store (store.Damaged place)) blank refused = blank_standing blank.0 refused.0
-  blank_refused (fault.Store store.TooSmall) blank refused = refused
-  blank_refused (fault.Store store.Memory) blank refused = refused
-  blank_refused (fault.BadSlot slot) blank refused = blank_standing blank.0 refused.0
-  blank_refused (fault.BadBound place) blank refused = blank_standing blank.0 refused.0
+  blank_refused cause blank refused = grind (arith, blank_taken, blank_standing)
 
 -- nor are those of a node's store that stands
 pub fit_refused : (kind : Kind) (version : Version) (config : Config) (x : List ℕ) (cause : MakeFault) → IsConfig config

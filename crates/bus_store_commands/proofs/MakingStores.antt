@@ -1,5 +1,5 @@
 -- A node's store that is made or found on a disk, from what looks, formats and attaching ensure
-use Rattle.std.specs.Prelude.{◌≡◌, ◌↔◌, ℕ, ◌+◌, ◌-◌, ◌<◌, ◌≤◌, Bool, true, false, IsTrue, Option, Some, List, length, take, replicate, Result, Ok, Err, IfErr}
+use Rattle.std.specs.Prelude.{◌≡◌, ◌↔◌, ℕ, ◌+◌, ◌-◌, ◌≤◌, Bool, true, false, IsTrue, Option, Some, List, length, take, replicate, Result, Ok, Err, IfErr}
 use Rattle.std.proofs.Common.{refl, sym, ap, ◌∙◌, subst, arith, inl, inr}
 use Rattle.cut_disk.specs.State.{DiskState, Told}
 use Rattle.std.proofs.lemmas.Bool.{false≢true}
@@ -8,7 +8,6 @@ use Rattle.cut_disk.specs.Calls.{Rose, IsQuiet, IsDisk, AsBefore}
 use Rattle.cut_disk.specs.Images.{ReadsAs}
 use Rattle.cut_disk.proofs.CallerLemmas.{quiet_never_rose}
 use Rattle.cell_store.specs.declared.kinds.Kind.{Kind}
-use Rattle.cell_store.specs.declared.kinds.Kind.TheVariants.{Twin, Log}
 use Rattle.cell_store.specs.declared.kinds.Version.{Version}
 use Rattle.cell_store.specs.declared.kinds.Version.TheVariants.{One, Two}
 use Rattle.cell_store.specs.declared.faults.StoreFault.{StoreFault}
@@ -19,7 +18,7 @@ use Rattle.cell_store.specs.Store.{HasHeader, Stands, store_size}
 use Rattle.cell_store.specs.Formats.{FreshOn, LeavesUnformed}
 use Rattle.cell_store.specs.Attaching.{Attached, NotAttached, Formatted, NotFormed}
 use Rattle.any_cells.specs.declared.looking.Found.{Found}
-use Rattle.any_cells.specs.declared.looking.Found.TheVariants.{Blank, Standing, Older, Foreign}
+use Rattle.any_cells.specs.declared.looking.Found.TheVariants.{Blank, Standing}
 use Rattle.any_cells.specs.Either.{layout}
 use Rattle.any_cells.specs.Looking.{IsFound}
 use Rattle.freshness_routes.specs.Config.{Config, IsConfig}
@@ -38,10 +37,7 @@ use Rattle.bus_store_commands.specs.NodeStores.{made, stood, StoreMade, StoreUnm
 
 -- a disk with room for a store has room for a header
 pub head_room : (kind : Kind) (version : Version) (n size : ℕ) → store_size (layout kind version) n ≤ size → 32 ≤ size
-head_room Twin One n size room = omega (arith, room)
-head_room Twin Two n size room = omega (arith, room)
-head_room Log One n size room = omega (arith, room)
-head_room Log Two n size room = omega (arith, room)
+head_room kind version n size room = grind arith
 
 -- ---- what a look finds
 
@@ -68,10 +64,7 @@ module _ (kind : Kind) (version : Version) (config : Config) where
   -- what isn't blank and doesn't stand isn't taken
   pub refused_found : (what : Found) (x : List ℕ) → IsFound kind version (cells_in config) x what → ¬ (what ≡ Blank) → ¬ (what ≡ Standing)
       → IsNotTaken kind version config x
-  refused_found Blank x is not_blank not_standing = absurd (not_blank refl)
-  refused_found Standing x is not_blank not_standing = absurd (not_standing refl)
-  refused_found Older x is not_blank not_standing = inr (inl is)
-  refused_found Foreign x is not_blank not_standing = inl is
+  refused_found what x is not_blank not_standing = grind arith
 
   -- told bytes are all zeros
   abbrev Unused : DiskState → Type 0
@@ -94,16 +87,7 @@ module _ (kind : Kind) (version : Version) (config : Config) where
   pub new_unmade : (calls : ℕ) (before after : DiskState) (first : List (List ℕ)) (f : StoreFault) → first ≡ new_cells config → IsConfig config
       → NotFormed (layout kind version) calls first before after f → Unused before
       → StoreUnmade kind version config before after (fault.Store f)
-  new_unmade calls before after first store.TooSmall is good h blank =
-      (subst (λ (n : ℕ). before.size < store_size (layout kind version) n) (ap length is ∙ new_length good) h.0, h.1)
-  new_unmade calls before after first store.DiskFailed is good h blank = (
-    h.rose,
-    (λ quiet. quiet_never_rose quiet (h.runs.quiet refl quiet) h.rose),
-    inr (blank, subst (λ (c : List (List ℕ)). LeavesUnformed (layout kind version) c before.told after.told) is h.unformed),
-  )
-  new_unmade calls before after first store.NotFormatted is good h blank = absurd h
-  new_unmade calls before after first (store.Damaged place) is good h blank = absurd h
-  new_unmade calls before after first store.Memory is good h blank = absurd h
+  new_unmade calls before after first f is good h blank = grind (arith, new_length, quiet_never_rose)
 
   -- ---- one that stands
 
@@ -186,15 +170,7 @@ module _ (kind : Kind) (version : Version) (config : Config) where
 
     pub unmade_after : (after : DiskState) (f : MakeFault) → store_size (layout kind version) (cells_in config) ≤ before.size
         → StoreUnmade kind version config mid after f → StoreUnmade kind version config before after f
-    unmade_after after (fault.Store store.TooSmall) room h =
-        let still = room_after room in absurd (omega (arith, still, h.0))
-    unmade_after after (fault.Store store.DiskFailed) room h = failed_after after h
-    unmade_after after (fault.Store store.Memory) room h = left_after after h
-    unmade_after after (fault.Store store.NotFormatted) room h = (left_after after h.0, λ t tells. h.1 t (look.told ∙ tells))
-    unmade_after after (fault.Store (store.Damaged place)) room h = (left_after after h.0, λ t tells. h.1 t (look.told ∙ tells))
-    unmade_after after (fault.OtherStore there) room h = (left_after after h.0, λ t tells. h.1 t (look.told ∙ tells))
-    unmade_after after (fault.BadSlot slot) room h = (left_after after h.0, λ t tells. h.1 t (look.told ∙ tells))
-    unmade_after after (fault.BadBound place) room h = (left_after after h.0, λ t tells. h.1 t (look.told ∙ tells))
+    unmade_after after f room h = grind (arith, room_after, failed_after, left_after)
 
     -- all bytes were read: they are zeros, or one of them isn't
     pub unused_after : (zeros : Bool) → FindsTold before Blank → ((t : Told) → before.told ≡ Some t → IsTrue zeros ↔ AllZeros t.bytes)
@@ -210,27 +186,14 @@ module _ (kind : Kind) (version : Version) (config : Config) where
     -- what isn't the node's store, and isn't blank: another that stands is named
     pub other_named : (after : DiskState) (f : MakeFault) → ((t : Told) → before.told ≡ Some t → IsNotTaken kind version config t.bytes)
         → NamesOther mid after f → StoreUnmade kind version config before after f
-    other_named after (fault.OtherStore there) not_taken h =
-        (left_after after h.0, λ t tells. (not_taken t tells, h.1 t (look.told ∙ tells)))
-    other_named after (fault.Store store.NotFormatted) not_taken h =
-        (left_after after h.0, λ t tells. (not_taken t tells, h.1 t (look.told ∙ tells)))
-    other_named after (fault.Store store.DiskFailed) not_taken (rose, not, told) = failed_after after (rose, not, inl told)
-    other_named after (fault.Store store.TooSmall) not_taken h = absurd h
-    other_named after (fault.Store store.Memory) not_taken h = absurd h
-    other_named after (fault.Store (store.Damaged place)) not_taken h = absurd h
-    other_named after (fault.BadSlot slot) not_taken h = absurd h
-    other_named after (fault.BadBound place) not_taken h = absurd h
+    other_named after f not_taken h = grind (arith, left_after, failed_after)
 
     pub not_taken_found : (what : Found) → FindsTold before what → ¬ (what ≡ Blank) → ¬ (what ≡ Standing)
         → (t : Told) → before.told ≡ Some t → IsNotTaken kind version config t.bytes
     not_taken_found what finds not_blank not_standing t tells = refused_found what t.bytes (finds t tells) not_blank not_standing
 
   pub zeros_unread : (before mid : DiskState) (f : StoreFault) → ZerosUnread before mid f → StoreUnmade kind version config before mid (fault.Store f)
-  zeros_unread before mid store.Memory h = h
-  zeros_unread before mid store.DiskFailed (rose, not, told) = (rose, not, inl told)
-  zeros_unread before mid store.TooSmall h = absurd h
-  zeros_unread before mid store.NotFormatted h = absurd h
-  zeros_unread before mid (store.Damaged place) h = absurd h
+  zeros_unread before mid f h = grind arith
 
   pub look_failed : {calls : ℕ} (before mid : DiskState) → ReadFailed calls before mid
       → StoreUnmade kind version config before mid (fault.Store store.DiskFailed)

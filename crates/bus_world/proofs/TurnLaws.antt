@@ -7,7 +7,7 @@ use Rattle.machine_runs.specs.Run.{Moment, Run, commands_in, lines_in}
 use Rattle.machine_runs.proofs.CallerLemmas.{MemberSteps-length}
 use Rattle.bus_machine.specs.declared.events.Event.{Event}
 use Rattle.bus_machine.specs.declared.lines.Line.{Line}
-use Rattle.bus_script.specs.LineKinds.{IsLine}
+use Rattle.bus_machine.specs.LineKinds.{IsLine}
 use Rattle.bus_world.specs.Worlds.{BusState, BusTurn}
 use Rattle.bus_world.specs.WorldTurns.{seen}
 

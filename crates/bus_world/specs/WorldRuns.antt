@@ -15,7 +15,7 @@ use Rattle.bus_machine.specs.Skips.{SkipsLittle}
 use Rattle.bus_machine.specs.Honest.{HonestDelivery, IsHeard}
 use Rattle.bus_laws.specs.Laws.{IsFirst, OneSender}
 use Rattle.bus_config.specs.Buses.{NamedBus}
-use Rattle.bus_script.specs.LineKinds.{IsLine}
+use Rattle.bus_machine.specs.LineKinds.{IsLine}
 use Rattle.bus_world.specs.NodeDisks.{AreQuiet, mark_at, tells_failure, fails_at, DisksFollow}
 
 -- a first world with as many nodes as the bus, in which each Data ID has one sender

@@ -4,7 +4,7 @@ use Rattle.machine_runs.specs.Members.{MemberSteps}
 use Rattle.machine_runs.specs.Run.{Moment, Run, seen_as}
 use Rattle.bus_machine.specs.declared.events.Event.{Event}
 use Rattle.bus_machine.specs.declared.lines.Line.{Line}
-use Rattle.bus_script.specs.LineKinds.{IsLine}
+use Rattle.bus_machine.specs.LineKinds.{IsLine}
 use Rattle.bus_machine.specs.Bus.{World, SentLine, node_of, NamesSource, sent_after, Step, SoundBus}
 use Rattle.bus_machine.specs.Past.{mark_of}
 use Rattle.bus_machine.specs.Node.{place_of}

@@ -8,7 +8,7 @@ use Rattle.bus_machine.specs.declared.events.Event.{Event}
 use Rattle.bus_machine.specs.declared.lines.Line.{Line}
 use Rattle.bus_config.specs.declared.node_lines.NodeLine.{NodeLine}
 use Rattle.bus_script.specs.LineTexts.{told_words}
-use Rattle.bus_script.specs.LineKinds.{IsLine}
+use Rattle.bus_machine.specs.LineKinds.{IsLine}
 use Rattle.text_lines.specs.Spaced.{spaced}
 use Rattle.bus_script.specs.ScriptEvents.{HasFields, IsScriptEvent}
 use Rattle.chart_svg.specs.declared.marks.Origin.TheVariants.{EventRow, Outside}

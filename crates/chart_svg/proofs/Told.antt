@@ -17,7 +17,7 @@ use Rattle.bus_machine.specs.declared.lines.Line.TheVariants.{Sent, Accepted, Fr
 use Rattle.bus_machine.specs.declared.lines.Refusal.{Refusal}
 use Rattle.bus_machine.specs.declared.lines.Refusal.TheVariants.{Down, NoRoute, BadLength, Key, Exhausted, MemoryFailure, NotFormatted, Damaged, BadSlot, BadBound}
 use Rattle.bus_script.specs.LineTexts.{told_words, refusal_words, source_word, boot_word}
-use Rattle.bus_script.specs.LineKinds.{IsLine}
+use Rattle.bus_machine.specs.LineKinds.{IsLine}
 use Rattle.text_lines.specs.Spaced.{spaced}
 use Rattle.bus_script.specs.Canon.{torn_word}
 use Rattle.bus_script.specs.ScriptEvents.{HasFields, IsTorn}

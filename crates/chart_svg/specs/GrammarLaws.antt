@@ -4,7 +4,7 @@ use Rattle.bus_machine.specs.declared.events.Event.{Event}
 use Rattle.bus_machine.specs.declared.lines.Line.{Line}
 use Rattle.bus_config.specs.Buses.{NamedBus, IsNamedBus}
 use Rattle.bus_script.specs.ScriptEvents.{IsScriptEvent}
-use Rattle.bus_script.specs.LineKinds.{IsLine}
+use Rattle.bus_machine.specs.LineKinds.{IsLine}
 use Rattle.bus_script.specs.LineTexts.{line_text}
 use Rattle.chart_svg.specs.ChartTexts.{title_of_row, chart_text}
 use Rattle.chart_svg.specs.Grammar.{IsDocument}

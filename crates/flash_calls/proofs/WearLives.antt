@@ -16,7 +16,7 @@ use Rattle.flash_plan.specs.declared.plans.PlanStep.TheVariants.{Heading, Copied
 use Rattle.flash_plan.specs.declared.plans.FlashPlan.{FlashPlan}
 use Rattle.flash_plan.specs.declared.operations.FlashOutcome.{FlashOutcome}
 use Rattle.flash_plan.specs.declared.operations.FlashOutcome.TheVariants.{Answered, Done, Failed}
-use Rattle.flash_plan.specs.Plans.{IsIdleStep, ReadsAt, step_operation, operation_of, put_in, put_left}
+use Rattle.flash_plan.specs.Plans.{IsIdleStep, ReadsAt, SkipsOlder, step_operation, operation_of, put_in, put_left}
 use Rattle.flash_plan.specs.Standing.{StepAt}
 use Rattle.flash_plan.specs.Turns.{deed_in}
 use Rattle.flash_plan.specs.Wear.{puts_to_bank, erases_by, erase_credit}
@@ -242,3 +242,29 @@ call_fails s deeds a b begun lives failed = elim (lives_fail s deeds a b lives f
   | inl there ↦ absurd (heads_not (plan_in a.numbers).step begun.begun.first there.0)
   | inr r ↦ r
 ]
+
+-- ---- which banks are read on
+
+abbrev Skips : CallState → Type 0
+Skips a = SkipsOlder (plan_in a.numbers).best (plan_in a.numbers).step
+
+begun_skips : (s : FlashSizes) (b : CallState) → CallBegun s b → Skips b
+begun_skips s b h = subst (λ (t : PlanStep). SkipsOlder (plan_in b.numbers).best t) (sym h.begun.first) tt
+
+deed_skips : (s : FlashSizes) (deed : CallDeed) (a b : CallState) → DoesCall s deed a b → Skips a → Skips b
+deed_skips s (performs put outcome bytes) a b d h = d.reported.skips h
+deed_skips s (takes_put cell payload) a b d h =
+    let r = ready_step (plan_in a.numbers).step d.taken.idle.step in
+    elim (cases_lt r.next a.numbers.places) [
+      | inl below ↦ subst (λ (t : PlanStep). SkipsOlder (plan_in b.numbers).best t) (sym (d.taken.programs r.bank r.generation r.next r.is below ∙ r.is)) tt
+      | inr above ↦ subst (λ (t : PlanStep). SkipsOlder (plan_in b.numbers).best t) (sym (d.taken.copies r.bank r.generation r.next r.is (omega (arith, above)))) tt
+    ]
+deed_skips s starts a b d h = begun_skips s b d.begun
+deed_skips s (is_cut put) a b d h = begun_skips s b d.begun
+
+lives_skip : (s : FlashSizes) (deeds : List CallDeed) (a b : CallState) → Skips a → CallLives s deeds a b → Skips b
+lives_skip s [] a b h same = subst Skips (sym same) h
+lives_skip s (deed ∷ deeds) a c h lives = lives_skip s deeds lives.0 c (deed_skips s deed a lives.0 lives.1.0 h) lives.1.1
+
+pub call_skips : (s : FlashSizes) (deeds : List CallDeed) (a b : CallState) → CallBegun s a → CallLives s deeds a b → Skips b
+call_skips s deeds a b begun lives = lives_skip s deeds a b (begun_skips s a begun) lives

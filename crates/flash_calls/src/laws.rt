@@ -12,7 +12,7 @@ ghost use Rattle.flash_plan.specs.declared.plans.PlanEnd.TheVariants.{NoStore, F
 ghost use Rattle.flash_plan.specs.declared.plans.PlanStep.TheVariants.{Ended};
 ghost use Rattle.flash_plan.specs.declared.operations.Operation.{Operation};
 ghost use Rattle.flash_plan.specs.Performing.{MayBegin};
-ghost use Rattle.flash_plan.specs.Plans.{IsIdle, operation_of};
+ghost use Rattle.flash_plan.specs.Plans.{IsIdle, SkipsOlder, operation_of};
 ghost use Rattle.flash_calls.specs.Numbers.{plan_in};
 ghost use Rattle.flash_calls.specs.CallLives.{FlashSizes, CallState, CallDeed, CallLives, OperationsDone};
 ghost use Rattle.flash_calls.specs.CallLives.{CallBegun, CallFormatBegun, sizes_layout, puts_made, IsFoundStore};
@@ -91,4 +91,11 @@ pub fn erases_are_bounded()
 pub fn a_plan_fails_only_by_a_report()
     ensures { (s : FlashSizes) (deeds : List CallDeed) (a b : CallState) → CallBegun s a → CallLives s deeds a b
         → (plan_in b.numbers).step ≡ Ended end_failed → ReportsFailure s deeds a }
+{}
+
+/// A start reads on in a bank, behind its head, only if the head's generation is no lower than that of the latest log of
+/// the banks before it (`SkipsOlder`; `StandsAt` says that `best` is that log).
+pub fn a_start_skips_older_banks()
+    ensures { (s : FlashSizes) (deeds : List CallDeed) (a b : CallState) → CallBegun s a → CallLives s deeds a b
+        → SkipsOlder (plan_in b.numbers).best (plan_in b.numbers).step }
 {}

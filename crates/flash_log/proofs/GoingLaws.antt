@@ -63,7 +63,7 @@ module _ (l : FlashLayout) (bank g : ℕ) (cells : CellList) (f m m' : Flash) wh
 
 -- calls that follow one another
 pub runs_then : (a b c : FlashState) → FlashRuns a b → FlashRuns b c → FlashRuns a c
-runs_then a b c r s = record { banks = s.banks ∙ r.banks; places = s.places ∙ r.places; later = omega (arith, r.later, s.later) }
+runs_then a b c r s = record { banks = s.banks ∙ r.banks; places = s.places ∙ r.places; later = omega (arith, r.later, s.later); tells = s.tells ∙ r.tells }
 
 pub others_then : (bank : ℕ) (f g h : Flash) → SameOthers bank f g → SameOthers bank g h → SameOthers bank f h
 others_then bank f g h r s x ne k = s x ne k ∙ r x ne k

@@ -1,6 +1,7 @@
 pub mod GoingLaws
 pub mod CopyingLaws
 pub mod TakingLaws
+pub mod HeadLaws
 pub mod BankLaws
 pub mod FreeLaws
 pub mod ScanLaws

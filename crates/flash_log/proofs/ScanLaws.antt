@@ -8,14 +8,14 @@ use Rattle.flash_places.specs.declared.FlashLine.TheVariants.{Head}
 use Rattle.flash_places.specs.Places.{FlashPlace, Flash, SameBank, SameOthers, Looks, LooksAll, sees, sees_nothing, whole_place}
 use Rattle.std.proofs.lemmas.Option.{same_Some}
 use Rattle.flash_laws.specs.Logs.{CellList, IsLog}
-use Rattle.flash_laws.specs.Lives.{FlashLayout, ScanFinds, off, found, scans, cuts_scan}
+use Rattle.flash_laws.specs.Lives.{FlashLayout, ScanFinds, Scans, off, found, scans, cuts_scan}
 use Rattle.flash_log.specs.declared.reading.LogEnd.{LogEnd}
 use Rattle.flash_log.specs.declared.scanning.FoundLog.{FoundLog}
 use Rattle.flash_log.specs.declared.scanning.Best.{Best}
 use Rattle.flash_log.specs.declared.scanning.Best.TheVariants.{NoLog, One, Tie}
 use Rattle.flash_log.specs.Going.{machine, Goes, BlankFrom}
-use Rattle.flash_log.specs.Taking.{ReadsLog, ReadsBankPart, NoLaterHead}
-use Rattle.flash_log.specs.Scanned.{HaveNone, HaveOne, HaveTwo, BestIs, ScannedTo, NoLogCounts, FreeBest, NoLaterHeads, found_at, judged, is_newest, is_past}
+use Rattle.flash_log.specs.Taking.{ReadsLog, ReadsBankPart}
+use Rattle.flash_log.specs.Scanned.{HaveNone, HaveOne, HaveTwo, BestIs, ScannedTo, NoLogCounts, FreeBest, ToldBest, found_at, judged, is_newest, is_past}
 use Rattle.flash_log.proofs.GoingLaws.{goes_one}
 use Rattle.flash_log.proofs.TakingLaws.{answer_of, unlooked}
 
@@ -289,10 +289,10 @@ two_count_not l read t h s =
 -- ---- all banks were read
 
 module _ (l : FlashLayout) (count : ℕ) (f g : Flash) (cells : CellList) (all : count ≡ l.banks) where
-  pub scan_found : (log : FoundLog) → ScannedTo l.cells count f g (One log) cells → Goes l (machine f off) (machine g (found log.bank log.generation cells log.next))
-  scan_found log s =
+  pub scan_is : (log : FoundLog) → ScannedTo l.cells count f g (One log) cells → Scans l (machine f off) (machine g (found log.bank log.generation cells log.next))
+  scan_is log s =
       let h : HaveOne l.cells s.read l.banks log cells = subst (λ k. HaveOne l.cells s.read k log cells) all s.is in
-      goes_one l scans _ _ (λ old new e. e, tt) (record {
+      record {
         was = refl;
         read = s.read;
         looks = s.looks;
@@ -302,7 +302,10 @@ module _ (l : FlashLayout) (count : ℕ) (f g : Flash) (cells : CellList) (all :
         next = log.next;
         counts = record { inside = h.inside; log = h.is; wins = λ x g left end below ne that. h.wins x g left end below ne that };
         now = refl;
-      })
+      }
+
+  pub scan_found : (log : FoundLog) → ScannedTo l.cells count f g (One log) cells → Goes l (machine f off) (machine g (found log.bank log.generation cells log.next))
+  scan_found log s = goes_one l scans _ _ (λ old new e. e, tt) (scan_is log s)
 
   pub scan_none : ScannedTo l.cells count f g NoLog cells → NoLogCounts l f g
   scan_none s = record { read = s.read; looks = s.looks; none = none_counts l s.read (subst (λ k. HaveNone l.cells s.read k) all s.is) }
@@ -334,10 +337,33 @@ module _ (n i : ℕ) (read : ℕ → ℕ → Option FlashLine) (m g : Flash) (ce
     free_judged (One old) h free = free_one old h free (nat_lt old.generation log.generation) (nat_eq old.generation log.generation)
     free_judged (Tie t) h free = free_tie t (nat_lt t log.generation)
 
-pub heads_more : (f g : Flash) (i : ℕ) (old new : List ℕ) (latest later : ℕ) → later ≡ suc i → SameOthers i f g → NoLaterHeads f i old → NoLaterHead (g i 0) latest
-    → get_or new i 0 ≡ latest → ((x : ℕ) → x ≢ i → get_or new x 0 ≡ get_or old x 0) → NoLaterHeads g later new
-heads_more f g i old new latest later e others before now here rest x below = elim (cases_eq x i) [
-  | inl is ↦ subst (λ z. NoLaterHead (g z 0) (get_or new z 0)) (sym is) (subst (λ b. NoLaterHead (g i 0) b) (sym here) now)
-  | inr ne ↦ subst (λ b. NoLaterHead (g x 0) b) (sym (rest x ne))
-      (subst (λ (p : FlashPlace). NoLaterHead p (get_or old x 0)) (sym (others x ne 0)) (before x (omega (arith, below, e, ne))))
+  pub told_same : (best : Best) → BestIs n read i best cells → ToldBest m best → ToldBest g best
+  told_same NoLog h told = tt
+  told_same (One log) h told = λ blank. told (λ k from. sym (others log.bank (λ x. absurd (omega (arith, x, h.inside))) k) ∙ blank k from)
+  told_same (Tie t) h told = tt
+
+  module _ (log : LogEnd) (new : BlankFrom g i log.next → log.is_free ≡ true) where
+    told_one : (old : FoundLog) → BestIs n read i (One old) cells → ToldBest m (One old) → (less same : Bool)
+        → ToldBest g (if less then One (found_at i log) else (if same then Tie log.generation else One old))
+    told_one old h told true same = new
+    told_one old h told false true = tt
+    told_one old h told false false = told_same (One old) h told
+
+    told_tie : (t : ℕ) (less : Bool) → ToldBest g (if less then One (found_at i log) else Tie t)
+    told_tie t true = new
+    told_tie t false = tt
+
+    pub told_judged : (best : Best) → BestIs n read i best cells → ToldBest m best → ToldBest g (judged best i log)
+    told_judged NoLog h told = new
+    told_judged (One old) h told = told_one old h told (nat_lt old.generation log.generation) (nat_eq old.generation log.generation)
+    told_judged (Tie t) h told = told_tie t (nat_lt t log.generation)
+
+-- what is noted of the first place of each bank, and of one bank more
+pub heads_more : (Notes : FlashPlace → ℕ → Type 0) (f g : Flash) (i : ℕ) (old new : List ℕ) (latest later : ℕ) → later ≡ suc i → SameOthers i f g
+    → ((x : ℕ) → x < i → Notes (f x 0) (get_or old x 0)) → Notes (g i 0) latest
+    → get_or new i 0 ≡ latest → ((x : ℕ) → x ≢ i → get_or new x 0 ≡ get_or old x 0) → (x : ℕ) → x < later → Notes (g x 0) (get_or new x 0)
+heads_more Notes f g i old new latest later e others before now here rest x below = elim (cases_eq x i) [
+  | inl is ↦ subst (λ z. Notes (g z 0) (get_or new z 0)) (sym is) (subst (λ b. Notes (g i 0) b) (sym here) now)
+  | inr ne ↦ subst (λ b. Notes (g x 0) b) (sym (rest x ne))
+      (subst (λ (p : FlashPlace). Notes p (get_or old x 0)) (sym (others x ne 0)) (before x (omega (arith, below, e, ne))))
 ]

@@ -1,5 +1,5 @@
 -- What a call of a store does, from one machine to the next.
-use Rattle.std.proofs.Common.{◌≡◌, ◌<◌, ◌≤◌, inr, ℕ, suc, List, get_or, length, set, refl, sym, ap, subst, ◌∙◌, arith}
+use Rattle.std.proofs.Common.{◌≡◌, ◌<◌, ◌≤◌, inl, inr, ℕ, suc, List, get_or, length, set, refl, sym, ap, subst, ◌∙◌, arith}
 use Rattle.flash_places.specs.declared.FlashLine.TheVariants.{Entry}
 use Rattle.flash_places.specs.Places.{Flash, Programs, CutsProgram}
 use Rattle.flash_laws.specs.Logs.{CellList}
@@ -7,8 +7,8 @@ use Rattle.flash_laws.specs.Lives.{FlashLayout, FlashStage, off, found, ready, r
 use Rattle.flash_log.specs.Going.{machine, Goes, BlankFrom, Renews, CutsRenew}
 use Rattle.flash_log.specs.declared.scanning.FoundLog.{FoundLog}
 use Rattle.flash_log.specs.Taking.{last_generation}
-use Rattle.flash_log.specs.Scanned.{NoLaterHeads}
-use Rattle.flash_log.specs.Stores.{PutsIn, CutsPutIn}
+use Rattle.flash_log.specs.Scanned.{NoLaterHeads, NotesHeads}
+use Rattle.flash_log.specs.Stores.{PutsIn, CutsPutIn, MayGoOn}
 use Rattle.flash_laws.proofs.CallerLemmas.{next_inside}
 use Rattle.flash_log.proofs.GoingLaws.{layout_of, goes_then, goes_one}
 
@@ -75,3 +75,19 @@ goes_on l banks log cells f g latest goes e two inside free heads was_read older
       same = λ bank k. refl;
       now = refl;
     }))
+
+lower : (a b top : ℕ) → a < b → b ≤ top → a < top
+lower a b top below most = omega (arith, below, most)
+
+-- if it may go on, what is noted of the next bank's head says so
+pub older_is_noted : (l : FlashLayout) (banks : ℕ) (log : FoundLog) (latest : List ℕ) (g : Flash) (top : ℕ) → banks ≡ l.banks → 2 ≤ l.banks → log.bank < l.banks → log.generation ≤ top
+    → NotesHeads g l.banks latest → MayGoOn l g log.bank log.generation log.next
+    → (get_or latest (next_bank banks log.bank) 0 < top) × (get_or latest (next_bank banks log.bank) 0 < log.generation)
+older_is_noted l banks log latest g top e two inside most noted may =
+    let note = noted (next_bank l.banks log.bank) (next_inside l.banks log.bank two inside) in
+    let below : get_or latest (next_bank l.banks log.bank) 0 < log.generation = elim may.older [
+      | inl blank ↦ (let is = note.none blank.0 in omega (arith, is, blank.1))
+      | inr head ↦ (let is = note.head head.0 head.1.0 in omega (arith, is, head.1.1))
+    ] in
+    subst (λ b. (get_or latest (next_bank b log.bank) 0 < top) × (get_or latest (next_bank b log.bank) 0 < log.generation)) (sym e)
+    (lower (get_or latest (next_bank l.banks log.bank) 0) log.generation top below most, below)

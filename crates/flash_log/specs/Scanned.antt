@@ -5,7 +5,7 @@ use Rattle.flash_places.specs.Places.{Flash, SameBank, LooksAll}
 use Rattle.flash_laws.specs.Logs.{CellList, IsLog}
 use Rattle.flash_laws.specs.Lives.{FlashLayout, ScanFinds}
 use Rattle.flash_log.specs.Going.{BlankFrom}
-use Rattle.flash_log.specs.Taking.{NoLaterHead}
+use Rattle.flash_log.specs.Taking.{NoLaterHead, NotesHead}
 use Rattle.flash_log.specs.declared.reading.LogEnd.{LogEnd}
 use Rattle.flash_log.specs.declared.scanning.FoundLog.{FoundLog}
 use Rattle.flash_log.specs.declared.scanning.Best.{Best}
@@ -72,6 +72,15 @@ abbrev pub FreeBest : Flash → Best → Type 0
 FreeBest f NoLog = Unit {0}
 FreeBest f (One log) = log.is_free ≡ true → BlankFrom f log.bank log.next
 FreeBest f (Tie generation) = Unit {0}
+
+-- if the best log's bank is free behind it, the log says so
+abbrev pub ToldBest : Flash → Best → Type 0
+ToldBest f NoLog = Unit {0}
+ToldBest f (One log) = BlankFrom f log.bank log.next → log.is_free ≡ true
+ToldBest f (Tie generation) = Unit {0}
+
+abbrev pub NotesHeads : Flash → ℕ → List ℕ → Type 0
+NotesHeads f count latest = (x : ℕ) → x < count → NotesHead (f x 0) (get_or latest x 0)
 
 -- these banks have no head of a later generation than what is noted of them
 abbrev pub NoLaterHeads : Flash → ℕ → List ℕ → Type 0

@@ -1,10 +1,11 @@
 -- A store in memory, beside the machine.
 use Rattle.std.specs.Prelude.{◌≡◌, ◌+◌, ◌^◌, ◌<◌, ◌⊎◌, ℕ, true, false, List, length, set}
+use Rattle.flash_places.specs.declared.FlashLine.TheVariants.{Head}
 use Rattle.basics.specs.FaultCount.{Rose}
-use Rattle.flash_places.specs.Places.{Flash}
+use Rattle.flash_places.specs.Places.{FlashPlace, Flash, SameFlash, blank_place, whole_place}
 use Rattle.flash_places.specs.State.{FlashState}
 use Rattle.flash_laws.specs.Logs.{CellList}
-use Rattle.flash_laws.specs.Lives.{FlashLayout, FlashMachine, FlashStage, off, found, ready, puts, cuts_put}
+use Rattle.flash_laws.specs.Lives.{FlashLayout, FlashMachine, FlashStage, Scans, off, found, ready, puts, cuts_put, next_bank}
 use Rattle.flash_log.specs.declared.store.FlashLog.{FlashLog}
 use Rattle.flash_log.specs.Taking.{last_generation}
 use Rattle.flash_log.specs.Going.{machine, layout_on, Goes, GoesAndDoes, BlankFrom}
@@ -29,6 +30,26 @@ pub record FindsLast (l : FlashLayout) (f g : Flash) : Type 0 where
   pub cells : CellList
   pub next : ℕ
   pub goes : Goes l (machine f off) (machine g (found bank last_generation cells next))
+
+-- a bank's first place is blank, or holds the head of an older log, and that stays
+abbrev pub HasOlderHead : FlashPlace → ℕ → Type 0
+HasOlderHead p generation =
+    ((p ≡ blank_place) × (0 < generation)) ⊎ ((g : ℕ) × ((p ≡ whole_place (Head g)) × (g < generation)))
+
+-- a start need not copy this log: all behind it is blank, and the next bank has at most an older head
+pub record MayGoOn (l : FlashLayout) (f : Flash) (bank generation next : ℕ) : Type 0 where
+  pub free : BlankFrom f bank next
+  pub older : HasOlderHead (f (next_bank l.banks bank) 0) generation
+
+-- One scan has found a log. If the store may go on in it, it does, and nothing but the scan is done to the flash.
+pub record GoesOnIfFree (l : FlashLayout) (f g : Flash) (s : FlashLog) (cells : CellList) : Type 0 where
+  pub bank : ℕ
+  pub generation : ℕ
+  pub next : ℕ
+  pub between : Flash
+  pub scanned : Scans l (machine f off) (machine between (found bank generation cells next))
+  pub goes_on : MayGoOn l between bank generation next
+      → SameFlash between g × (stage_of s cells ≡ ready bank generation cells next)
 
 abbrev pub PutsIn : FlashLayout → ℕ → List ℕ → FlashMachine → FlashMachine → Type 0
 PutsIn l cell payload a b = GoesAndDoes l (puts cell payload) a b

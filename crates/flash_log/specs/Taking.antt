@@ -4,7 +4,7 @@ use Rattle.flash_places.specs.declared.FlashLine.{FlashLine}
 use Rattle.flash_places.specs.declared.FlashLine.TheVariants.{Head, Entry}
 use Rattle.flash_places.specs.declared.Answer.{Answer}
 use Rattle.flash_places.specs.declared.Answer.TheVariants.{Whole, Blank, Nothing}
-use Rattle.flash_places.specs.Places.{FlashPlace, Flash, Looks, SameButAt, blank_place}
+use Rattle.flash_places.specs.Places.{FlashPlace, Flash, Looks, SameButAt, blank_place, whole_place}
 use Rattle.flash_laws.specs.Logs.{CellList, copy_lines, after_lines, IsLog}
 use Rattle.flash_log.specs.declared.reading.LogEnd.{LogEnd}
 
@@ -79,6 +79,11 @@ last_generation = 2 ^ 64 - 1
 -- this place has no head of a later generation; the last generation says nothing
 abbrev pub NoLaterHead : FlashPlace → ℕ → Type 0
 NoLaterHead p latest = latest < last_generation → (g : ℕ) → p.content ≡ Some (Head g) → g ≤ latest
+
+-- what is noted of a bank's first place: 0 if it is blank, and the generation of a head that is there and stays
+pub record NotesHead (p : FlashPlace) (latest : ℕ) : Type 0 where
+  pub none : p ≡ blank_place → latest ≡ 0
+  pub head : (g : ℕ) → p ≡ whole_place (Head g) → latest ≡ g
 
 -- what the answer of a bank's first place says of its head
 abbrev pub latest_head : Answer → ℕ

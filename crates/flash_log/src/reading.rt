@@ -5,7 +5,7 @@ ghost use Rattle.flash_places.specs.Places.{SameFlash, SameOthers, blank_place};
 ghost use Rattle.flash_places.specs.State.{FlashRuns};
 ghost use Rattle.flash_laws.specs.Logs.{copy_lines, after_lines};
 ghost use Rattle.flash_log.specs.Going.{BlankFrom};
-ghost use Rattle.flash_log.specs.Taking.{NoLaterHead, latest_head, generation_in, LooksLine, places_behind, from_place, Taken, TakesNoCopy, TakesSome, TakesPuts, ReadsLog, ReadsBankPart};
+ghost use Rattle.flash_log.specs.Taking.{NoLaterHead, NotesHead, latest_head, generation_in, LooksLine, places_behind, from_place, Taken, TakesNoCopy, TakesSome, TakesPuts, ReadsLog, ReadsBankPart};
 
 use flash_places::{Answer, FlashDevice, FlashFailed, FlashLine};
 
@@ -133,6 +133,8 @@ fn read_puts<D: FlashDevice>(
         (from_place (D.state device.new).flash bank (1 + length cells.old)) cells.old cells.new end.next) }
     ensures blank { IfOk result (λ end. end.is_blank ≡ true
         → (D.state device.new).flash bank end.next ≡ blank_place) }
+    ensures told { IfOk result (λ end. (D.state device.old).tells_blank ≡ true
+        → (D.state device.new).flash bank end.next ≡ blank_place → end.is_blank ≡ true) }
     ensures part { OnErr result (TakesSome (from_place (D.state device.old).flash bank (1 + length cells.old))
         (from_place (D.state device.new).flash bank (1 + length cells.old))) }
 {
@@ -164,6 +166,8 @@ fn read_puts<D: FlashDevice>(
 fn read_free<D: FlashDevice>(device: &mut D, bank: u8, end: PutsEnd) -> Result<bool, FlashFailed>
     requires inside { bank < (D.state device.old).banks }
     requires blank { end.is_blank ≡ true → (D.state device.old).flash bank end.next ≡ blank_place }
+    requires told { (D.state device.old).tells_blank ≡ true
+        → (D.state device.old).flash bank end.next ≡ blank_place → end.is_blank ≡ true }
     ensures runs { FlashRuns (D.state device.old) (D.state device.new) }
     ensures count { OnOk result ((D.state device.new).faults ≡ (D.state device.old).faults) }
     ensures failed { OnErr result (Rose (D.state device.old).faults (D.state device.new).faults) }
@@ -172,6 +176,8 @@ fn read_free<D: FlashDevice>(device: &mut D, bank: u8, end: PutsEnd) -> Result<b
     ensures others { SameOthers bank (D.state device.old).flash (D.state device.new).flash }
     ensures looks { ReadsBankPart ((D.state device.old).flash bank) ((D.state device.new).flash bank) }
     ensures free { result ≡ Ok true → BlankFrom (D.state device.new).flash bank end.next }
+    ensures told { IfOk result (λ is_free. (D.state device.old).tells_blank ≡ true
+        → BlankFrom (D.state device.new).flash bank end.next → is_free ≡ true) }
 {
     if !end.is_blank {
         return Ok(false);
@@ -227,7 +233,11 @@ pub(crate) fn read_log<D: FlashDevice>(
         ((D.state device.old).flash bank) ((D.state device.new).flash bank)) }
     ensures free { IfOk result (λ read. IfSome read.log (λ log. log.is_free ≡ true
         → BlankFrom (D.state device.new).flash bank log.next)) }
+    ensures told { IfOk result (λ read. IfSome read.log (λ log. (D.state device.old).tells_blank ≡ true
+        → BlankFrom (D.state device.new).flash bank log.next → log.is_free ≡ true)) }
     ensures latest { IfOk result (λ read. NoLaterHead ((D.state device.new).flash bank 0) read.latest) }
+    ensures noted { IfOk result (λ read. (D.state device.old).tells_blank ≡ true
+        → NotesHead ((D.state device.new).flash bank 0) read.latest) }
     ensures part { OnErr result (ReadsBankPart ((D.state device.old).flash bank) ((D.state device.new).flash bank)) }
 {
     let head = device.look(bank, 0)?;

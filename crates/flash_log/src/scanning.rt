@@ -3,10 +3,10 @@ ghost use Rattle.std.specs.Prelude.{◌≡◌, ◌≢◌, ◌^◌, ◌<◌, suc,
 ghost use Rattle.basics.specs.FaultCount.{Rose};
 ghost use Rattle.flash_places.specs.Places.{Flash, SameOthers};
 ghost use Rattle.flash_places.specs.State.{FlashRuns};
-ghost use Rattle.flash_laws.specs.Lives.{found, off};
+ghost use Rattle.flash_laws.specs.Lives.{Scans, found, off};
 ghost use Rattle.flash_log.specs.Going.{machine, layout_on, Goes, BlankFrom};
-ghost use Rattle.flash_log.specs.Taking.{ReadsBankPart, NoLaterHead};
-ghost use Rattle.flash_log.specs.Scanned.{ScannedTo, NoLogCounts, FreeBest, NoLaterHeads, judged, is_newest, is_past};
+ghost use Rattle.flash_log.specs.Taking.{ReadsBankPart, NoLaterHead, NotesHead};
+ghost use Rattle.flash_log.specs.Scanned.{ScannedTo, NoLogCounts, FreeBest, ToldBest, NoLaterHeads, NotesHeads, judged, is_newest, is_past};
 
 use crate::reading::{LogEnd, read_log};
 use flash_places::{FlashDevice, FlashFailed};
@@ -104,7 +104,12 @@ fn read_bank<D: FlashDevice>(
     ensures free { IfOk result (λ more. (first : Flash)
         → ScannedTo (length cells.old) bank first (D.state device.old).flash best cells.old
         → FreeBest (D.state device.old).flash best → FreeBest (D.state device.new).flash more.best) }
+    ensures told { IfOk result (λ more. (first : Flash) → (D.state device.old).tells_blank ≡ true
+        → ScannedTo (length cells.old) bank first (D.state device.old).flash best cells.old
+        → ToldBest (D.state device.old).flash best → ToldBest (D.state device.new).flash more.best) }
     ensures latest { IfOk result (λ more. NoLaterHead ((D.state device.new).flash bank 0) more.latest) }
+    ensures noted { IfOk result (λ more. (D.state device.old).tells_blank ≡ true
+        → NotesHead ((D.state device.new).flash bank 0) more.latest) }
     ensures part { OnErr result (ReadsBankPart ((D.state device.old).flash bank) ((D.state device.new).flash bank)) }
 {
     let read = read_log(device, bank, scratch)?;
@@ -150,12 +155,19 @@ pub(crate) fn scan<D: FlashDevice>(
     ensures runs { FlashRuns (D.state device.old) (D.state device.new) }
     ensures count { OnOk result ((D.state device.new).faults ≡ (D.state device.old).faults) }
     ensures failed { OnErr result (Rose (D.state device.old).faults (D.state device.new).faults) }
+    ensures scanned { IfOk result (λ o. IfSome o (λ log. Scans (layout_on (D.state device.old) (length cells.old))
+        (machine (D.state device.old).flash off)
+        (machine (D.state device.new).flash (found log.bank log.generation cells.new log.next)))) }
     ensures found { IfOk result (λ o. IfSome o (λ log. Goes (layout_on (D.state device.old) (length cells.old))
         (machine (D.state device.old).flash off)
         (machine (D.state device.new).flash (found log.bank log.generation cells.new log.next)))) }
     ensures inside { IfOk result (λ o. IfSome o (λ log. log.bank < (D.state device.old).banks)) }
     ensures free { IfOk result (λ o. IfSome o (λ log. log.is_free ≡ true
         → BlankFrom (D.state device.new).flash log.bank log.next)) }
+    ensures told { IfOk result (λ o. IfSome o (λ log. (D.state device.old).tells_blank ≡ true
+        → BlankFrom (D.state device.new).flash log.bank log.next → log.is_free ≡ true)) }
+    ensures noted { OnOk result ((D.state device.old).tells_blank ≡ true
+        → NotesHeads (D.state device.new).flash (D.state device.old).banks latest.new) }
     ensures latest { OnOk result (NoLaterHeads (D.state device.new).flash (D.state device.old).banks latest.new) }
     ensures none { result ≡ Ok None → NoLogCounts (layout_on (D.state device.old) (length cells.old))
         (D.state device.old).flash (D.state device.new).flash }

@@ -8,7 +8,7 @@ ghost use Rattle.flash_laws.specs.Lives.{off, next_bank};
 ghost use Rattle.flash_log.specs.Going.{machine, layout_on, Goes};
 ghost use Rattle.flash_log.specs.Scanned.{NoLogCounts};
 ghost use Rattle.flash_log.specs.Taking.{last_generation};
-ghost use Rattle.flash_log.specs.Stores.{FitsFlash, FindsLast, IsStoreOf, stage_of, PutsOnFlash, FailsPutOnFlash};
+ghost use Rattle.flash_log.specs.Stores.{FitsFlash, FindsLast, GoesOnIfFree, IsStoreOf, stage_of, PutsOnFlash, FailsPutOnFlash};
 ghost use Rattle.flash_log.specs.declared.store.AttachFault.TheVariants.{Failed as attach_failed, NoStore, Exhausted as attach_exhausted};
 ghost use Rattle.flash_log.specs.declared.store.PutFault.TheVariants.{Failed as put_failed, Exhausted as put_exhausted, NotReady};
 
@@ -54,6 +54,7 @@ pub struct FlashLog {
 pub fn may_go_on(banks: u8, log: &FoundLog, latest: &[u64; 16]) -> bool
     requires inside { log.now.bank < banks }
     requires few { banks ≤ 16 }
+    ensures sized { log.now.generation ≤ last_generation }
     ensures free { result ≡ true → log.now.is_free ≡ true }
     ensures read { result ≡ true → get_or latest.now (next_bank banks log.now.bank) 0 < last_generation }
     ensures older { result ≡ true → get_or latest.now (next_bank banks log.now.bank) 0 < log.now.generation }
@@ -62,12 +63,13 @@ pub fn may_go_on(banks: u8, log: &FoundLog, latest: &[u64; 16]) -> bool
 {
     let next = next_bank(banks, log.bank);
     let head = latest[next as usize];
-    log.is_free && head < u64::MAX && head < log.generation
+    let generation = log.generation;
+    log.is_free && head < u64::MAX && head < generation
 }
 
 /// Reads all banks, and makes a copy of the log that counts in the next one. If all behind that log is blank for sure,
-/// and the next bank's head is blank or older, it goes on in the log that it found, and erases nothing. `cells` is then
-/// the store's list; `scratch` has anything.
+/// and the next bank's head is blank or older, it goes on in the log that it found, and erases nothing: `goes_on` says so
+/// of a flash that tells which places are blank. `cells` is then the store's list; `scratch` has anything.
 pub fn attach<D: FlashDevice>(
     device: &mut D,
     cells: &mut [[u8; 32]],
@@ -84,6 +86,9 @@ pub fn attach<D: FlashDevice>(
         (D.state device.old).flash (D.state device.new).flash }
     ensures ready { IfOk result (λ s. Goes (layout_on (D.state device.old) (length cells.old))
         (machine (D.state device.old).flash off) (machine (D.state device.new).flash (stage_of s cells.new))) }
+    ensures goes_on { (D.state device.old).tells_blank ≡ true
+        → IfOk result (λ s. GoesOnIfFree (layout_on (D.state device.old) (length cells.old))
+        (D.state device.old).flash (D.state device.new).flash s cells.new) }
     ensures is_ready { IfOk result (λ s. s.is_ready ≡ true) }
     ensures store { IfOk result (λ s. IsStoreOf s (length cells.old) (D.state device.new)) }
     ensures cut { OnErr result (Goes (layout_on (D.state device.old) (length cells.old))

@@ -11,10 +11,10 @@ pub blank_behind : (places : ℕ) (held : List MemPlace) → BlankBehind places 
 blank_behind places held bank k far =
     ap (λ (b : Bool). if b then flash_place_in held (bank * places + k) else blank_place) (le-ltb k places far)
 
-pub memory_is_a_flash : (banks places faults : ℕ) (held : List MemPlace) → 2 ≤ banks → banks ≤ 16
+pub memory_is_a_flash : (banks places faults : ℕ) (tells : Bool) (held : List MemPlace) → 2 ≤ banks → banks ≤ 16
     → faults ≤ last_count → places < 2 ^ 16
-    → IsFlash (record { flash = flash_of places held; banks = banks; places = places; faults = faults })
-memory_is_a_flash banks places faults held two few counted fits = record {
+    → IsFlash (record { flash = flash_of places held; banks = banks; places = places; faults = faults; tells_blank = tells })
+memory_is_a_flash banks places faults tells held two few counted fits = record {
   two = two;
   few = few;
   sized = omega arith;

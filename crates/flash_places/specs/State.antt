@@ -1,20 +1,23 @@
 -- What a flash device means to a proof.
-use Rattle.std.specs.Prelude.{◌≡◌, ◌<◌, ◌≤◌, ◌^◌, ℕ}
+use Rattle.std.specs.Prelude.{◌≡◌, ◌<◌, ◌≤◌, ◌^◌, ℕ, Bool}
 use Rattle.basics.specs.FaultCount.{last_count}
 use Rattle.flash_places.specs.Places.{Flash, blank_place}
 
--- its places, how many banks it has, how many places a bank has, and how many of its calls have failed
+-- its places, how many banks it has, how many places a bank has, how many of its calls have failed, and whether each
+-- blank place is read as `Blank`
 pub record FlashState : Type 0 where
   pub flash : Flash
   pub banks : ℕ
   pub places : ℕ
   pub faults : ℕ
+  pub tells_blank : Bool
 
--- what any stretch of calls does: the sizes stay, and the count doesn't fall
+-- what any stretch of calls does: the sizes stay, the count doesn't fall, and blank places are told as before
 pub record FlashRuns (old new : FlashState) : Type 0 where
   pub banks : new.banks ≡ old.banks
   pub places : new.places ≡ old.places
   pub later : old.faults ≤ new.faults
+  pub tells : new.tells_blank ≡ old.tells_blank
 
 -- after the places of a bank all is blank
 abbrev pub BlankBehind : ℕ → Flash → Type 0

@@ -9,10 +9,11 @@
 //! places that aren't firm are read.
 #![tactic(auto)]
 
-ghost use Rattle.std.specs.Prelude.{◌≡◌, ◌<◌, IfOk, OnOk, OnErr};
+ghost use Rattle.std.specs.Prelude.{◌≡◌, ◌<◌, true, IfOk, OnOk, OnErr};
 ghost use Rattle.basics.specs.FaultCount.{Rose};
 ghost use Rattle.flash_places.specs.Places.{blank_place, Erases, CutsErase, Programs, CutsProgram, LooksAt, SameFlash};
 ghost use Rattle.flash_places.specs.State.{FlashState, FlashRuns, IsFlash};
+ghost use Rattle.flash_places.specs.declared.Answer.TheVariants.{Blank};
 
 mod mem_flash;
 
@@ -69,7 +70,7 @@ pub enum Answer {
 ///   in hardware.
 /// - **`Blank` is believed.** A driver answers it only if the part's blank check shows an erase that was done and no
 ///   program since, begun or not. A driver of a part without such a check answers `Nothing`. A store then begins each
-///   life with an erase, and needs no blank check at all.
+///   life with an erase, and needs no blank check at all. `tells_blank` says whether each blank place is read so.
 /// - No operation disturbs another place.
 pub trait FlashDevice {
     /// What the flash means.
@@ -112,6 +113,8 @@ pub trait FlashDevice {
         ensures failed { OnErr result (Rose (state self.old).faults (state self.new).faults) }
         ensures looks { IfOk result (λ answer.
             LooksAt bank place answer (state self.old).flash (state self.new).flash) }
+        ensures told { IfOk result (λ answer. (state self.old).tells_blank ≡ true
+            → (state self.old).flash bank place ≡ blank_place → answer ≡ Blank) }
         ensures same { OnErr result (SameFlash (state self.old).flash (state self.new).flash) };
 
     /// What holds of every flash.

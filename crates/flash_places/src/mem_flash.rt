@@ -1,5 +1,5 @@
 //! A flash in memory.
-ghost use Rattle.std.specs.Prelude.{◌≡◌, ◌≢◌, ◌⊎◌, ◌+◌, ◌*◌, ◌^◌, ◌<◌, ◌≤◌, ℕ, length, Some, None, not, is_ok, IfOk, OnOk, OnErr};
+ghost use Rattle.std.specs.Prelude.{◌≡◌, ◌≢◌, ◌⊎◌, ◌+◌, ◌*◌, ◌^◌, ◌<◌, ◌≤◌, ℕ, length, true, Some, None, not, is_ok, IfOk, OnOk, OnErr};
 ghost use Rattle.basics.specs.FaultCount.{last_count};
 ghost use Rattle.flash_places.specs.Places.{blank_place, Looks, line_in};
 ghost use Rattle.flash_places.specs.declared.Answer.TheVariants.{Blank};
@@ -49,7 +49,7 @@ impl MemFlash {
     ghost use Rattle.cut_disk.specs.Arming.{no_arms, with_stop, with_fail, after_cut};
     ghost use Rattle.flash_places.specs.State.{FlashState};
     ghost use Rattle.flash_places.specs.Memory.{flash_of};
-    ghost use Rattle.flash_places.specs.MemFlash.{memory_state};
+    ghost use Rattle.flash_places.specs.MemFlash.{memory_state, telling_blank};
 
     /// A blank flash, none of whose calls fails until one is armed. Its places that aren't firm are read as nothing,
     /// and the blank ones as `Nothing`.
@@ -74,7 +74,7 @@ impl MemFlash {
 
     /// Says what places that aren't firm are read as, and whether reads answer `Blank`.
     pub fn answer_by(&mut self, pattern: u64, tells_blank: bool)
-        ensures same { memory_state self.new ≡ memory_state self.old }
+        ensures same { memory_state self.new ≡ telling_blank tells_blank (memory_state self.old) }
         ensures pattern { self.new.pattern ≡ pattern }
         ensures blank { self.new.tells_blank ≡ tells_blank }
         ensures arms { self.new.arms ≡ self.old.arms }
@@ -187,6 +187,8 @@ impl FlashDevice for MemFlash {
         ensures arms { self.new.arms ≡ after_call self.old.arms }
         ensures looks { IfOk result (λ answer.
             LooksAt bank place answer (memory_state self.old).flash (memory_state self.new).flash) }
+        ensures told { IfOk result (λ answer. self.old.tells_blank ≡ true
+            → (memory_state self.old).flash bank place ≡ blank_place → answer ≡ Blank) }
         ensures same { OnErr result (SameFlash (memory_state self.old).flash (memory_state self.new).flash) }
     {
         let at = start_of(bank, self.banks, self.places) + place as usize;
@@ -199,8 +201,8 @@ impl FlashDevice for MemFlash {
         Ok(see(&mut self.held, at, is_seen, self.tells_blank))
     }
 
-    ghost is_flash = { λ device. memory_is_a_flash device.banks device.places device.faults device.held.items
-        device.two device.few device.counted device.short };
+    ghost is_flash = { λ device. memory_is_a_flash device.banks device.places device.faults device.tells_blank
+        device.held.items device.two device.few device.counted device.short };
 }
 
 /// The index of the first place of a bank.
@@ -249,6 +251,7 @@ fn see(held: &mut Vec<MemPlace>, at: usize, is_seen: bool, tells_blank: bool) ->
     ensures rest { (k : ℕ) → k ≢ at → flash_place_in held.new.items k ≡ flash_place_in held.old.items k }
     ensures looks { Looks (flash_place_in held.old.items at) (line_in result) (flash_place_in held.new.items at) }
     ensures is_blank { result ≡ Blank → flash_place_in held.old.items at ≡ blank_place }
+    ensures told { tells_blank ≡ true → flash_place_in held.old.items at ≡ blank_place → result ≡ Blank }
 {
     let was = held[at];
     match was.content {

@@ -284,7 +284,7 @@ within_map n bank first f best latest cells R S w s = record {
 module _ (n bank : ℕ) (first f g : Flash) (best : Best) (latest later : List ℕ) (cells scratch : CellList) (answer : Answer) (d : LooksAt bank 0 answer f g)
     (b : BeforeBank n bank first f best latest cells) (here : get_or later bank 0 ≡ latest_head answer) (rest : (x : ℕ) → x ≢ bank → get_or later x 0 ≡ get_or latest x 0) where
   heads_now : NoLaterHeads g (suc bank) later
-  heads_now = heads_more f g bank latest later (latest_head answer) (suc bank) refl d.same.others b.heads (head_noted answer bank f g d) here rest
+  heads_now = heads_more NoLaterHead f g bank latest later (latest_head answer) (suc bank) refl d.same.others b.heads (head_noted answer bank f g d) here rest
 
   pub head_is : (generation : ℕ) → generation_in answer ≡ Some generation → WithinBank n bank first g best later cells (ReadsCopy generation 0 scratch)
   head_is generation is = within_first n bank first f g best latest cells 0 answer d later (ReadsCopy generation 0 scratch) refl b heads_now

@@ -1,5 +1,5 @@
-//! Tests of the store on flash, of its plans and its calls, over a flash in memory, and of its lines. There is nothing
-//! else here: a crate of tests over several libraries has none of them proved a second time.
+//! Tests of the store on flash, of its plans and its calls, over a flash in memory, of its lines, and of a part in
+//! memory. There is nothing else here: a crate of tests over several libraries has none of them proved a second time.
 #![tactic(auto)]
 
 #[cfg(test)]
@@ -8,6 +8,8 @@ mod calls;
 mod histories;
 #[cfg(test)]
 mod lines;
+#[cfg(test)]
+mod parts;
 #[cfg(test)]
 mod plans;
 #[cfg(test)]

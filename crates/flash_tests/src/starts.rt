@@ -4,7 +4,7 @@ ghost use Rattle.flash_places.specs.MemFlash.{memory_state};
 ghost use Rattle.flash_log.specs.Stores.{IsStoreOf};
 
 use flash_log::{AttachFault, FlashLog, PutFault, attach, format};
-use flash_places::MemFlash;
+use flash_places::{Answer, FlashDevice, FlashLine, MemFlash};
 use std::alloc::Global;
 use std::process::Abort;
 use std::test::Fail;
@@ -113,5 +113,58 @@ fn a_put_is_one_call_unless_the_bank_is_full(rt: HostRuntime) -> Result<(), Fail
     let one = Ok(());
     let ends = [one, one, one, one, one, Err(PutFault::Failed)];
     assert_eq!(rt; put_six(&mut flash), Ok(ends));
+    Ok(())
+}
+
+/// A flash of which the program of place 2 of bank 1 was cut.
+fn with_cut_program(alloc: Global) -> Result<MemFlash, Fail>
+    ensures banks { IfOk result (λ flash. (memory_state flash).banks ≡ 2) }
+    ensures places { IfOk result (λ flash. (memory_state flash).places ≡ 4) }
+{
+    let mut flash = MemFlash::new(alloc, 2, 4)?;
+    flash.fail_at(1);
+    match flash.program(1, 2, &FlashLine::Head(7)) {
+        Ok(()) => Err(Fail::from("not cut")),
+        Err(_) => Ok(flash),
+    }
+}
+
+/// One of which that place was programmed, and then the erase of its bank was cut.
+fn with_cut_erase(alloc: Global) -> Result<MemFlash, Fail>
+    ensures banks { IfOk result (λ flash. (memory_state flash).banks ≡ 2) }
+    ensures places { IfOk result (λ flash. (memory_state flash).places ≡ 4) }
+{
+    let mut flash = MemFlash::new(alloc, 2, 4)?;
+    if flash.program(1, 2, &FlashLine::Head(7)).is_err() {
+        return Err(Fail::from("not programmed"));
+    }
+    flash.fail_at(1);
+    match flash.erase(1) {
+        Ok(()) => Err(Fail::from("not cut")),
+        Err(_) => Ok(flash),
+    }
+}
+
+/// What the place is read as, first by a read that sees nothing of what was cut, and then by one that sees it.
+fn read_twice(flash: &mut MemFlash) -> [Option<Answer>; 2]
+    requires banks { (memory_state flash.old).banks ≡ 2 }
+    requires places { (memory_state flash.old).places ≡ 4 }
+{
+    flash.answer_by(0, true);
+    let first = flash.look(1, 2).ok();
+    flash.answer_by(1, true);
+    [first, flash.look(1, 2).ok()]
+}
+
+#[test]
+fn a_place_that_was_cut_is_seen_or_not(rt: HostRuntime) -> Result<(), Fail> {
+    let both = [
+        Some(Answer::Nothing),
+        Some(Answer::Whole(FlashLine::Head(7))),
+    ];
+    let mut flash = with_cut_program(rt.alloc())?;
+    assert_eq!(rt; read_twice(&mut flash), both);
+    let mut flash = with_cut_erase(rt.alloc())?;
+    assert_eq!(rt; read_twice(&mut flash), both);
     Ok(())
 }

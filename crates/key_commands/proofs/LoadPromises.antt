@@ -11,12 +11,13 @@ use Rattle.secoc_words.specs.Frames.{loads_of}
 use Rattle.text_lines.specs.Readings.{most_lines, Fault}
 use Rattle.text_lines.specs.Texts.{fault_text_of}
 use Rattle.program_edge.specs.Rows.{Row, input_row}
-use Rattle.program_edge.specs.Inputs.{Reading, Lacks, CountsFault, CountsTooMuch, Offers}
-use Rattle.program_edge.proofs.CallerLemmas.{CountsFault-is, CountsTooMuch-is, Offers-is, Offers-whole}
+use Rattle.program_edge.specs.Inputs.{Reading, Lacks, Offers}
+use Rattle.program_edge.specs.Input.{input_limit}
+use Rattle.program_edge.proofs.CallerLemmas.{Offers-is, Offers-whole, SourceTells, SourceTells-lacks, SourceTells-whole, SourceTells-fault, SourceTells-long}
 use Rattle.program_edge.specs.Endings.{Ending, EndsInRow, PrintsWhole, SinkFailed, CountsWriteFault}
 use Rattle.program_edge.proofs.CallerLemmas.{EndsInRow-at, EndsInRow-front, EndsInRow-rose, EndsInRow-only, EndsInRow-may, EndsInRow-well}
 use Rattle.key_commands.specs.declared.lines.LoadLine.{LoadLine}
-use Rattle.key_commands.specs.Opening.{GivesNoEngine, LacksEngine, most_to_open, NoEngine, has_none, disk_failed, no_header, none_counts, too_few, no_room, damaged, bad_slot}
+use Rattle.key_commands.specs.Opening.{GivesNoEngine, LacksEngine, most_to_open, NoEngine, has_none, disk_failed}
 use Rattle.key_commands.specs.Loads.{LoadInputs, LacksRequests, ReadsRequests, IsRequestFault, OnFirstDisk, ComesInLoad, EndsInLines, EndsLoad, LoadsInto, in_lines, in_row, no_requests_read, refused_request, without_disk, without_engine, without_requests}
 use Rattle.key_commands.specs.declared.lines.LoadLine.TheVariants.{Failed}
 use Rattle.key_commands.specs.LoadTexts.{load_text}
@@ -24,55 +25,33 @@ use Rattle.key_commands.specs.Loading.{WritesUpTo, load_texts}
 use Rattle.key_commands.specs.Promises.{AnsweredAll, AnsweredUntilFailed, UpToOne, AnswersNone, HasEngine, HasNoEngine, LeavesImages, LoadsAll, OffersEngine, OffersRequests, RefusesStore, RunsLoad, SameBytes, SameCount, StopsAtOne, most_to_load}
 use Rattle.key_commands.proofs.EngineLaws.{cause_in, engine_there}
 use Rattle.key_commands.proofs.SourceLaws.{few_requests}
-use Rattle.key_commands.proofs.AnsweredLaws.{EndsAnswered, at_one, ends_answered, ends_runs, engine_of, to_the_end, until_failed}
+use Rattle.key_commands.proofs.AnsweredLaws.{EndsAnswered, ends_answered, ends_runs, engine_of}
 
 -- ---- the rows
 
 none_9 : (disk : DiskState) (row : Row) → NoEngine disk row → row.status ≡ 9
-none_9 disk row (no_header small) = refl
-none_9 disk row (none_counts header none) = refl
-none_9 disk row (too_few found header counts few) = refl
-none_9 disk row (no_room found few counts wide small) = refl
-none_9 disk row (damaged found place counts wide enough first) = refl
-none_9 disk row (bad_slot found cells slot counts wide room number stands first) = refl
+none_9 disk row comes = grind arith
 
 lacks_9 : (before after : DiskState) (row : Row) → LacksEngine before after row → row.status ≡ 9
 lacks_9 before after row (has_none _ none same) = none_9 before row none
 lacks_9 before after row (disk_failed rose) = refl
 
 gives_9_or_7 : (before after : DiskState) (row : Row) → GivesNoEngine most_to_open before after row → (row.status ≡ 9) ⊎ (row.status ≡ 7)
-gives_9_or_7 before after row gives = elim gives.cause [
-  | inl lacks ↦ inl (lacks_9 before after row lacks)
-  | inr memory ↦ inr (ap (λ (r : Row). r.status) memory.0)
-]
+gives_9_or_7 before after row gives = grind (arith, lacks_9)
 
 gives_lacks : (before after : DiskState) (row : Row) → GivesNoEngine most_to_open before after row → row.status ≡ 9 → LacksEngine before after row
-gives_lacks before after row gives nine = elim gives.cause [
-  | inl lacks ↦ lacks
-  | inr memory ↦ absurd (omega (arith, nine, ap (λ (r : Row). r.status) memory.0))
-]
+gives_lacks before after row gives nine = grind arith
 
 -- out of memory is told only if the disk didn't fail
 gives_calm : (before after : DiskState) (row : Row) → GivesNoEngine most_to_open before after row → row.status ≡ 7 → after.faults ≡ before.faults
-gives_calm before after row gives seven = elim gives.cause [
-  | inl lacks ↦ absurd (omega (arith, seven, lacks_9 before after row lacks))
-  | inr memory ↦ memory.1
-]
+gives_calm before after row gives seven = grind (arith, lacks_9)
 
 -- each row has one of these statuses
 abbrev IsRowStatus : ℕ → Type 0
 IsRowStatus n = (n ≡ 4) ⊎ (n ≡ 5) ⊎ (n ≡ 7) ⊎ (n ≡ 8) ⊎ (n ≡ 9)
 
 row_status : (i : LoadInputs) (row : Row) → ComesInLoad i row → IsRowStatus row.status
-row_status i row (without_requests _ (no_requests_read input.ReadFault lacks) same) = inr (inl refl)
-row_status i row (without_requests _ (no_requests_read input.TooLong lacks) same) = inr (inr (inr (inl refl)))
-row_status i row (without_requests _ (no_requests_read input.Memory lacks) same) = inr (inr (inl refl))
-row_status i row (without_requests _ (refused_request fault is) same) = inl refl
-row_status i row (without_disk requests reads none left) = inr (inr (inr (inr refl)))
-row_status i row (without_engine requests _ reads first) = elim (gives_9_or_7 first.old first.new row first.holds) [
-  | inl nine ↦ inr (inr (inr (inr nine)))
-  | inr seven ↦ inr (inr (inl seven))
-]
+row_status i row comes = grind (arith, gives_9_or_7)
 
 at_4 : (i : LoadInputs) (e : Ending) (row : Row) → ComesInLoad i row → row.status ≡ 4 → PrintsWhole e row.text
     → (fault : Fault) × IsRequestFault i.request fault × PrintsWhole e (fault_text_of fault)
@@ -85,27 +64,14 @@ at_4 i e row (without_engine requests _ reads first) is whole = absurd (omega (a
 
 at_5 : (i : LoadInputs) (e : Ending) (row : Row) → ComesInLoad i row → row.status ≡ 5 → PrintsWhole e row.text
     → Lacks i.request input.ReadFault × PrintsWhole e (codes "read fault\n")
-at_5 i e row (without_requests _ (no_requests_read input.ReadFault lacks) same) is whole = (lacks, whole)
-at_5 i e row (without_requests _ (no_requests_read input.TooLong lacks) same) is whole = absurd (omega (arith, is))
-at_5 i e row (without_requests _ (no_requests_read input.Memory lacks) same) is whole = absurd (omega (arith, is))
-at_5 i e row (without_requests _ (refused_request fault refused) same) is whole = absurd (omega (arith, is))
-at_5 i e row (without_disk requests reads none left) is whole = absurd (omega (arith, is))
-at_5 i e row (without_engine requests _ reads first) is whole = absurd (omega (arith, is, gives_9_or_7 first.old first.new row first.holds))
+at_5 i e row comes is whole = grind (arith, gives_9_or_7)
 
 at_8 : (i : LoadInputs) (e : Ending) (row : Row) → ComesInLoad i row → row.status ≡ 8 → PrintsWhole e row.text
     → Lacks i.request input.TooLong × PrintsWhole e (codes "input too long\n")
-at_8 i e row (without_requests _ (no_requests_read input.ReadFault lacks) same) is whole = absurd (omega (arith, is))
-at_8 i e row (without_requests _ (no_requests_read input.TooLong lacks) same) is whole = (lacks, whole)
-at_8 i e row (without_requests _ (no_requests_read input.Memory lacks) same) is whole = absurd (omega (arith, is))
-at_8 i e row (without_requests _ (refused_request fault refused) same) is whole = absurd (omega (arith, is))
-at_8 i e row (without_disk requests reads none left) is whole = absurd (omega (arith, is))
-at_8 i e row (without_engine requests _ reads first) is whole = absurd (omega (arith, is, gives_9_or_7 first.old first.new row first.holds))
+at_8 i e row comes is whole = grind (arith, gives_9_or_7)
 
 at_9 : (i : LoadInputs) (e : Ending) (row : Row) → ComesInLoad i row → row.status ≡ 9 → PrintsWhole e row.text → RefusesStore i e
 at_9 i e row (without_requests _ (no_requests_read input.ReadFault lacks) same) is whole = absurd (omega (arith, is))
-at_9 i e row (without_requests _ (no_requests_read input.TooLong lacks) same) is whole = absurd (omega (arith, is))
-at_9 i e row (without_requests _ (no_requests_read input.Memory lacks) same) is whole = absurd (omega (arith, is))
-at_9 i e row (without_requests _ (refused_request fault refused) same) is whole = absurd (omega (arith, is))
 at_9 i e row (without_disk requests reads none left) is whole = inl (requests, reads, none, whole)
 at_9 i e row (without_engine requests _ reads first) is whole = inr (
   requests,
@@ -120,17 +86,10 @@ at_9 i e row (without_engine requests _ reads first) is whole = inr (
     holds = (row, gives_lacks first.old first.new row first.holds is, first.holds.read.told, whole);
   },
 )
+at_9 i e row comes is whole = absurd (omega arith)
 
 at_7 : (i : LoadInputs) (e : Ending) (row : Row) → ComesInLoad i row → row.status ≡ 7 → PrintsWhole e row.text → PrintsWhole e []
-at_7 i e row (without_requests _ (no_requests_read input.ReadFault lacks) same) is whole = absurd (omega (arith, is))
-at_7 i e row (without_requests _ (no_requests_read input.TooLong lacks) same) is whole = absurd (omega (arith, is))
-at_7 i e row (without_requests _ (no_requests_read input.Memory lacks) same) is whole = whole
-at_7 i e row (without_requests _ (refused_request fault refused) same) is whole = absurd (omega (arith, is))
-at_7 i e row (without_disk requests reads none left) is whole = absurd (omega (arith, is))
-at_7 i e row (without_engine requests _ reads first) is whole = elim first.holds.cause [
-  | inl lacks ↦ absurd (omega (arith, is, lacks_9 first.old first.new row lacks))
-  | inr memory ↦ subst (λ (r : Row). PrintsWhole e r.text) memory.0 whole
-]
+at_7 i e row comes is whole = grind (arith, lacks_9)
 
 -- ---- the disks
 
@@ -183,20 +142,6 @@ row_keeps i row (without_engine requests _ reads first) =
 
 -- ---- the other direction
 
-reads_no_fault : (r : Reading) (requests : List Request) → ReadsRequests r requests → CountsFault r → ⊥
-reads_no_fault r requests (text, whole, is) counts = (let same = whole.no_fault in omega (arith, same, counts))
-
-reads_not_too_much : (r : Reading) (requests : List Request) → ReadsRequests r requests → CountsTooMuch r → ⊥
-reads_not_too_much r requests (text, whole, is) (room, more) =
-    (let counted = whole.came.counted in let within = whole.within in omega (arith, room, more, within, counted))
-
-fault_no_fault : (r : Reading) (fault : Fault) → IsRequestFault r fault → CountsFault r → ⊥
-fault_no_fault r fault (text, whole, is) counts = (let same = whole.no_fault in omega (arith, same, counts))
-
-fault_not_too_much : (r : Reading) (fault : Fault) → IsRequestFault r fault → CountsTooMuch r → ⊥
-fault_not_too_much r fault (text, whole, is) (room, more) =
-    (let counted = whole.came.counted in let within = whole.within in omega (arith, room, more, within, counted))
-
 reads_offered : (r : Reading) (text : List ℕ) (requests : List Request) → Offers r text → ReadsRequests r requests → loads_of text ≡ Ok requests
 reads_offered r text requests offers (read, whole, is) = ap loads_of (sym (Offers-whole r text read offers whole)) ∙ is
 
@@ -208,38 +153,19 @@ not_both text requests fault ok err =
     let same : Ok requests ≡ Err fault = sym ok ∙ err in
     cc same
 
-row_faulted : (i : LoadInputs) (row : Row) → ComesInLoad i row → CountsFault i.request → row.status ≡ 5
-row_faulted i row (without_requests _ (no_requests_read fault lacks) same) counts =
-    subst (λ (f : InputFault). (input_row f).status ≡ 5) (sym (CountsFault-is i.request fault counts lacks)) refl
-row_faulted i row (without_requests _ (refused_request fault refused) same) counts = absurd (fault_no_fault i.request fault refused counts)
-row_faulted i row (without_disk requests reads none left) counts = absurd (reads_no_fault i.request requests reads counts)
-row_faulted i row (without_engine requests _ reads first) counts = absurd (reads_no_fault i.request requests reads counts)
-
-row_too_much : (i : LoadInputs) (row : Row) → ComesInLoad i row → CountsTooMuch i.request → row.status ≡ 8
-row_too_much i row (without_requests _ (no_requests_read fault lacks) same) counts =
-    subst (λ (f : InputFault). (input_row f).status ≡ 8) (sym (CountsTooMuch-is i.request fault counts lacks)) refl
-row_too_much i row (without_requests _ (refused_request fault refused) same) counts = absurd (fault_not_too_much i.request fault refused counts)
-row_too_much i row (without_disk requests reads none left) counts = absurd (reads_not_too_much i.request requests reads counts)
-row_too_much i row (without_engine requests _ reads first) counts = absurd (reads_not_too_much i.request requests reads counts)
+-- what a row says of the source of requests
+source_tells : (i : LoadInputs) (row : Row) → ComesInLoad i row → SourceTells input_limit i.request row.status
+source_tells i row comes = grind (arith, SourceTells-lacks, SourceTells-whole)
 
 lacks_offered : (r : Reading) (text : List ℕ) (fault : InputFault) → Offers r text → Lacks r fault → (input_row fault).status ≡ 7
 lacks_offered r text fault offers lacks = subst (λ (f : InputFault). (input_row f).status ≡ 7) (sym (Offers-is r text fault offers lacks)) refl
 
 row_refused : (i : LoadInputs) (text : List ℕ) (fault : Fault) → Offers i.request text → loads_of text ≡ Err fault → (row : Row) → ComesInLoad i row
     → (row.status ≡ 4) ⊎ (row.status ≡ 7)
-row_refused i text fault offers is row (without_requests _ (no_requests_read cause lacks) same) = inr (lacks_offered i.request text cause offers lacks)
-row_refused i text fault offers is row (without_requests _ (refused_request other refused) same) = inl refl
-row_refused i text fault offers is row (without_disk requests reads none left) =
-    absurd (not_both text requests fault (reads_offered i.request text requests offers reads) is)
-row_refused i text fault offers is row (without_engine requests _ reads first) =
-    absurd (not_both text requests fault (reads_offered i.request text requests offers reads) is)
+row_refused i text fault offers is row comes = grind (arith, lacks_offered, not_both, reads_offered)
 
 row_valid : (i : LoadInputs) (requests : List Request) → OffersRequests i requests → (row : Row) → ComesInLoad i row → (row.status ≡ 9) ⊎ (row.status ≡ 7)
-row_valid i requests (text, offers, is) row (without_requests _ (no_requests_read cause lacks) same) = inr (lacks_offered i.request text cause offers lacks)
-row_valid i requests (text, offers, is) row (without_requests _ (refused_request fault refused) same) =
-    absurd (not_both text requests fault is (fault_offered i.request text fault offers refused))
-row_valid i requests (text, offers, is) row (without_disk other reads none left) = inl refl
-row_valid i requests (text, offers, is) row (without_engine other _ reads first) = gives_9_or_7 first.old first.new row first.holds
+row_valid i requests offers row comes = grind (arith, lacks_offered, not_both, fault_offered, gives_9_or_7)
 
 -- a first disk is one
 one_first : (a b : DiskState) (more rest : List DiskState) (ds : List DiskState) → ds ≡ a ∷ more → ds ≡ b ∷ rest → a ≡ b
@@ -259,10 +185,7 @@ lacks_none disk after t row is_disk told engine calm (has_none _ none same) = en
 lacks_none disk after t row is_disk told engine calm (disk_failed rose) = calm rose
 
 source_not_9 : (r : Reading) (row : Row) → LacksRequests r row → row.status ≢ 9
-source_not_9 r row (no_requests_read input.ReadFault lacks) nine = omega (arith, nine)
-source_not_9 r row (no_requests_read input.TooLong lacks) nine = omega (arith, nine)
-source_not_9 r row (no_requests_read input.Memory lacks) nine = omega (arith, nine)
-source_not_9 r row (refused_request fault refused) nine = omega (arith, nine)
+source_not_9 r row comes nine = grind arith
 
 -- so a row of 9 doesn't come then
 row_complete : (i : LoadInputs) (requests : List Request) → OffersRequests i requests → OffersEngine i → (row : Row) → ComesInLoad i row → row.status ≡ 7
@@ -335,9 +258,9 @@ runs_row i e ends = record {
   refused = EndsInRow-at ends 4 refl (at_4 i e);
   refused_only = λ text fault offers is. EndsInRow-may ends 4 (row_refused i text fault offers is);
   read_fault = EndsInRow-at ends 5 refl (at_5 i e);
-  read_fault_only = λ counts. EndsInRow-only ends 5 (λ row comes. row_faulted i row comes counts);
+  read_fault_only = λ counts. EndsInRow-only ends 5 (λ row comes. SourceTells-fault input_limit i.request row.status (source_tells i row comes) counts);
   too_long = EndsInRow-at ends 8 refl (at_8 i e);
-  too_long_only = λ counts. EndsInRow-only ends 8 (λ row comes. row_too_much i row comes counts);
+  too_long_only = λ counts. EndsInRow-only ends 8 (λ row comes. SourceTells-long input_limit i.request row.status (source_tells i row comes) counts);
   write_fault = λ six. (EndsInRow-front ends (λ row comes is. absurd (omega (arith, is, row_status i row comes))) six).0;
   write_fault_only = EndsInRow-rose ends;
   disks = let keeps = row_keeps i ends.row ends.comes in record {
@@ -376,41 +299,25 @@ module _ (i : LoadInputs) (e : Ending) (requests : List Request) (reads : ReadsR
 -- what it was that was answered, by the status
 line_status : (uid : List ℕ) (requests : List Request) (e : Ending) (old new : DiskState) → EndsAnswered uid requests e old new
     → (e.status ≡ 0) ⊎ (e.status ≡ 6) ⊎ (e.status ≡ 7) ⊎ (e.status ≡ 10)
-line_status uid requests e old new (to_the_end lines zero answers printed) = inl zero
-line_status uid requests e old new (until_failed ten answers) = inr (inr (inr ten))
-line_status uid requests e old new (at_one answers (inl (six, failed))) = inr (inl six)
-line_status uid requests e old new (at_one answers (inr (seven, calm))) = inr (inr (inl seven))
+line_status uid requests e old new ends = grind arith
 
 all_at_0 : (uid : List ℕ) (requests : List Request) (e : Ending) (old new : DiskState) → EndsAnswered uid requests e old new → e.status ≡ 0
     → (lines : List LoadLine) × AnsweredAll uid requests lines old new × PrintsWhole e (load_texts lines)
-all_at_0 uid requests e old new (to_the_end lines zero answers printed) is = (lines, answers, printed)
-all_at_0 uid requests e old new (until_failed ten answers) is = absurd (omega (arith, is, ten))
-all_at_0 uid requests e old new (at_one answers (inl (six, failed))) is = absurd (omega (arith, is, six))
-all_at_0 uid requests e old new (at_one answers (inr (seven, calm))) is = absurd (omega (arith, is, seven))
+all_at_0 uid requests e old new ends is = grind arith
 
 failed_at_10 : (uid : List ℕ) (requests : List Request) (e : Ending) (old new : DiskState) → EndsAnswered uid requests e old new → e.status ≡ 10
     → UpToOne requests (λ first request. (lines : List LoadLine) × AnsweredUntilFailed uid first lines request old new
     × PrintsWhole e (load_texts lines ++ load_text Failed))
-failed_at_10 uid requests e old new (to_the_end lines zero answers printed) is = absurd (omega (arith, is, zero))
-failed_at_10 uid requests e old new (until_failed ten answers) is = answers
-failed_at_10 uid requests e old new (at_one answers (inl (six, failed))) is = absurd (omega (arith, is, six))
-failed_at_10 uid requests e old new (at_one answers (inr (seven, calm))) is = absurd (omega (arith, is, seven))
+failed_at_10 uid requests e old new ends is = grind arith
 
 -- what is left at 0, and at 10
 left_at_0 : (uid : List ℕ) (requests : List Request) (e : Ending) (old new : DiskState) → EndsAnswered uid requests e old new → e.status ≡ 0
     → (lines : List LoadLine) × AnsweredAll uid requests lines old new
-left_at_0 uid requests e old new (to_the_end lines zero answers printed) is = (lines, answers)
-left_at_0 uid requests e old new (until_failed ten answers) is = absurd (omega (arith, is, ten))
-left_at_0 uid requests e old new (at_one answers (inl (six, failed))) is = absurd (omega (arith, is, six))
-left_at_0 uid requests e old new (at_one answers (inr (seven, calm))) is = absurd (omega (arith, is, seven))
+left_at_0 uid requests e old new ends is = grind arith
 
 left_at_10 : (uid : List ℕ) (requests : List Request) (e : Ending) (old new : DiskState) → EndsAnswered uid requests e old new → e.status ≡ 10
     → UpToOne requests (λ first request. (lines : List LoadLine) × AnsweredUntilFailed uid first lines request old new)
-left_at_10 uid requests e old new (to_the_end lines zero answers printed) is = absurd (omega (arith, is, zero))
-left_at_10 uid requests e old new (until_failed ten (first, request, rest, parts, (lines, answers, printed))) is =
-    (first, request, rest, parts, (lines, answers))
-left_at_10 uid requests e old new (at_one answers (inl (six, failed))) is = absurd (omega (arith, is, six))
-left_at_10 uid requests e old new (at_one answers (inr (seven, calm))) is = absurd (omega (arith, is, seven))
+left_at_10 uid requests e old new ends is = grind arith
 
 left_images : (uid : List ℕ) (requests : List Request) (e : Ending) (old new : DiskState) → EndsAnswered uid requests e old new
     → (e.status ≡ 0 → (lines : List LoadLine) × AnsweredAll uid requests lines old new)
@@ -421,31 +328,18 @@ one_at_6_or_7 : (uid : List ℕ) (requests : List Request) (e : Ending) (old new
     → (e.status ≡ 6) ⊎ (e.status ≡ 7) → UpToOne requests (λ first request.
     ((lines : List LoadLine) × (line : LoadLine) × AnsweredAll uid (first ++ request ∷ []) (lines ++ line ∷ []) old new × WritesUpTo e lines line)
     ⊎ ((lines : List LoadLine) × AnsweredUntilFailed uid first lines request old new × WritesUpTo e lines Failed))
-one_at_6_or_7 uid requests e old new (to_the_end lines zero answers printed) is = absurd (omega (arith, is, zero))
-one_at_6_or_7 uid requests e old new (until_failed ten answers) is = absurd (omega (arith, is, ten))
-one_at_6_or_7 uid requests e old new (at_one answers early) is = answers
+one_at_6_or_7 uid requests e old new ends is = grind arith
 
 sink_at_6 : (uid : List ℕ) (requests : List Request) (e : Ending) (old new : DiskState) → EndsAnswered uid requests e old new → e.status ≡ 6 → SinkFailed e
-sink_at_6 uid requests e old new (to_the_end lines zero answers printed) is = absurd (omega (arith, is, zero))
-sink_at_6 uid requests e old new (until_failed ten answers) is = absurd (omega (arith, is, ten))
-sink_at_6 uid requests e old new (at_one answers (inl (six, failed))) is = failed
-sink_at_6 uid requests e old new (at_one answers (inr (seven, calm))) is = absurd (omega (arith, is, seven))
+sink_at_6 uid requests e old new ends is = grind arith
 
 counts_is_6 : (uid : List ℕ) (requests : List Request) (e : Ending) (old new : DiskState) → EndsAnswered uid requests e old new → CountsWriteFault e
     → e.status ≡ 6
-counts_is_6 uid requests e old new (to_the_end lines zero answers printed) counts = absurd (omega (arith, counts, printed.0))
-counts_is_6 uid requests e old new (until_failed ten (first, request, rest, is, (lines, answers, printed))) counts =
-    absurd (omega (arith, counts, printed.0))
-counts_is_6 uid requests e old new (at_one answers (inl (six, failed))) counts = six
-counts_is_6 uid requests e old new (at_one answers (inr (seven, calm))) counts = absurd (calm counts)
+counts_is_6 uid requests e old new ends counts = grind arith
 
 calm_is_0_or_7 : (uid : List ℕ) (requests : List Request) (e : Ending) (old new : DiskState) → EndsAnswered uid requests e old new
     → ¬ Rose old.faults new.faults → ¬ SinkFailed e → (e.status ≡ 0) ⊎ (e.status ≡ 7)
-calm_is_0_or_7 uid requests e old new (to_the_end lines zero answers printed) calm well = inl zero
-calm_is_0_or_7 uid requests e old new (until_failed ten (first, request, rest, is, (lines, answers, printed))) calm well =
-    absurd (calm (subst (λ (n : ℕ). Rose n new.faults) answers.calm answers.rose))
-calm_is_0_or_7 uid requests e old new (at_one answers (inl (six, failed))) calm well = absurd (well failed)
-calm_is_0_or_7 uid requests e old new (at_one answers (inr (seven, same))) calm well = inr seven
+calm_is_0_or_7 uid requests e old new ends calm well = grind arith
 
 -- the disk of an engine that is offered doesn't fail
 offered_calm : (i : LoadInputs) (old new : DiskState) (others : List DiskState) → OffersEngine i → i.before ≡ old ∷ others → i.after ≡ new ∷ others
@@ -471,9 +365,9 @@ runs_lines i e (requests, reads, first) =
       refused = λ is. absurd (omega (arith, is, among));
       refused_only = λ text fault offers is. absurd (not_both text requests fault (reads_offered i.request text requests offers reads) is);
       read_fault = λ is. absurd (omega (arith, is, among));
-      read_fault_only = λ counts. absurd (reads_no_fault i.request requests reads counts);
+      read_fault_only = λ counts. inl (SourceTells-fault input_limit i.request e.status (SourceTells-whole input_limit i.request e.status reads.0 reads.1) counts);
       too_long = λ is. absurd (omega (arith, is, among));
-      too_long_only = λ counts. absurd (reads_not_too_much i.request requests reads counts);
+      too_long_only = λ counts. inl (SourceTells-long input_limit i.request e.status (SourceTells-whole input_limit i.request e.status reads.0 reads.1) counts);
       write_fault = sink_at_6 i.uid requests e first.old first.new ends;
       write_fault_only = counts_is_6 i.uid requests e first.old first.new ends;
       disks = record {

@@ -1,6 +1,5 @@
 -- What a key command promises, by how it ran
-use Rattle.std.proofs.Common.{◌≡◌, ◌≢◌, ◌∙◌, ◌⊎◌, ℕ, ◌≤◌, List, [], Ok, Err, inl, inr, refl, subst, sym, ap, arith}
-use Rattle.bus_port.specs.Source.{SourceState}
+use Rattle.std.proofs.Common.{◌≡◌, ◌≢◌, ◌∙◌, ◌⊎◌, ℕ, ◌≤◌, List, [], Ok, Err, inl, inr, refl, subst, sym, arith}
 use Rattle.program_edge.specs.declared.input.InputFault.TheVariants as input
 use Rattle.memory_update.specs.declared.messages.Request.{Request}
 use Rattle.program_edge.specs.Rows.{Row, memory_row}
@@ -8,7 +7,7 @@ use Rattle.std.specs.Prelude.{codes}
 use Rattle.text_lines.specs.Readings.{Fault}
 use Rattle.text_lines.specs.Texts.{fault_text_of}
 use Rattle.program_edge.specs.Inputs.{CountsFault, CountsTooMuch, IsUnread, Lacks}
-use Rattle.program_edge.proofs.CallerLemmas.{Lacks-unread, EndsInRow-at, EndsInRow-more}
+use Rattle.program_edge.proofs.CallerLemmas.{Lacks-unread, EndsInRow-at, EndsInRow-front, EndsInRow-rose, EndsInRow-may, EndsInRow-well, EndsInRow-more}
 use Rattle.program_edge.specs.Endings.{CountsWriteFault, Ending, EndsIn, EndsInRow, MayEndIn, PrintsFront, PrintsWhole, SinkFailed}
 use Rattle.key_commands.specs.Loads.{ComesInLoad, EndsLoad, IsRequestFault, LoadInputs, in_lines, in_row, no_requests_read, without_requests}
 use Rattle.key_commands.specs.Promises.{AnswersNone, EndsAtOne, OffersEngine, OffersRequests, RefusesStore, RunsLoad, StopsAtOne}
@@ -24,108 +23,40 @@ use Rattle.key_commands.specs.Rows.{AskedComes, AsksFor, AsksLoad, AsksNoLoad, C
 use Rattle.key_commands.specs.Keys.{IsPlainCall, Keys}
 use Rattle.key_commands.proofs.Complete.{plain_asks, plain_row, task_row}
 use Rattle.key_commands.proofs.Named.{asks_one, asks_taken}
-use Rattle.key_commands.proofs.Denied.{IsOr7, denied_row, refused_row, wrong_row}
-
-module _ {Comes : Row → Type 0} {e : Ending} (ends : EndsInRow Comes e) where
-  -- each row that comes has this status or 7, so the run has it, or 6, or 7
-  may_end : (n : ℕ) → ((row : Row) → Comes row → IsOr7 n row.status) → (e.status ≡ n) ⊎ (e.status ≡ 6) ⊎ (e.status ≡ 7)
-  may_end n each = elim ends.told [
-    | inl whole ↦ elim (subst (IsOr7 n) (sym whole.0) (each ends.row ends.comes)) [
-      | inl is ↦ inl is
-      | inr memory ↦ inr (inr memory)
-    ]
-    | inr failed ↦ inr (inl failed.0)
-  ]
-
-  -- a sink that didn't fail was told the row
-  well_told : (P : ℕ → Type 0) → ((row : Row) → Comes row → P row.status) → ¬ SinkFailed e → P e.status
-  well_told P each calm = elim ends.told [
-    | inl whole ↦ subst P (sym whole.0) (each ends.row ends.comes)
-    | inr failed ↦ absurd (calm failed.1)
-  ]
+use Rattle.key_commands.proofs.Denied.{denied_row, refused_row, wrong_row}
 
 abbrev Done : List (List ℕ) → Ending → Type 0
 Done words e = (task : Task) × AsksFor words (Ok task) × ((text : List ℕ) × PrintsDone task text × PrintsWhole e text)
 
-abbrev Denied : List (List ℕ) → Ending → Type 0
-Denied words e = (task : Task) × AsksFor words (Ok task) × ((text : List ℕ) × Denies task text × PrintsWhole e text)
-
-abbrev Wrong : List (List ℕ) → Ending → Type 0
-Wrong words e = (bad : BadValue) × AsksFor words (Err bad) × PrintsWhole e (value_text bad.number)
-
 -- a row that comes has its status alone
 at_0 : (words : List (List ℕ)) (e : Ending) (row : Row) → ComesOfWords words row → row.status ≡ 0 → PrintsWhole e row.text → Done words e
-at_0 words e row (refused_words refused) is whole = absurd (omega (arith, is))
-at_0 words e row (wrong_value bad asks) is whole = absurd (omega (arith, is))
-at_0 words e row (no_memory names) is whole = absurd (omega (arith, is))
-at_0 words e row (denied task text asks denies) is whole = absurd (omega (arith, is))
-at_0 words e row (done task text asks prints) is whole = (task, asks, (text, prints, whole))
+at_0 words e row comes is whole = grind arith
 
-at_1 : (words : List (List ℕ)) (e : Ending) (row : Row) → ComesOfWords words row → row.status ≡ 1 → PrintsWhole e row.text → Denied words e
-at_1 words e row (refused_words refused) is whole = absurd (omega (arith, is))
-at_1 words e row (wrong_value bad asks) is whole = absurd (omega (arith, is))
-at_1 words e row (no_memory names) is whole = absurd (omega (arith, is))
-at_1 words e row (denied task text asks denies) is whole = (task, asks, (text, denies, whole))
-at_1 words e row (done task text asks prints) is whole = absurd (omega (arith, is))
+at_1 : (words : List (List ℕ)) (e : Ending) (row : Row) → ComesOfWords words row → row.status ≡ 1 → PrintsWhole e row.text
+    → (task : Task) × AsksFor words (Ok task) × ((text : List ℕ) × Denies task text × PrintsWhole e text)
+at_1 words e row comes is whole = grind arith
 
 at_2 : (words : List (List ℕ)) (e : Ending) (row : Row) → ComesOfWords words row → row.status ≡ 2 → PrintsWhole e row.text
     → IsRefused words × PrintsWhole e key_usage
-at_2 words e row (refused_words refused) is whole = (refused, whole)
-at_2 words e row (wrong_value bad asks) is whole = absurd (omega (arith, is))
-at_2 words e row (no_memory names) is whole = absurd (omega (arith, is))
-at_2 words e row (denied task text asks denies) is whole = absurd (omega (arith, is))
-at_2 words e row (done task text asks prints) is whole = absurd (omega (arith, is))
+at_2 words e row comes is whole = grind arith
 
-at_3 : (words : List (List ℕ)) (e : Ending) (row : Row) → ComesOfWords words row → row.status ≡ 3 → PrintsWhole e row.text → Wrong words e
-at_3 words e row (refused_words refused) is whole = absurd (omega (arith, is))
-at_3 words e row (wrong_value bad asks) is whole = (bad, asks, whole)
-at_3 words e row (no_memory names) is whole = absurd (omega (arith, is))
-at_3 words e row (denied task text asks denies) is whole = absurd (omega (arith, is))
-at_3 words e row (done task text asks prints) is whole = absurd (omega (arith, is))
+at_3 : (words : List (List ℕ)) (e : Ending) (row : Row) → ComesOfWords words row → row.status ≡ 3 → PrintsWhole e row.text
+    → (bad : BadValue) × AsksFor words (Err bad) × PrintsWhole e (value_text bad.number)
+at_3 words e row comes is whole = grind arith
 
 at_7 : (words : List (List ℕ)) (e : Ending) (row : Row) → ComesOfWords words row → row.status ≡ 7 → PrintsWhole e row.text
     → NamesSome words × PrintsWhole e []
-at_7 words e row (refused_words refused) is whole = absurd (omega (arith, is))
-at_7 words e row (wrong_value bad asks) is whole = absurd (omega (arith, is))
-at_7 words e row (no_memory names) is whole = (names, whole)
-at_7 words e row (denied task text asks denies) is whole = absurd (omega (arith, is))
-at_7 words e row (done task text asks prints) is whole = absurd (omega (arith, is))
+at_7 words e row comes is whole = grind arith
 
 not_6 : (words : List (List ℕ)) (row : Row) → ComesOfWords words row → row.status ≡ 6 → ⊥
-not_6 words row (refused_words refused) is = absurd (omega (arith, is))
-not_6 words row (wrong_value bad asks) is = absurd (omega (arith, is))
-not_6 words row (no_memory names) is = absurd (omega (arith, is))
-not_6 words row (denied task text asks denies) is = absurd (omega (arith, is))
-not_6 words row (done task text asks prints) is = absurd (omega (arith, is))
-
-at_6 : (words : List (List ℕ)) (e : Ending) → EndsInRow (ComesOfWords words) e → e.status ≡ 6 → SinkFailed e × PrintsFront (ComesOfWords words) e
-at_6 words e ends six = elim ends.told [
-  | inl whole ↦ absurd (not_6 words ends.row ends.comes (sym whole.0 ∙ six))
-  | inr failed ↦ (failed.1, (ends.row, ends.comes, failed.2))
-]
-
-failed_is_6 : {Comes : Row → Type 0} (e : Ending) → EndsInRow Comes e → CountsWriteFault e → e.status ≡ 6
-failed_is_6 e ends counts = elim ends.told [
-  | inl whole ↦ absurd (omega (arith, whole.1.0, counts))
-  | inr failed ↦ failed.0
-]
+not_6 words row comes is = grind arith
 
 -- a row of the arguments has one of these statuses
 words_low : (words : List (List ℕ)) (row : Row) → ComesOfWords words row → (row.status ≤ 3) ⊎ (row.status ≡ 7)
-words_low words row (refused_words refused) = inl (omega arith)
-words_low words row (wrong_value bad asks) = inl (omega arith)
-words_low words row (no_memory names) = inr refl
-words_low words row (denied task text asks denies) = inl (omega arith)
-words_low words row (done task text asks prints) = inl (omega arith)
+words_low words row comes = grind arith
 
 ends_low : (words : List (List ℕ)) (e : Ending) → EndsInRow (ComesOfWords words) e → (e.status ≤ 3) ⊎ (e.status ≡ 6) ⊎ (e.status ≡ 7)
-ends_low words e ends = elim ends.told [
-  | inl whole ↦ elim (words_low words ends.row ends.comes) [
-    | inl low ↦ inl (omega (arith, low, whole.0))
-    | inr seven ↦ inr (inr (whole.0 ∙ seven))
-  ]
-  | inr failed ↦ inr (inl failed.0)
-]
+ends_low words e ends = grind (arith, words_low)
 
 -- how a key command ran: without the source of requests and the disks, or as a load
 pub data RanKey {S D : Type 0} (i : KeyInputs S D) (e : Ending) : Type 0 where
@@ -205,29 +136,23 @@ module _ {S D : Type 0} (i : KeyInputs S D) (e : Ending) where
   done_at_0 (loads uid asks ends) none = absurd (none uid asks)
 
   denied_may : RanKey i e → (task : Task) (text : List ℕ) → AsksFor i.words (Ok task) → Denies task text → MayEndIn 1 e
-  denied_may (apart ends unread untouched unasked same) task text asks denies = may_end ends 1 (denied_row i.words task text asks denies)
+  denied_may (apart ends unread untouched unasked same) task text asks denies = EndsInRow-may ends 1 (denied_row i.words task text asks denies)
   denied_may (loads uid also ends) task text asks denies =
       let is : Ok task ≡ Ok (Load uid) = asks_one i.words (Ok task) (Ok (Load uid)) asks also in
       let task_is : task ≡ Load uid = cc is in
       absurd (subst (λ (k : Task). Denies k text) task_is denies)
 
   usage_may : RanKey i e → IsRefused i.words → MayEndIn 2 e
-  usage_may (apart ends unread untouched unasked same) refused = may_end ends 2 (refused_row i.words refused)
-  usage_may (loads uid asks ends) refused = absurd (asks_taken i.words (Ok (Load uid)) asks refused)
+  usage_may ran refused = grind (arith, EndsInRow-may, refused_row, asks_taken)
 
   wrong_may : RanKey i e → (bad : BadValue) → AsksFor i.words (Err bad) → MayEndIn 3 e
-  wrong_may (apart ends unread untouched unasked same) bad asks = may_end ends 3 (wrong_row i.words bad asks)
-  wrong_may (loads uid also ends) bad asks =
-      let is : Err bad ≡ Ok (Load uid) = asks_one i.words (Err bad) (Ok (Load uid)) asks also in
-      cc is
+  wrong_may ran bad asks = grind (arith, EndsInRow-may, wrong_row, asks_one)
 
   faulted : RanKey i e → CountsFault i.reading → EndsIn 5 e
-  faulted (apart ends unread untouched unasked same) counts = absurd (omega (arith, counts, ap (λ (s : SourceState). s.faults) unasked))
-  faulted (loads uid asks ends) counts = (runs_load (load_inputs i uid) e ends).read_fault_only counts
+  faulted ran counts = grind (arith, runs_load)
 
   too_much : RanKey i e → CountsTooMuch i.reading → EndsIn 8 e
-  too_much (apart ends unread untouched unasked same) (room, more) = absurd (omega (arith, more, ap (λ (s : SourceState). s.taken) unasked))
-  too_much (loads uid asks ends) counts = (runs_load (load_inputs i uid) e ends).too_long_only counts
+  too_much ran counts = grind (arith, runs_load)
 
   alone : RanKey i e → (e.status ≡ 4) ⊎ (e.status ≡ 5) ⊎ (8 ≤ e.status) → (uid : List ℕ) × AsksLoad i.words uid
   alone (apart ends unread untouched unasked same) high = (let low = ends_low i.words e ends in absurd (omega (arith, high, low)))
@@ -242,20 +167,18 @@ module _ {S D : Type 0} (i : KeyInputs S D) (e : Ending) where
 
   nothing_or_lines : (uid : List ℕ) → AsksLoad i.words uid → AnswersNone (load_inputs i uid) e ⊎ EndsAtOne (load_inputs i uid) e → e.status ≡ 7
       → PrintsWhole e [] ⊎ OverLoad i (λ l. EndsAtOne l e)
-  nothing_or_lines uid asks (inl (same, inl (six, front))) is = absurd (omega (arith, is, six))
-  nothing_or_lines uid asks (inl (same, inr (seven, printed, calm))) is = inl printed
-  nothing_or_lines uid asks (inr one) is = inr (uid, asks, one)
+  nothing_or_lines uid asks comes is = grind arith
 
   front_at_6 : RanKey i e → e.status ≡ 6 → SinkFailed e × (PrintsFront (KeyComes i) e ⊎ OverLoad i (λ l. EndsAtOne l e))
   front_at_6 (apart ends unread untouched unasked same) six =
-      let front = at_6 i.words e ends six in
+      let front = EndsInRow-front ends (not_6 i.words) six in
       (front.0, inl (front.1.0, without_disks front.1.0 front.1.1 unread untouched, front.1.2))
   front_at_6 (loads uid asks ends) six =
       let runs = runs_load (load_inputs i uid) e ends in
       (runs.write_fault six, row_or_lines uid asks (runs.load_early_ends (inl six)) six)
 
   counts_is_6 : RanKey i e → CountsWriteFault e → e.status ≡ 6
-  counts_is_6 (apart ends unread untouched unasked same) counts = failed_is_6 e ends counts
+  counts_is_6 (apart ends unread untouched unasked same) counts = EndsInRow-rose ends counts
   counts_is_6 (loads uid asks ends) counts = (runs_load (load_inputs i uid) e ends).write_fault_only counts
 
   memory_at_7 : RanKey i e → e.status ≡ 7 → NamesSome i.words × (PrintsWhole e [] ⊎ OverLoad i (λ l. EndsAtOne l e))
@@ -269,8 +192,9 @@ module _ {S D : Type 0} (i : KeyInputs S D) (e : Ending) where
   completed : RanKey i e → (s : Subcommand) (values : List (List ℕ)) (task : Task) → IsPlainCall i.words s values → task_of s values ≡ Ok task
       → IsNoLoad task → ¬ SinkFailed e → (e.status ≡ 0) ⊎ (e.status ≡ 1) ⊎ (e.status ≡ 7)
   completed (apart ends unread untouched unasked same) s values task call asks other calm =
-      well_told (EndsInRow-more (plain_row i.words s values call) ends) (λ n. (n ≡ 0) ⊎ (n ≡ 1) ⊎ (n ≡ 7))
-      (λ row comes. task_row task row (subst (λ asked. AskedComes asked row) asks comes)) calm
+      let (row, comes, is, prints) = EndsInRow-well ends calm in
+      subst (λ n. (n ≡ 0) ⊎ (n ≡ 1) ⊎ (n ≡ 7)) (sym is)
+      (task_row task row (subst (λ asked. AskedComes asked row) asks (plain_row i.words s values call row comes)))
   completed (loads uid also ends) s values task call asks other calm =
       let is : Ok task ≡ Ok (Load uid) = sym asks ∙ asks_one i.words (task_of s values) (Ok (Load uid)) (plain_asks i.words s values call) also in
       let task_is : task ≡ Load uid = cc is in

@@ -5,13 +5,12 @@ use Rattle.std.proofs.lemmas.Bool.{cases_lt}
 use Rattle.std.proofs.Math.ListN.{get_or, get_or-append}
 use Rattle.std.proofs.Math.Seq.{get_or-append_seam}
 use Rattle.std.proofs.lemmas.List.{length-append}
-use Rattle.program_edge.specs.declared.input.InputFault.TheVariants as input
-use Rattle.program_edge.specs.Input.{input_fault_status}
+use Rattle.program_edge.specs.Input.{input_limit, input_fault_status}
 use Rattle.program_edge.specs.Rows.{Row, memory_row}
 use Rattle.program_edge.specs.Inputs.{Reading, ReadsWhole, SourceFailed, CountsFault, GivesTooMuch, CountsTooMuch}
-use Rattle.program_edge.proofs.CallerLemmas.{Lacks-whole, CountsFault-is, CountsTooMuch-is, Offers-is, Offers-whole}
+use Rattle.program_edge.proofs.CallerLemmas.{Offers-is, Offers-whole, SourceTells, SourceTells-lacks, SourceTells-whole, SourceTells-fault, SourceTells-long}
 use Rattle.key_campaign.specs.declared.entries.LedgerEntry.{LedgerEntry}
-use Rattle.ledger_commands.specs.LedgerBytes.{NoLedgerIn, too_small, no_header, damaged, bad_entry}
+use Rattle.ledger_commands.specs.LedgerBytes.{NoLedgerIn}
 use Rattle.ledger_commands.specs.LedgerRows.{ReadsLedger, ReadsLedgers, LacksLedgerFile, no_files, one_file_more, unread, none_there, unkept}
 use Rattle.ledger_commands.specs.LedgerReads.{HasNoLedger, OffersLedger, OffersNone}
 use Rattle.ledger_commands.proofs.BytesLaws.{holds_or_lacks}
@@ -39,11 +38,9 @@ none_of_read P never files ledgers (one_file_more front earlier r places reads l
 pub read_no_fault : (r : Reading) (places : List (Option LedgerEntry)) → ReadsLedger r places → CountsFault r → ⊥
 read_no_fault r places (x, whole, holds) counts = (let same = whole.no_fault in omega (arith, counts, same))
 
-whole_long : (r : Reading) (x : List ℕ) → ReadsWhole r x → CountsTooMuch r → ⊥
-whole_long r x whole counts = let clash : input.Memory ≡ input.TooLong = CountsTooMuch-is r input.Memory counts (Lacks-whole r x whole) in cc
-
 pub read_not_long : (r : Reading) (places : List (Option LedgerEntry)) → ReadsLedger r places → CountsTooMuch r → ⊥
-read_not_long r places (x, whole, holds) counts = whole_long r x whole counts
+read_not_long r places (x, whole, holds) counts =
+    omega (arith, SourceTells-long input_limit r 0 (SourceTells-whole input_limit r 0 x whole) counts)
 
 pub read_not_none : (r : Reading) (places : List (Option LedgerEntry)) → ReadsLedger r places → OffersNone r → ⊥
 read_not_none r places (x, whole, holds) (text, row, offers, lacks) =
@@ -51,38 +48,25 @@ read_not_none r places (x, whole, holds) (text, row, offers, lacks) =
 
 -- ---- one that gives no ledger
 
+-- what its row says of it
+lacks_tells : (r : Reading) (row : Row) → LacksLedgerFile r row → SourceTells input_limit r row.status
+lacks_tells r row comes = grind (arith, SourceTells-lacks, SourceTells-whole)
+
 pub lacks_fault : (r : Reading) (row : Row) → LacksLedgerFile r row → CountsFault r → row.status ≡ 5
-lacks_fault r row (unread input.ReadFault lacks) counts = refl
-lacks_fault r row (unread input.TooLong lacks) counts = let clash = CountsFault-is r input.TooLong counts lacks in cc clash
-lacks_fault r row (unread input.Memory lacks) counts = let clash = CountsFault-is r input.Memory counts lacks in cc clash
-lacks_fault r row (none_there x _ whole lacking) counts = (let same = whole.no_fault in absurd (omega (arith, counts, same)))
-lacks_fault r row (unkept x whole) counts = (let same = whole.no_fault in absurd (omega (arith, counts, same)))
+lacks_fault r row lacks counts = SourceTells-fault input_limit r row.status (lacks_tells r row lacks) counts
 
 pub lacks_long : (r : Reading) (row : Row) → LacksLedgerFile r row → CountsTooMuch r → row.status ≡ 8
-lacks_long r row (unread input.TooLong lacks) counts = refl
-lacks_long r row (unread input.ReadFault lacks) counts = let clash = CountsTooMuch-is r input.ReadFault counts lacks in cc clash
-lacks_long r row (unread input.Memory lacks) counts = let clash = CountsTooMuch-is r input.Memory counts lacks in cc clash
-lacks_long r row (none_there x _ whole lacking) counts = absurd (whole_long r x whole counts)
-lacks_long r row (unkept x whole) counts = absurd (whole_long r x whole counts)
+lacks_long r row lacks counts = SourceTells-long input_limit r row.status (lacks_tells r row lacks) counts
 
 none_9 : (x : List ℕ) (row : Row) → NoLedgerIn x row → row.status ≡ 9
-none_9 x row (too_small small) = refl
-none_9 x row (no_header room lacking) = refl
-none_9 x row (damaged cell head first) = refl
-none_9 x row (bad_entry cells bad count stands first) = refl
+none_9 x row comes = grind arith
 
 -- the statuses of such rows
 pub lacks_status : (r : Reading) (row : Row) → LacksLedgerFile r row → (row.status ≡ 5) ⊎ (row.status ≡ 7) ⊎ (row.status ≡ 8) ⊎ (row.status ≡ 9)
-lacks_status r row (unread input.ReadFault lacks) = inl refl
-lacks_status r row (unread input.TooLong lacks) = inr (inr (inl refl))
-lacks_status r row (unread input.Memory lacks) = inr (inl refl)
-lacks_status r row (none_there x _ whole lacking) = inr (inr (inr (none_9 x row lacking)))
-lacks_status r row (unkept x whole) = inr (inl refl)
+lacks_status r row comes = grind (arith, none_9)
 
 pub lacks_none : (r : Reading) (row : Row) → LacksLedgerFile r row → OffersNone r → (row.status ≡ 9) ⊎ (row.status ≡ 7)
-lacks_none r row (unread fault lacks) (text, other, offers, lacking) = inr (ap input_fault_status (Offers-is r text fault offers lacks))
-lacks_none r row (none_there x _ whole lacking) offers = inl (none_9 x row lacking)
-lacks_none r row (unkept x whole) offers = inr refl
+lacks_none r row comes offers = grind (arith, Offers-is, none_9)
 
 pub lacks_offered : (r : Reading) (row : Row) → LacksLedgerFile r row → OffersLedger r → row.status ≡ 7
 lacks_offered r row (unread fault lacks) (text, places, offers, holds) = ap input_fault_status (Offers-is r text fault offers lacks)
@@ -93,32 +77,16 @@ lacks_offered r row (unkept x whole) offers = refl
 -- ---- what each status says of the file
 
 pub lacks_5 : (r : Reading) (row : Row) → LacksLedgerFile r row → row.status ≡ 5 → SourceFailed r × (row.text ≡ codes "read fault\n")
-lacks_5 r row (unread input.ReadFault lacks) is = (lacks.0, refl)
-lacks_5 r row (unread input.TooLong lacks) is = absurd (omega (arith, is))
-lacks_5 r row (unread input.Memory lacks) is = absurd (omega (arith, is))
-lacks_5 r row (none_there x _ whole lacking) is = absurd (omega (arith, is, none_9 x row lacking))
-lacks_5 r row (unkept x whole) is = absurd (omega (arith, is))
+lacks_5 r row comes is = grind (arith, none_9)
 
 pub lacks_7 : (r : Reading) (row : Row) → LacksLedgerFile r row → row.status ≡ 7 → row.text ≡ []
-lacks_7 r row (unread input.ReadFault lacks) is = absurd (omega (arith, is))
-lacks_7 r row (unread input.TooLong lacks) is = absurd (omega (arith, is))
-lacks_7 r row (unread input.Memory lacks) is = refl
-lacks_7 r row (none_there x _ whole lacking) is = absurd (omega (arith, is, none_9 x row lacking))
-lacks_7 r row (unkept x whole) is = refl
+lacks_7 r row comes is = grind (arith, none_9)
 
 pub lacks_8 : (r : Reading) (row : Row) → LacksLedgerFile r row → row.status ≡ 8 → GivesTooMuch r × (row.text ≡ codes "input too long\n")
-lacks_8 r row (unread input.ReadFault lacks) is = absurd (omega (arith, is))
-lacks_8 r row (unread input.TooLong lacks) is = (lacks.1, refl)
-lacks_8 r row (unread input.Memory lacks) is = absurd (omega (arith, is))
-lacks_8 r row (none_there x _ whole lacking) is = absurd (omega (arith, is, none_9 x row lacking))
-lacks_8 r row (unkept x whole) is = absurd (omega (arith, is))
+lacks_8 r row comes is = grind (arith, none_9)
 
 pub lacks_9 : (r : Reading) (row : Row) → LacksLedgerFile r row → row.status ≡ 9 → HasNoLedger row r
-lacks_9 r row (unread input.ReadFault lacks) is = absurd (omega (arith, is))
-lacks_9 r row (unread input.TooLong lacks) is = absurd (omega (arith, is))
-lacks_9 r row (unread input.Memory lacks) is = absurd (omega (arith, is))
-lacks_9 r row (none_there x _ whole lacking) is = (x, whole, lacking)
-lacks_9 r row (unkept x whole) is = absurd (omega (arith, is))
+lacks_9 r row comes is = grind arith
 
 -- a file that was read whole, and what was made of its bytes
 pub lacks_read : (r : Reading) (x : List ℕ) (row : Row) → ReadsWhole r x → NoLedgerIn x row ⊎ (row ≡ memory_row) → LacksLedgerFile r row

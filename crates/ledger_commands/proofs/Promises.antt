@@ -38,11 +38,7 @@ module _ (i : LedgerInputs) (e : Ending) where
   -- no row has another status
   row_status : (row : Row) → ComesOfLedgers i row
       → (row.status ≡ 0) ⊎ (row.status ≡ 1) ⊎ (row.status ≡ 2) ⊎ (row.status ≡ 3) ⊎ (row.status ≡ 5) ⊎ (row.status ≡ 7) ⊎ (row.status ≡ 8) ⊎ (row.status ≡ 9)
-  row_status row (no_form none files) = inr (inr (inl refl))
-  row_status row (bad_value number wrong files) = inr (inr (inr (inl refl)))
-  row_status row (no_ledger asked front ledgers r _ is reads lacks files) = inr (inr (inr (inr (lacks_status r row lacks))))
-  row_status row (no_room asked is files) = inr (inr (inr (inr (inr (inl refl)))))
-  row_status row (answered asked ledgers is reads number) = elim (zero_or_one asked ledgers) [ inl zero ↦ inl zero | inr one ↦ inr (inl one) ]
+  row_status row comes = grind (arith, lacks_status, zero_or_one)
 
   at_answered : (row : Row) → ComesOfLedgers i row → (row.status ≡ 0) ⊎ (row.status ≡ 1) → PrintsWhole e row.text → e.status ≡ row.status → AnswersLedgers i e
   at_answered row (no_form none files) is prints same = absurd (omega (arith, is))
@@ -52,72 +48,43 @@ module _ (i : LedgerInputs) (e : Ending) where
   at_answered row (answered asked ledgers asks reads number) is prints same = (asked, ledgers, asks, reads, number, same, prints)
 
   at_2 : (row : Row) → ComesOfLedgers i row → row.status ≡ 2 → PrintsWhole e row.text → (ledger_asked i.words ≡ None) × (i.files ≡ []) × PrintsWhole e ledger_usage
-  at_2 row (no_form none files) is prints = (none, files, prints)
-  at_2 row (bad_value number wrong files) is prints = absurd (omega (arith, is))
-  at_2 row (no_ledger asked front ledgers r _ asks reads lacks files) is prints = absurd (omega (arith, is, lacks_status r row lacks))
-  at_2 row (no_room asked asks files) is prints = absurd (omega (arith, is))
-  at_2 row (answered asked ledgers asks reads number) is prints = absurd (omega (arith, is, zero_or_one asked ledgers))
+  at_2 row comes is prints = grind (arith, lacks_status, zero_or_one)
 
   at_3 : (row : Row) → ComesOfLedgers i row → row.status ≡ 3 → PrintsWhole e row.text
       → (number : ℕ) × (ledger_asked i.words ≡ Some (Err number)) × (i.files ≡ []) × PrintsWhole e (ledger_value_text number)
-  at_3 row (no_form none files) is prints = absurd (omega (arith, is))
-  at_3 row (bad_value number wrong files) is prints = (number, wrong, files, prints)
-  at_3 row (no_ledger asked front ledgers r _ asks reads lacks files) is prints = absurd (omega (arith, is, lacks_status r row lacks))
-  at_3 row (no_room asked asks files) is prints = absurd (omega (arith, is))
-  at_3 row (answered asked ledgers asks reads number) is prints = absurd (omega (arith, is, zero_or_one asked ledgers))
+  at_3 row comes is prints = grind (arith, lacks_status, zero_or_one)
 
   -- the last of the files
   last_has : (P : Reading → Type 0) (front : List Reading) (r : Reading) → i.files ≡ front ++ r ∷ [] → P r → Any P i.files
   last_has P front r files holds = subst (Any P) (sym files) (Any-push P front r holds)
 
   at_5 : (row : Row) → ComesOfLedgers i row → row.status ≡ 5 → PrintsWhole e row.text → Any SourceFailed i.files × PrintsWhole e (codes "read fault\n")
-  at_5 row (no_form none files) is prints = absurd (omega (arith, is))
-  at_5 row (bad_value number wrong files) is prints = absurd (omega (arith, is))
   at_5 row (no_ledger asked front ledgers r _ asks reads lacks files) is prints =
       let failed = lacks_5 r row lacks is in
       (last_has SourceFailed front r files failed.0, subst (PrintsWhole e) failed.1 prints)
-  at_5 row (no_room asked asks files) is prints = absurd (omega (arith, is))
-  at_5 row (answered asked ledgers asks reads number) is prints = absurd (omega (arith, is, zero_or_one asked ledgers))
+  at_5 row comes is prints = absurd (grind (arith, zero_or_one))
 
   at_7 : (row : Row) → ComesOfLedgers i row → row.status ≡ 7 → PrintsWhole e row.text → PrintsWhole e []
-  at_7 row (no_form none files) is prints = absurd (omega (arith, is))
-  at_7 row (bad_value number wrong files) is prints = absurd (omega (arith, is))
-  at_7 row (no_ledger asked front ledgers r _ asks reads lacks files) is prints = subst (PrintsWhole e) (lacks_7 r row lacks is) prints
-  at_7 row (no_room asked asks files) is prints = prints
-  at_7 row (answered asked ledgers asks reads number) is prints = absurd (omega (arith, is, zero_or_one asked ledgers))
+  at_7 row comes is prints = grind (arith, lacks_7, zero_or_one)
 
   at_8 : (row : Row) → ComesOfLedgers i row → row.status ≡ 8 → PrintsWhole e row.text → Any GivesTooMuch i.files × PrintsWhole e (codes "input too long\n")
-  at_8 row (no_form none files) is prints = absurd (omega (arith, is))
-  at_8 row (bad_value number wrong files) is prints = absurd (omega (arith, is))
   at_8 row (no_ledger asked front ledgers r _ asks reads lacks files) is prints =
       let long = lacks_8 r row lacks is in
       (last_has GivesTooMuch front r files long.0, subst (PrintsWhole e) long.1 prints)
-  at_8 row (no_room asked asks files) is prints = absurd (omega (arith, is))
-  at_8 row (answered asked ledgers asks reads number) is prints = absurd (omega (arith, is, zero_or_one asked ledgers))
+  at_8 row comes is prints = absurd (grind (arith, zero_or_one))
 
   at_9 : (row : Row) → ComesOfLedgers i row → row.status ≡ 9 → PrintsWhole e row.text → (r : Row) × Any (HasNoLedger r) i.files × PrintsWhole e r.text
-  at_9 row (no_form none files) is prints = absurd (omega (arith, is))
-  at_9 row (bad_value number wrong files) is prints = absurd (omega (arith, is))
   at_9 row (no_ledger asked front ledgers r _ asks reads lacks files) is prints =
       (row, last_has (HasNoLedger row) front r files (lacks_9 r row lacks is), prints)
-  at_9 row (no_room asked asks files) is prints = absurd (omega (arith, is))
-  at_9 row (answered asked ledgers asks reads number) is prints = absurd (omega (arith, is, zero_or_one asked ledgers))
+  at_9 row comes is prints = absurd (grind (arith, zero_or_one))
 
   -- ---- which rows come
 
   only_2 : ledger_asked i.words ≡ None → (row : Row) → ComesOfLedgers i row → row.status ≡ 2
-  only_2 malformed row (no_form none files) = refl
-  only_2 malformed row (bad_value number wrong files) = absurd (not_none (ledger_asked i.words) (Err number) malformed wrong)
-  only_2 malformed row (no_ledger asked front ledgers r _ asks reads lacks files) = absurd (not_none (ledger_asked i.words) (Ok asked) malformed asks)
-  only_2 malformed row (no_room asked asks files) = absurd (not_none (ledger_asked i.words) (Ok asked) malformed asks)
-  only_2 malformed row (answered asked ledgers asks reads number) = absurd (not_none (ledger_asked i.words) (Ok asked) malformed asks)
+  only_2 malformed row comes = grind (arith, not_none)
 
   only_3 : (value : ℕ) → ledger_asked i.words ≡ Some (Err value) → (row : Row) → ComesOfLedgers i row → row.status ≡ 3
-  only_3 value is row (no_form none files) = absurd (not_none (ledger_asked i.words) (Err value) none is)
-  only_3 value is row (bad_value number wrong files) = refl
-  only_3 value is row (no_ledger asked front ledgers r _ asks reads lacks files) = absurd (not_wrong (ledger_asked i.words) value asked is asks)
-  only_3 value is row (no_room asked asks files) = absurd (not_wrong (ledger_asked i.words) value asked is asks)
-  only_3 value is row (answered asked ledgers asks reads number) = absurd (not_wrong (ledger_asked i.words) value asked is asks)
+  only_3 value is row comes = grind (arith, not_none, not_wrong)
 
   -- no file, so none that has this
   none_open : (P : Reading → Type 0) → i.files ≡ [] → Any P i.files → ⊥

@@ -14,7 +14,7 @@ use Rattle.program_edge.specs.Inputs.{Reading}
 use Rattle.program_edge.specs.Rows.{Row}
 use Rattle.key_campaign.specs.declared.entries.LedgerEntry.{LedgerEntry}
 use Rattle.ledger_commands.specs.declared.tasks.ReadTask.{ReadTask}
-use Rattle.ledger_commands.specs.LedgerRows.{ReadsLedgers, LacksLedgerFile, task_text, is_found, answers_row}
+use Rattle.ledger_commands.specs.LedgerRows.{ReadsLedgers, LacksLedgerFile, task_text, is_found}
 use Rattle.ledger_commands.specs.LedgerRows as rows
 use Rattle.ledger_commands.specs.Named.{AllNamed, none_yet, one_more}
 use Rattle.ledger_commands.specs.ReadSteps.{AnswersLedger, AllAnswered, PushesLedgers}

@@ -2,6 +2,7 @@
 use Rattle.std.proofs.Common.{ℤ, ◌≡◌, ◌≢◌, ℕ, ◌+◌, ◌^◌, ◌≤◌, inl, inr, List, refl, ap, arith}
 use Rattle.freshness_routes.specs.declared.routes.Direction.{Direction}
 use Rattle.freshness_routes.specs.declared.routes.Direction.TheVariants.{Sends}
+use Rattle.store_plan.specs.declared.planning.Plan.{Plan}
 use Rattle.rathonsi_c.specs.declared.TheConstants.{OK, EXHAUSTED, RESERVE}
 use Rattle.rathonsi_c.specs.declared.route.RathonsiRoute.{RathonsiRoute}
 use Rattle.rathonsi_c.specs.declared.refusals.Refusal.{Refusal}
@@ -9,7 +10,7 @@ use Rattle.rathonsi_c.specs.declared.refusals.Refusal.TheVariants.{BadValue, Wro
 use Rattle.rathonsi_c.specs.Causes.{IfCause}
 use Rattle.rathonsi_c.specs.Images.{ImageBound}
 use Rattle.rathonsi_c.specs.Refused.{route_status, BoundRefused}
-use Rattle.rathonsi_c.specs.Routes.{InUse, BoundBelow, CounterAnswers, status_alone}
+use Rattle.rathonsi_c.specs.Routes.{InUse, BoundBelow, CounterAnswers, PlanAnswers, status_alone}
 use Rattle.rathonsi_c.specs.Steps.{BoundAnswers}
 use Rattle.rathonsi_c.proofs.ImageLaws.{bound_once}
 use Rattle.rathonsi_c.proofs.AnswerLaws.{damaged_keeps_none}
@@ -41,6 +42,31 @@ weaker_rest {A} tell r d image rest other answer more h = elim h [
         elim sound [
           | inl damaged ↦ inl damaged
           | inr (whole, says) ↦ inr (whole, more says)
+        ],
+      )
+    ],
+  )
+]
+
+-- the same where a plan is asked for
+pub weaker_plan : (r : RathonsiRoute) (image : List ℕ) (plan : Plan) (rest other : ℤ → Type 0) (status : ℤ) → (rest status → other status) → PlanAnswers r image plan rest status → PlanAnswers r image plan other status
+weaker_plan r image plan rest other status more h = elim h [
+  | inl busy ↦ inl busy
+  | inr (empty, known) ↦ inr (
+    empty,
+    elim known [
+      | inl bad ↦ inl bad
+      | inr (opened, own) ↦ inr (
+        opened,
+        elim own [
+          | inl others ↦ inl others
+          | inr (ours, sound) ↦ inr (
+            ours,
+            elim sound [
+              | inl damaged ↦ inl damaged
+              | inr (whole, says) ↦ inr (whole, more says)
+            ],
+          )
         ],
       )
     ],

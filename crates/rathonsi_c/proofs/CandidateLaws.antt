@@ -15,7 +15,7 @@ use Rattle.rathonsi_c.specs.declared.TheConstants.{OK, BAD_VALUE, WRONG_CELL, DA
 use Rattle.rathonsi_c.specs.declared.route.RathonsiRoute.{RathonsiRoute}
 use Rattle.rathonsi_c.specs.Causes.{IfCause, IsDone}
 use Rattle.rathonsi_c.specs.Images.{ImageBound}
-use Rattle.rathonsi_c.specs.Routes.{IsFreshnessOnly, InUse, BoundCovers, BoundBelow, Reserves, CounterAnswers, status_alone}
+use Rattle.rathonsi_c.specs.Routes.{InRanges, IsFreshnessOnly, InUse, BoundCovers, BoundBelow, Reserves, CounterAnswers, status_alone}
 use Rattle.rathonsi_c.specs.Steps.{BoundAnswers}
 use Rattle.rathonsi_c.specs.Lives.{PlanDone}
 use Rattle.rathonsi_c.specs.Freshness.{WithinWindow, AheadWithBits, TakesBits, AheadOfBound, NextAnswers, CandidateAnswers, AcceptAnswers, CandidateWrites}
@@ -166,11 +166,11 @@ asked_above r image t b bound v kept h x = elim h [
 ]
 
 -- the bound that a reserve leaves, if the one before it is lower
-reserved_bound : (r : RathonsiRoute) (image next : List ℕ) (bound v : ℕ) (old plan emptied : Plan) → InUse r Receives → ImageBound image r.cell r.data_id Receives bound → bound < v → v < 2 ^ 64 → Reserves r image v old plan → PlanDone image plan next emptied → ImageBound next r.cell r.data_id Receives (bound_ahead r.reserve v)
+pub reserved_bound : (r : RathonsiRoute) (image next : List ℕ) (bound v : ℕ) (old plan emptied : Plan) → InRanges r Receives → ImageBound image r.cell r.data_id Receives bound → bound < v → v < 2 ^ 64 → Reserves r image v old plan → PlanDone image plan next emptied → ImageBound next r.cell r.data_id Receives (bound_ahead r.reserve v)
 reserved_bound r image next bound v old plan emptied u kept below fits s done =
-    let e : s.direction ≡ Receives = one_direction r s.direction Receives s.ranges u.ranges in
+    let e : s.direction ≡ Receives = one_direction r s.direction Receives s.ranges u in
     let same : s.bound ≡ bound = bound_once image r.cell r.data_id Receives s.bound bound (subst (λ (q : Direction). ImageBound image r.cell r.data_id q s.bound) e s.kept) kept in
-    let least = u.ranges.reserve_least in
+    let least = u.reserve_least in
     let low : s.bound < bound_ahead r.reserve v = omega (arith, same, below, fits, least) in
     let plans : PlansPut plan image r.cell (bound_cell r.data_id Receives (bound_ahead r.reserve v)) = subst (λ (q : Direction). PlansPut plan image r.cell (bound_cell r.data_id q (bound_ahead r.reserve v))) e (s.plans low) in
     subst (λ (y : List ℕ). ImageBound y r.cell r.data_id Receives (bound_ahead r.reserve v)) (sym done.image_is)
@@ -185,7 +185,7 @@ few (suc n) x bound r image u kept room small (next, (w, (later, (keeps, rest)))
     let near = w.ahead.within.near in
     let least = u.ranges.reserve_least in
     let above : bound < w.freshness = asked_above r image w.truncated w.bits bound w.freshness kept w.answer w.ahead in
-    let l = keeps (bound_ahead r.reserve w.freshness) (reserved_bound r image next bound w.freshness w.old w.plan w.emptied u kept above fits w.reserved w.done) in
+    let l = keeps (bound_ahead r.reserve w.freshness) (reserved_bound r image next bound w.freshness w.old w.plan w.emptied u.ranges kept above fits w.reserved w.done) in
     let high = l.covers in
     let under : x + r.counter ≤ bound = elim room [ inl low ↦ low | inr full ↦ absurd (omega (arith, above, fits, full)) ] in
     let more : (x + r.reserve + r.counter ≤ l.bound) ⊎ (18446744073709551615 ≤ l.bound) = elim (cases_lt (w.freshness + r.reserve - 1) 18446744073709551616) [

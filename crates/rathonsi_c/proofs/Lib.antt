@@ -9,6 +9,7 @@ pub mod DiskLaws
 pub mod SyncLaws
 pub mod PieceLaws
 pub mod StepLaws
+pub mod OpenedLaws
 pub mod GrowthLaws
 pub mod GrowthCalls
 pub mod GrowthAll
@@ -20,6 +21,7 @@ pub mod InputLaws
 pub mod FlashLaws
 pub mod FreshnessLaws
 pub mod CandidateLaws
+pub mod WriteLaws
 pub mod SlotMacLaws
 pub mod StaleLaws
 pub mod StalePlans

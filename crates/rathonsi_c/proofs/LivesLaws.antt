@@ -44,7 +44,7 @@ pub record AtLeast (low : ℕ) (image : List ℕ) (r : RathonsiRoute) (d : Direc
   pub least : low ≤ bound
 
 -- a plan that is done, or cut, doesn't lower the bound
-after-finish : (image : List ℕ) (plan : Plan) (r : RathonsiRoute) (h : Holds image plan r) → AtLeast h.bound (applied plan image) r h.direction
+pub after-finish : (image : List ℕ) (plan : Plan) (r : RathonsiRoute) (h : Holds image plan r) → AtLeast h.bound (applied plan image) r h.direction
 after-finish image plan r h = elim h.planned [
   | inl none ↦ record { bound = h.bound; kept = subst (λ (y : List ℕ). ImageBound y r.cell r.data_id h.direction h.bound) (sym (applied-none plan image none)) h.kept; least = omega arith }
   | inr some ↦ elim some [
@@ -212,7 +212,7 @@ cut_back image y plan next r cut empty h =
     }
 
 -- what an image keeps of a route, it keeps of each struct of it
-bound_moves : (image : List ℕ) (r s : RathonsiRoute) (d : Direction) (bound : ℕ) → SameRoute r s → ImageBound image r.cell r.data_id d bound → ImageBound image s.cell s.data_id d bound
+pub bound_moves : (image : List ℕ) (r s : RathonsiRoute) (d : Direction) (bound : ℕ) → SameRoute r s → ImageBound image r.cell r.data_id d bound → ImageBound image s.cell s.data_id d bound
 bound_moves image r s d bound same kept =
     subst (λ place. ImageBound image place s.data_id d bound) (sym same.cell) (subst (λ id. ImageBound image r.cell id d bound) (sym same.data_id) kept)
 
@@ -268,7 +268,7 @@ pub record Moves (n : ℕ) (a b : Memory) : Type 0 where
   pub goes : (k : ℕ) → k < n → Goes b.image b.plan (a.routes k) (b.routes k)
   pub cells : (k : ℕ) → k < n → (b.routes k).cell ≡ (a.routes k).cell
 
-sound-then : (n : ℕ) (a b : Memory) → Sound n a → Moves n a b → Sound n b
+pub sound-then : (n : ℕ) (a b : Memory) → Sound n a → Moves n a b → Sound n b
 sound-then n a b s m = record {
   apart = λ j k x y ne e. s.apart j k x y ne (sym (m.cells j x) ∙ (e ∙ m.cells k y));
   holds = λ k x. (m.goes k x).holds;
@@ -347,7 +347,7 @@ power_back n a b s p = record {
   cells = λ j x. opened_cell (a.routes j) (b.routes j) b.image (p.opened j x);
 }
 
-moves : (n : ℕ) (deed : Deed) (a b : Memory) → Sound n a → DoesDeed n deed a b → Moves n a b
+pub moves : (n : ℕ) (deed : Deed) (a b : Memory) → Sound n a → DoesDeed n deed a b → Moves n a b
 moves n (sends k freshness) a b s d = gives _ n k freshness a b s d
 moves n (accepts k freshness) a b s d = gives _ n k freshness a b s d
 moves n (takes k counter) a b s d = gives _ n k counter a b s d

@@ -4,6 +4,7 @@ pub mod Causes
 pub mod Images
 pub mod Routes
 pub mod Refused
+pub mod Faults
 pub mod Slots
 pub mod Stores
 pub mod Lives

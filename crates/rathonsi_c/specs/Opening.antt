@@ -20,7 +20,7 @@ blank_route = record {
   booted = 0;
   opened = 0;
   freshness_only = 0;
-  unused = replicate 3 0;
+  check = replicate 3 0;
 }
 
 -- the routes of a list by their numbers

@@ -10,7 +10,7 @@ use Rattle.rathonsi_c.specs.declared.route.RathonsiRoute.{RathonsiRoute}
 use Rattle.rathonsi_c.specs.declared.secoc.RathonsiVerdict.{RathonsiVerdict}
 use Rattle.rathonsi_c.specs.Causes.{IfCause, IsDone}
 use Rattle.rathonsi_c.specs.Images.{ImageBound}
-use Rattle.rathonsi_c.specs.Routes.{IsFarAhead, AdvanceAnswers, Reserves, status_alone}
+use Rattle.rathonsi_c.specs.Routes.{IsFarAhead, PlanAnswers, Reserves, status_alone}
 use Rattle.rathonsi_c.specs.Steps.{BoundAnswers}
 
 -- the bound in the image is as high already as a reserve of this freshness would make it
@@ -62,5 +62,5 @@ pub record ReservesAhead (r : RathonsiRoute) (image : List ℕ) (old new : Plan)
 -- what `rathonsi_route_reserve_ahead` answers
 abbrev pub ReserveAheadAnswers : RathonsiRoute → ℕ → List ℕ → Plan → ℤ → Type 0
 ReserveAheadAnswers r least image plan status =
-    AdvanceAnswers r image plan
+    PlanAnswers r image plan
     (IfCause (LeavesAtLeast r image least ⊎ BoundIsLast r image) COVERED IsDone) status

@@ -1,6 +1,7 @@
 -- Routes over the image of a store, and what the calls on them do and answer.
-use Rattle.std.specs.Prelude.{ℤ, ◌≡◌, ℕ, ◌+◌, ◌^◌, ◌<◌, ◌≤◌, ◌==◌, ◌⊎◌, nat_lt, if◌then◌else◌, Bool, List}
+use Rattle.std.specs.Prelude.{ℤ, ◌≡◌, ℕ, ◌+◌, ◌*◌, ◌%◌, ◌^◌, ◌<◌, ◌≤◌, ◌==◌, ◌⊎◌, nat_lt, if◌then◌else◌, Bool, List}
 use Rattle.std.specs.Prelude.{length}
+use Rattle.basics.specs.Numbers.{bytes_of}
 use Rattle.key_slots.specs.declared.refusals.Erc.{Erc}
 use Rattle.freshness_routes.specs.Changes.{bound_ahead}
 use Rattle.freshness_routes.specs.declared.config.TheConstants.{MOST_RESERVE}
@@ -14,6 +15,7 @@ use Rattle.store_plan.specs.declared.planning.Plan.{Plan}
 use Rattle.store_plan.specs.Plans.{PlansPut, IsEmptyPlan}
 use Rattle.rathonsi_c.specs.declared.TheConstants.{OK, BAD_LENGTH, BAD_VALUE, FRESHNESS_FAILURE, VERIFICATION_FAILURE}
 use Rattle.rathonsi_c.specs.declared.TheConstants.{DAMAGED, BUSY, RESERVE, EXHAUSTED, WRONG_CELL}
+use Rattle.rathonsi_c.specs.declared.opened.TheConstants.{CHECK_PRIME}
 use Rattle.rathonsi_c.specs.declared.secoc.RathonsiVerdict.{RathonsiVerdict}
 use Rattle.rathonsi_c.specs.declared.route.RathonsiRoute.{RathonsiRoute}
 use Rattle.rathonsi_c.specs.Causes.{IfCause, IsDone, erc_status}
@@ -35,9 +37,19 @@ pub record InRanges (r : RathonsiRoute) (direction : Direction) : Type 0 where
 abbrev pub OutOfRanges : RathonsiRoute → Type 0
 OutOfRanges r = (direction : Direction) → ¬ InRanges r direction
 
--- `rathonsi_route_open` opened the route
-abbrev pub IsOpened : RathonsiRoute → Type 0
-IsOpened r = r.opened ≡ 1
+-- the number that an open route keeps of its Data ID, direction, cell and counter (own): never 0, and below 2^24
+abbrev pub check_number : ℕ → ℕ → ℕ → ℕ → ℕ
+check_number id direction cell counter =
+    1 + (counter + 3 * ((direction * 2 ^ 16 + cell) * 2 ^ 16 + id)) % CHECK_PRIME
+
+-- in three bytes, the highest first
+abbrev pub check_of : ℕ → ℕ → ℕ → ℕ → List ℕ
+check_of id direction cell counter = bytes_of 3 (check_number id direction cell counter)
+
+-- `rathonsi_route_open` opened the route, and its Data ID, direction, cell and counter are as the calls left them
+pub record IsOpened (r : RathonsiRoute) : Type 0 where
+  pub opened_is : r.opened ≡ 1
+  pub check_is : r.check ≡ check_of r.data_id r.direction r.cell r.counter
 
 -- the caller says that another module makes and checks the authenticators of the route's PDUs
 abbrev pub IsFreshnessOnly : RathonsiRoute → Type 0
@@ -52,12 +64,14 @@ pub record InUse (r : RathonsiRoute) (direction : Direction) : Type 0 where
 abbrev pub is_booted : RathonsiRoute → Bool
 is_booted r = r.booted == 1
 
+-- the route with another counter, which a call gave it
 abbrev pub at_counter : RathonsiRoute → ℕ → RathonsiRoute
-at_counter r counter = record r { counter = counter }
+at_counter r counter =
+    record r { counter = counter; check = check_of r.data_id r.direction r.cell counter }
 
 -- the route as it is opened at this bound
 abbrev pub opened_at : RathonsiRoute → ℕ → RathonsiRoute
-opened_at r bound = record r { counter = bound; opened = 1 }
+opened_at r bound = at_counter (record r { opened = 1 }) bound
 
 -- the route as an opening that failed leaves it
 abbrev pub closed : RathonsiRoute → RathonsiRoute
@@ -194,11 +208,20 @@ CellAnswers r image rest status =
 abbrev pub OpenAnswers : RathonsiRoute → List ℕ → ℤ → Type 0
 OpenAnswers r image status = IfCause (OutOfRanges r) BAD_VALUE (CellAnswers r image IsDone) status
 
--- what `rathonsi_route_advance` answers, and `rathonsi_route_reserve` where the freshness isn't too far ahead
-abbrev pub AdvanceAnswers : RathonsiRoute → List ℕ → Plan → (ℤ → Type 0) → ℤ → Type 0
-AdvanceAnswers r image plan rest status =
+-- the causes for which nothing is planned for a route, and else what the rest says
+abbrev pub PlanAnswers : RathonsiRoute → List ℕ → Plan → (ℤ → Type 0) → ℤ → Type 0
+PlanAnswers r image plan rest status =
     IfCause (¬ IsEmptyPlan plan) BUSY
     (IfCause (OutOfRanges r ⊎ ¬ IsOpened r) BAD_VALUE (CellAnswers r image rest)) status
+
+-- once the bound ahead of this freshness is the counter, no freshness is above it
+abbrev pub LeavesNothing : RathonsiRoute → ℕ → Type 0
+LeavesNothing r freshness = bound_ahead r.reserve freshness + 1 ≡ 2 ^ 64
+
+-- what `rathonsi_route_advance` answers
+abbrev pub AdvanceAnswers : RathonsiRoute → List ℕ → ℕ → Plan → ℤ → Type 0
+AdvanceAnswers r image freshness plan status =
+    PlanAnswers r image plan (IfCause (LeavesNothing r freshness) EXHAUSTED IsDone) status
 
 -- the freshness is further above the bound in the image than any window reaches
 pub record IsFarAhead (r : RathonsiRoute) (image : List ℕ) (freshness : ℕ) : Type 0 where
@@ -210,4 +233,4 @@ pub record IsFarAhead (r : RathonsiRoute) (image : List ℕ) (freshness : ℕ) :
 -- what `rathonsi_route_reserve` answers
 abbrev pub ReserveAnswers : RathonsiRoute → List ℕ → ℕ → Plan → ℤ → Type 0
 ReserveAnswers r image freshness plan status =
-    AdvanceAnswers r image plan (IfCause (IsFarAhead r image freshness) BAD_VALUE IsDone) status
+    PlanAnswers r image plan (IfCause (IsFarAhead r image freshness) BAD_VALUE IsDone) status

@@ -5,6 +5,7 @@ ghost use Rattle.rathonsi_c.specs.Routes.{BoundCovers, RouteAdvances};
 ghost use Rattle.rathonsi_c.specs.Freshness.{WithinWindow, AheadWithBits, TakesBits};
 ghost use Rattle.rathonsi_c.specs.Freshness.{NextAnswers, CandidateAnswers, AcceptAnswers};
 
+use crate::opened::move_counter;
 use crate::route::RathonsiRoute;
 use crate::steps::{bound_ready, next_freshness};
 use crate::{BAD_VALUE, FRESHNESS_FAILURE, OK, RESERVE};
@@ -29,7 +30,7 @@ pub extern "C" fn rathonsi_freshness_next(
     }
     match next_freshness(route, image) {
         Ok(next) => {
-            route.counter = next;
+            move_counter(route, next);
             *freshness = next;
             OK
         }
@@ -96,7 +97,7 @@ pub extern "C" fn rathonsi_freshness_accept(
     if freshness > bound {
         return RESERVE;
     }
-    route.counter = freshness;
+    move_counter(route, freshness);
     OK
 }
 

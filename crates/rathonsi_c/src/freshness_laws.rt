@@ -7,8 +7,9 @@ ghost use Rattle.secured_pdu.specs.Frame.{Ahead};
 ghost use Rattle.store_plan.specs.declared.planning.Plan.{Plan};
 ghost use Rattle.rathonsi_c.specs.Images.{ImageBound};
 ghost use Rattle.rathonsi_c.specs.Routes.{InUse, IsFreshnessOnly, BoundCovers, Reserves};
-ghost use Rattle.rathonsi_c.specs.Lives.{PlanDone};
-ghost use Rattle.rathonsi_c.specs.Freshness.{WithinWindow, AheadWithBits, TakesBits, CandidateWrites};
+ghost use Rattle.freshness_store.specs.Bound.{direction_number};
+ghost use Rattle.rathonsi_c.specs.Lives.{PlanDone, Memory, PoweredUp};
+ghost use Rattle.rathonsi_c.specs.Freshness.{WithinWindow, AheadWithBits, TakesBits, CandidateWrites, AskedWrites};
 ghost use Rattle.rathonsi_c.specs.Freshness.{NextAnswers, CandidateAnswers, AcceptAnswers};
 ghost use Rattle.rathonsi_c.specs.declared.TheConstants.{OK, RESERVE};
 ghost use Rattle.rathonsi_c.specs.declared.route.RathonsiRoute.{RathonsiRoute};
@@ -49,10 +50,16 @@ pub fn a_reserved_freshness_is_covered()
         → BoundCovers r image Sends (r.counter + 1) → NextAnswers r image status → status ≡ OK }
 {}
 
-/// While the counter of a route stays, candidates make a device write at most (`window` + `reserve` - 1) / `reserve`
-/// times, rounded down, whoever sends them.
+/// While the counter of a route stays, candidates make a caller do at most (`window` + `reserve` - 1) / `reserve` plans,
+/// rounded down, whoever sends them (`alone`). Over all lives with any other deeds, more plans are paid by the counter:
+/// it rises by more than `reserve` times the plans, less `window` and `reserve` (`over_all_lives`). Power-ups, PDUs that
+/// are accepted and answers that are taken make it rise. A plan that is cut or dropped isn't counted.
 pub fn candidates_make_few_writes()
-    ensures { (n : ℕ) (r : RathonsiRoute) (image : List ℕ) (bound : ℕ) → InUse r Receives
+    ensures alone { (n : ℕ) (r : RathonsiRoute) (image : List ℕ) (bound : ℕ) → InUse r Receives
         → ImageBound image r.cell r.data_id Receives bound → r.counter ≤ bound → CandidateWrites n r image
         → n * r.reserve < r.window + r.reserve }
+    ensures over_all_lives { (m n k reserve window : ℕ) (first last : Memory) → PoweredUp n first → k < n
+        → (first.routes k).direction ≡ direction_number Receives → 1 ≤ reserve
+        → AskedWrites m n k reserve window first last
+        → m * reserve + (first.routes k).counter < (last.routes k).counter + window + reserve }
 {}

@@ -9,6 +9,7 @@
 
 mod aes;
 mod boot;
+mod faults;
 mod flash;
 mod freshness;
 pub mod freshness_laws;
@@ -19,6 +20,7 @@ mod keys;
 pub mod laws;
 mod looking;
 mod macs;
+mod opened;
 mod opening;
 mod refusals;
 mod reserving;
@@ -43,6 +45,7 @@ pub use aes::{
 pub use boot::{
     RathonsiBoot, rathonsi_boot, rathonsi_boot_begin, rathonsi_boot_finish, rathonsi_boot_update,
 };
+pub use faults::rathonsi_route_fault;
 pub use flash::{
     rathonsi_flash_begin, rathonsi_flash_did, rathonsi_flash_image, rathonsi_flash_next,
     rathonsi_flash_put, rathonsi_flash_take,

@@ -8,6 +8,7 @@ ghost use Rattle.rathonsi_c.specs.Routes.{InUse, Reserves};
 ghost use Rattle.rathonsi_c.specs.Reserving.{CoversReserve, FreshAnswers, ReserveNextAnswers, ReserveForAnswers};
 ghost use Rattle.rathonsi_c.specs.Reserving.{ReserveAheadAnswers, ReservesAhead};
 
+use crate::opened::is_open;
 use crate::route::{RathonsiRoute, bound_of, direction_of};
 use crate::secoc::RathonsiVerdict;
 use crate::steps::bound_ready;
@@ -156,7 +157,7 @@ pub extern "C" fn rathonsi_route_reserve_ahead(
     let Some(direction) = direction_of(route) else {
         return BAD_VALUE;
     };
-    if route.opened != 1 {
+    if !is_open(route) {
         return BAD_VALUE;
     }
     let bound = match bound_of(route, direction, image) {

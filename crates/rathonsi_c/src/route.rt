@@ -11,17 +11,19 @@ ghost use Rattle.rathonsi_c.specs.Refused.{BoundRefused, KeyRefused, RouteRefuse
 ghost use Rattle.rathonsi_c.specs.Routes.{InRanges, OutOfRanges, InUse, BoundCovers, is_booted, RouteReady};
 ghost use Rattle.rathonsi_c.specs.Routes.{Opens, closed};
 ghost use Rattle.rathonsi_c.specs.Routes.{RouteAdvances, Reserves, SentBy, bounded_answer, SendAnswers};
-ghost use Rattle.rathonsi_c.specs.Routes.{ReceiveAnswers, OpenAnswers, IsFarAhead, AdvanceAnswers, ReserveAnswers};
+ghost use Rattle.rathonsi_c.specs.Routes.{ReceiveAnswers, OpenAnswers, IsFarAhead, PlanAnswers, AdvanceAnswers, ReserveAnswers};
 ghost use Rattle.rathonsi_c.specs.Causes.{IsDone};
 
+use crate::faults::field_outside;
 use crate::images::slot_at;
+use crate::opened::{is_open, move_counter};
 use crate::refusals::Refusal;
 use crate::secoc::{RathonsiVerdict, refusal as no_verdict};
 use crate::{
-    BAD_LENGTH, BAD_VALUE, BUSY, DAMAGED, FRESHNESS_FAILURE, OK, RESERVE, VERIFICATION_FAILURE,
-    WRONG_CELL,
+    BAD_LENGTH, BAD_VALUE, BUSY, DAMAGED, EXHAUSTED, FRESHNESS_FAILURE, OK, RESERVE,
+    VERIFICATION_FAILURE, WRONG_CELL,
 };
-use freshness_routes::{MOST_RESERVE, bound_ahead};
+use freshness_routes::bound_ahead;
 use freshness_store::{Direction, bound_bytes, bound_in};
 use key_slots::{Purpose, Slot, usable};
 use secured_pdu::{Judgement, WIDEST_WINDOW, build, judge, split};
@@ -52,8 +54,8 @@ pub struct RathonsiRoute {
     pub opened: u8,
     /// 1: another module makes and checks its authenticators, and asks for the freshness alone. 0: this library does.
     pub freshness_only: u8,
-    /// Fills the struct up; not read.
-    pub unused: [u8; 3],
+    /// The check value of an open route over its Data ID, direction, cell and counter. The calls alone write it.
+    pub check: [u8; 3],
 }
 
 /// The direction of a route whose numbers are within their ranges.
@@ -61,26 +63,10 @@ pub fn direction_of(route: &RathonsiRoute) -> Option<Direction>
     ensures some { IfSome result (InRanges route.now) }
     ensures none { IfNone result (OutOfRanges route.now) }
 {
-    let RathonsiRoute {
-        cell,
-        reserve,
-        window,
-        slot,
-        direction,
-        booted,
-        freshness_only,
-        ..
-    } = *route;
-    if cell < 14 || reserve < 1 || reserve > MOST_RESERVE {
+    if field_outside(route) != 0 {
         return None;
     }
-    if window < 1 || window > WIDEST_WINDOW || slot < 4 || slot > 13 {
-        return None;
-    }
-    if booted > 1 || freshness_only > 1 {
-        return None;
-    }
-    match direction {
+    match route.direction {
         1 => Some(Direction::Sends),
         2 => Some(Direction::Receives),
         _ => None,
@@ -135,7 +121,7 @@ pub fn make_ready(route: &RathonsiRoute, wanted: Direction, image: &[u8]) -> Res
     let Some(direction) = direction_of(route) else {
         return Err(Refusal::BadValue);
     };
-    if direction != wanted || route.opened != 1 {
+    if direction != wanted || !is_open(route) {
         return Err(Refusal::BadValue);
     }
     let bound = match bound_of(route, wanted, image) {
@@ -191,8 +177,8 @@ pub extern "C" fn rathonsi_route_open(route: &mut RathonsiRoute, image: &[u8]) -
     };
     match bound_of(route, direction, image) {
         Ok(bound) => {
-            route.counter = bound;
             route.opened = 1;
+            move_counter(route, bound);
             OK
         }
         Err(refusal) => {
@@ -229,7 +215,8 @@ pub extern "C" fn rathonsi_route_reserve(
 
 /// What `rathonsi_route_reserve` does, however far ahead the freshness is. Its plan done, `rathonsi_route_open` moves
 /// the counter to the bound: so a sender goes on above the freshness of another, which it replaces. `BUSY`,
-/// `BAD_VALUE`, `WRONG_CELL`, `DAMAGED`: the first that applies.
+/// `BAD_VALUE`, `WRONG_CELL`, `DAMAGED`, `EXHAUSTED` (that bound would be 2^64 - 1: no freshness is above it): the
+/// first that applies.
 #[unsafe(no_mangle)]
 pub extern "C" fn rathonsi_route_advance(
     route: &RathonsiRoute,
@@ -237,15 +224,19 @@ pub extern "C" fn rathonsi_route_advance(
     image: &[u8],
     plan: &mut Plan,
 ) -> i32
-    ensures answer { AdvanceAnswers route.now image.now plan.old IsDone result }
+    ensures answer { AdvanceAnswers route.now image.now freshness plan.old result }
     ensures reserved { result ≡ OK → Reserves route.now image.now freshness plan.old plan.new }
     ensures fits { result ≡ OK → IsEmptyPlan plan.new ⊎ PlanFits (length image.now) plan.new }
     ensures unchanged { result ≢ OK → plan.new ≡ plan.old }
 {
-    match kept_for(route, image, plan) {
-        Ok(kept) => raise(route, kept, freshness, image, plan),
-        Err(status) => status,
+    let kept = match kept_for(route, image, plan) {
+        Ok(kept) => kept,
+        Err(status) => return status,
+    };
+    if bound_ahead(route.reserve, freshness) == u64::MAX {
+        return EXHAUSTED;
     }
+    raise(route, kept, freshness, image, plan)
 }
 
 // The direction of a route, and the bound that the image keeps for it.
@@ -260,7 +251,7 @@ fn kept_for(route: &RathonsiRoute, image: &[u8], plan: &Plan) -> Result<Kept, i3
     ensures kept { IfOk result (λ k. InUse route.now k.direction
         × ImageBound image.now route.now.cell route.now.data_id k.direction k.bound) }
     ensures empty { IfOk result (λ _. IsEmptyPlan plan.now) }
-    ensures refused { IfErr result (AdvanceAnswers route.now image.now plan.now (λ _. ⊥)) }
+    ensures refused { IfErr result (PlanAnswers route.now image.now plan.now (λ _. ⊥)) }
 {
     if !is_empty(plan) {
         return Err(BUSY);
@@ -268,7 +259,7 @@ fn kept_for(route: &RathonsiRoute, image: &[u8], plan: &Plan) -> Result<Kept, i3
     let Some(direction) = direction_of(route) else {
         return Err(BAD_VALUE);
     };
-    if route.opened != 1 {
+    if !is_open(route) {
         return Err(BAD_VALUE);
     }
     match bound_of(route, direction, image) {
@@ -340,7 +331,7 @@ pub extern "C" fn rathonsi_route_send(
         return BAD_LENGTH;
     };
     pdu[..size].copy_from_slice(&frame[..size]);
-    route.counter = sending.freshness;
+    move_counter(route, sending.freshness);
     OK
 }
 
@@ -403,7 +394,7 @@ pub extern "C" fn rathonsi_route_receive(
     );
     let verdict = answer(judgement, bound, parts.payload);
     if verdict.status == OK {
-        route.counter = verdict.freshness;
+        move_counter(route, verdict.freshness);
     }
     verdict
 }

@@ -1,11 +1,11 @@
 //! What ties calls together: each function has an empty body, and its contract is the law.
-ghost use Rattle.std.specs.Prelude.{◌≡◌, ◌+◌, ◌*◌, ◌^◌, ℕ, List, length, take, pos};
+ghost use Rattle.std.specs.Prelude.{◌≡◌, ◌≢◌, ◌+◌, ◌*◌, ◌%◌, ◌^◌, ◌<◌, ℕ, List, length, take, replicate, pos};
 ghost use Rattle.she_cmac.specs.Cmac.{cmac};
 ghost use Rattle.freshness_routes.specs.declared.routes.Direction.TheVariants.{Receives};
 ghost use Rattle.secured_pdu.specs.Frame.{IsPayload};
 ghost use Rattle.store_plan.specs.Plans.{IsEmptyPlan};
 ghost use Rattle.rathonsi_c.specs.Images.{ImageKey};
-ghost use Rattle.rathonsi_c.specs.Routes.{RouteReady, SentBy, ReceiveAnswers, is_booted};
+ghost use Rattle.rathonsi_c.specs.Routes.{IsOpened, RouteReady, SentBy, ReceiveAnswers, is_booted};
 ghost use Rattle.rathonsi_c.specs.Steps.{InputOf, SentWith, CandidateOf, ReceiveMacAnswers};
 ghost use Rattle.rathonsi_c.specs.Opening.{route_of, OpensRoutes};
 ghost use Rattle.rathonsi_c.specs.Lives.{Memory, PoweredUp};
@@ -14,6 +14,7 @@ ghost use Rattle.rathonsi_c.specs.declared.TheConstants.{VERIFICATION_FAILURE, B
 ghost use Rattle.rathonsi_c.specs.declared.TheConstants.{BUSY, RESERVE, EXHAUSTED, KEY_EMPTY, KEY_INVALID, KEY_NOT_AVAILABLE};
 ghost use Rattle.rathonsi_c.specs.declared.TheConstants.{KEY_WRITE_PROTECTED, KEY_UPDATE_ERROR, WRONG_CELL, FAILED};
 ghost use Rattle.rathonsi_c.specs.declared.TheConstants.{DUPLICATE_ID, STALE_PLAN, COVERED};
+ghost use Rattle.rathonsi_c.specs.declared.opened.TheConstants.{CHECK_PRIME};
 ghost use Rattle.rathonsi_c.specs.declared.states.TheConstants.{VERSION};
 ghost use Rattle.rathonsi_c.specs.declared.route.RathonsiRoute.{RathonsiRoute};
 ghost use Rattle.rathonsi_c.specs.declared.secoc.RathonsiVerdict.{RathonsiVerdict};
@@ -39,6 +40,20 @@ pub fn a_receive_is_two_steps()
         (one two : RathonsiVerdict) → RouteReady r Receives image key bound → CandidateOf r pdu input
         → ReceiveAnswers r image pdu one
         → ReceiveMacAnswers r image pdu input (cmac key (take input.size input.bytes)) two → one ≡ two }
+{}
+
+/// An open route isn't open any more if its counter, Data ID, direction or cell alone is set by hand to another value;
+/// of the counter, to one that isn't a multiple of 16,777,213 away. No open route has a check value of zeros.
+pub fn an_open_route_that_was_changed_is_not_open()
+    ensures counter { (r : RathonsiRoute) (counter : ℕ) → IsOpened r → IsOpened (record r { counter = counter })
+        → counter % CHECK_PRIME ≡ r.counter % CHECK_PRIME }
+    ensures data_id { (r : RathonsiRoute) (id : ℕ) → r.data_id < 2 ^ 16 → id < 2 ^ 16 → IsOpened r
+        → IsOpened (record r { data_id = id }) → id ≡ r.data_id }
+    ensures direction { (r : RathonsiRoute) (direction : ℕ) → r.direction < 2 ^ 8 → direction < 2 ^ 8 → IsOpened r
+        → IsOpened (record r { direction = direction }) → direction ≡ r.direction }
+    ensures cell { (r : RathonsiRoute) (cell : ℕ) → r.cell < 2 ^ 16 → cell < 2 ^ 16 → IsOpened r
+        → IsOpened (record r { cell = cell }) → cell ≡ r.cell }
+    ensures zeros { (r : RathonsiRoute) → IsOpened r → r.check ≢ replicate 3 0 }
 {}
 
 /// The numbers of the statuses, as the headers have them.
@@ -69,5 +84,5 @@ pub fn each_status_has_its_number()
 
 /// The number of the version, as `rathonsi.h` has it: major, minor and patch, a byte each.
 pub fn the_version_has_its_number()
-    ensures { VERSION ≡ 0 * 2 ^ 16 + 18 * 2 ^ 8 + 0 }
+    ensures { VERSION ≡ 0 * 2 ^ 16 + 19 * 2 ^ 8 + 0 }
 {}

@@ -11,6 +11,7 @@ ghost use Rattle.rathonsi_c.specs.Steps.{BoundAnswers, NextRefused, CandidateRef
 ghost use Rattle.rathonsi_c.specs.Steps.{SendInputAnswers, InputOf, SendMacAnswers, SentWith};
 ghost use Rattle.rathonsi_c.specs.Steps.{ReceiveInputAnswers, CandidateOf, ReceiveMacAnswers};
 
+use crate::opened::{is_open, move_counter};
 use crate::route::{RathonsiRoute, answer, bound_of, direction_of};
 use crate::secoc::{RathonsiVerdict, refusal as no_verdict};
 use crate::{BAD_LENGTH, BAD_VALUE, EXHAUSTED, FRESHNESS_FAILURE, OK, RESERVE};
@@ -65,7 +66,7 @@ pub fn bound_ready(route: &RathonsiRoute, wanted: Direction, image: &[u8]) -> Re
     let Some(direction) = direction_of(route) else {
         return Err(BAD_VALUE);
     };
-    if direction != wanted || route.opened != 1 {
+    if direction != wanted || !is_open(route) {
         return Err(BAD_VALUE);
     }
     match bound_of(route, wanted, image) {
@@ -157,7 +158,7 @@ pub extern "C" fn rathonsi_send_mac(
     let mut frame = [0; 64];
     let size = assemble(payload, freshness, &Block::of(*mac), &mut frame);
     pdu[..size].copy_from_slice(&frame[..size]);
-    route.counter = freshness;
+    move_counter(route, freshness);
     OK
 }
 
@@ -255,7 +256,7 @@ pub extern "C" fn rathonsi_receive_mac(
     }
     let verdict = answer(judge_by(mac, &parts.tag, freshness), bound, parts.payload);
     if verdict.status == OK {
-        route.counter = verdict.freshness;
+        move_counter(route, verdict.freshness);
     }
     verdict
 }

@@ -4,6 +4,7 @@ ghost use Rattle.freshness_routes.specs.declared.routes.Direction.TheVariants.{S
 ghost use Rattle.rathonsi_c.specs.Routes.{RouteAdvances};
 ghost use Rattle.rathonsi_c.specs.Syncing.{SyncAnswerAnswers, AnsweredBy, SyncTakeAnswers, sync_verdict};
 
+use crate::opened::move_counter;
 use crate::route::{RathonsiRoute, make_ready};
 use crate::secoc::{RathonsiVerdict, refusal as no_verdict};
 use crate::{FRESHNESS_FAILURE, OK, RESERVE, VERIFICATION_FAILURE};
@@ -55,7 +56,7 @@ pub extern "C" fn rathonsi_sync_take(
     let told = sync_counter(&expand(&ready.key), route.data_id, nonce, answer);
     let verdict = verdict_on(told, route.counter, ready.bound);
     if verdict.status == OK {
-        route.counter = verdict.freshness;
+        move_counter(route, verdict.freshness);
     }
     verdict
 }

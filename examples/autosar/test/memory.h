@@ -1,8 +1,11 @@
-/* A simulated memory below the freshness manager. Each file memory_*.c is one. */
+/* A simulated memory below the freshness manager: jobs that take cycles, fail now and then, and are cut. Each file
+ * memory_{nvm,eep,fls}.c is a driver and its device; memory_power.c has what they share. */
 #ifndef MEMORY_H
 #define MEMORY_H
 
 #include "Std_Types.h"
+
+/* ---- What the test asks ---- */
 
 /* A number below the limit, at random. */
 uint32 below(uint32 limit);
@@ -16,10 +19,29 @@ void memory_tick(void);
 /* The power has gone. */
 boolean memory_is_cut(void);
 
-/* Whether the power stays. */
-void memory_never_cut(boolean stays);
+/* How often the power goes and jobs fail, beside what is usual: 0 is never, 1 as usual, and 60 very often. */
+void memory_cut(uint32 times);
 
 /* How many jobs were done. */
 uint64 memory_jobs(void);
+
+/* ---- What a driver asks of memory_power.c ---- */
+
+/* Begins a job of this kind, above 0, that takes fewer than so many cycles after the first. No other one may run. */
+Std_ReturnType memory_begin(uint32 kind, uint32 cycles);
+
+/* The kind of the job that runs, or 0. */
+uint32 memory_job(void);
+
+/* ---- What memory_power.c asks of a driver ---- */
+
+/* The power goes once in so many cycles of this job, or never if it is 0. The job fails once in so many. */
+uint32 device_cuts(uint32 kind);
+uint32 device_fails(uint32 kind);
+
+/* The job did what it is for; or the power went within it; or it failed. */
+void device_does(uint32 kind);
+void device_is_cut(uint32 kind);
+void device_failed(uint32 kind);
 
 #endif

@@ -1,27 +1,24 @@
-/* An EEPROM that changes no byte but those of a write. A cut write leaves anything in its own bytes. */
+/* An EEPROM that changes no byte but those of a write. A write that is cut, or fails, leaves anything in its own bytes. */
 #include <string.h>
 
 #include "FvM_Cfg.h"
 #include "MemIf.h"
 #include "memory.h"
 
-enum { IDLE, READS, WRITES };
+enum { READS = 1, WRITES };
 
-static uint8 bytes[RATHONSI_STORE_SIZE(FVM_CELLS)];
+static uint8 bytes[RATHONSI_STORE_SIZE(FVM_ROOM)];
 static const uint8 *source;
 static uint8 *target;
-static uint32 job, left, from, size;
-static boolean cut, failed, stays;
-static uint64 jobs;
+static uint32 from, size;
+static boolean failed;
 
 static Std_ReturnType begin(uint32 kind, uint32 address, uint32 length)
 {
-    if (job != IDLE || cut || address > sizeof bytes || length > sizeof bytes - address)
+    if (address > sizeof bytes || length > sizeof bytes - address || memory_begin(kind, 3u) != E_OK)
         return E_NOT_OK;
-    job = kind;
     from = address;
     size = length;
-    left = below(3u);
     failed = 0u;
     return E_OK;
 }
@@ -40,63 +37,45 @@ Std_ReturnType Eep_Write(uint32 EepromAddress, const uint8 *DataBufferPtr, uint3
 
 MemIf_JobResultType Eep_GetJobResult(void)
 {
-    return (job != IDLE) ? MEMIF_JOB_PENDING : failed ? MEMIF_JOB_FAILED : MEMIF_JOB_OK;
+    return (memory_job() != 0u) ? MEMIF_JOB_PENDING : failed ? MEMIF_JOB_FAILED : MEMIF_JOB_OK;
 }
 
-/* What a cut leaves: bytes that were written, bytes that weren't, and any others. */
-static void tear(void)
+uint32 device_cuts(uint32 kind)
 {
-    for (uint32 i = 0u; i < size; i++) {
-        const uint32 kind = below(4u);
-        if (kind == 0u)
+    (void)kind;
+    return 600u;
+}
+
+uint32 device_fails(uint32 kind)
+{
+    (void)kind;
+    return 1500u;
+}
+
+void device_does(uint32 kind)
+{
+    if (kind == READS)
+        memcpy(target, &bytes[from], size);
+    else
+        memcpy(&bytes[from], source, size);
+}
+
+/* Bytes that were written, bytes that weren't, and any others. */
+void device_is_cut(uint32 kind)
+{
+    for (uint32 i = 0u; i < size && kind == WRITES; i++) {
+        const uint32 what = below(4u);
+        if (what == 0u)
             bytes[from + i] = source[i];
-        else if (kind == 1u)
+        else if (what == 1u)
             bytes[from + i] = (uint8)below(256u);
     }
 }
 
-void memory_tick(void)
+void device_failed(uint32 kind)
 {
-    if (job == IDLE || cut)
-        return;
-    if (!stays && below(600u) == 0u) {
-        if (job == WRITES)
-            tear();
-        cut = 1u;
-    } else if (left > 0u) {
-        left--;
-    } else {
-        failed = !stays && below(1500u) == 0u;
-        if (failed && job == WRITES)
-            tear();
-        else if (failed)
-            memset(target, 0, size);
-        else if (job == READS)
-            memcpy(target, &bytes[from], size);
-        else
-            memcpy(&bytes[from], source, size);
-        job = IDLE;
-        jobs++;
-    }
-}
-
-void memory_power_up(void)
-{
-    cut = 0u;
-    job = IDLE;
-}
-
-boolean memory_is_cut(void)
-{
-    return cut;
-}
-
-void memory_never_cut(boolean never)
-{
-    stays = never;
-}
-
-uint64 memory_jobs(void)
-{
-    return jobs;
+    failed = 1u;
+    device_is_cut(kind);
+    if (kind == READS)
+        memset(target, 0, size);
 }

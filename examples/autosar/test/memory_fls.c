@@ -9,7 +9,7 @@
 #include "memory.h"
 #include "rathonsi_flash.h"
 
-enum { IDLE, READS, PROGRAMS, ERASES };
+enum { READS = 1, PROGRAMS, ERASES };
 enum { BLANK, WHOLE, OPEN, LOST };
 
 #define LINE RATHONSI_FLASH_LINE(FVM_FLASH_UNIT)
@@ -23,21 +23,18 @@ typedef struct {
 static Line lines[FVM_FLASH_BANKS][LINES];
 static const uint8 *source;
 static uint8 *target;
-static uint32 job, left, bank, place;
-static boolean job_was_read;
-static boolean cut, failed, stays, unreadable;
-static uint64 jobs;
+static uint32 bank, place;
+static boolean failed, cancelled, unreadable;
 
 static Std_ReturnType begin(uint32 kind, uint32 address)
 {
-    if (job != IDLE || cut || address / FVM_FLASH_BANK_SIZE >= FVM_FLASH_BANKS)
+    if (address / FVM_FLASH_BANK_SIZE >= FVM_FLASH_BANKS || memory_begin(kind, 2u) != E_OK)
         return E_NOT_OK;
-    job = kind;
     bank = address / FVM_FLASH_BANK_SIZE;
     place = (address % FVM_FLASH_BANK_SIZE) / LINE;
-    left = below(2u);
     unreadable = 0u;
     failed = 0u;
+    cancelled = 0u;
     return E_OK;
 }
 
@@ -60,34 +57,37 @@ Std_ReturnType Fls_Read(uint32 SourceAddress, uint8 *TargetAddressPtr, uint32 Le
 
 MemIf_JobResultType Fls_GetJobResult(void)
 {
-    MemIf_JobResultType result = MEMIF_JOB_PENDING;
-    if (job == IDLE)
-        result = failed ? (job_was_read ? MEMIF_JOB_CANCELED : MEMIF_JOB_FAILED) : unreadable ? MEMIF_JOB_FAILED : MEMIF_JOB_OK;
+    MemIf_JobResultType result = MEMIF_JOB_OK;
+    if (memory_job() != 0u)
+        result = MEMIF_JOB_PENDING;
+    else if (cancelled)
+        result = MEMIF_JOB_CANCELED;
+    else if (failed || unreadable)
+        result = MEMIF_JOB_FAILED;
     return result;
 }
 
-static void tear(void)
+uint32 device_cuts(uint32 kind)
 {
-    if (job == PROGRAMS) {
-        lines[bank][place].state = OPEN;
-        memcpy(lines[bank][place].bytes, source, LINE);
-    } else if (job == ERASES) {
-        for (uint32 i = 0u; i < LINES; i++)
-            if (lines[bank][i].state != BLANK || below(4u) == 0u)
-                lines[bank][i].state = (lines[bank][i].state == WHOLE) ? OPEN : LOST;
-    }
+    return (kind == READS) ? 0u : 600u;
 }
 
-static void perform(void)
+uint32 device_fails(uint32 kind)
+{
+    (void)kind;
+    return 1500u;
+}
+
+void device_does(uint32 kind)
 {
     Line *line = &lines[bank][place];
-    if (job == READS) {
+    if (kind == READS) {
         if (line->state == OPEN)
             line->state = (below(2u) == 0u) ? WHOLE : LOST;
         unreadable = line->state != WHOLE;
         if (!unreadable)
             memcpy(target, line->bytes, LINE);
-    } else if (job == PROGRAMS) {
+    } else if (kind == PROGRAMS) {
         if (line->state != BLANK) {
             printf("FAILED: a line was programmed twice\n");
             exit(1);
@@ -99,44 +99,22 @@ static void perform(void)
     }
 }
 
-void memory_tick(void)
+void device_is_cut(uint32 kind)
 {
-    if (job == IDLE || cut)
-        return;
-    if (!stays && job != READS && below(600u) == 0u) {
-        tear();
-        cut = 1u;
-    } else if (left > 0u) {
-        left--;
-    } else {
-        failed = !stays && below(1500u) == 0u;
-        job_was_read = job == READS;
-        if (!failed)
-            perform();
-        else if (job != READS)
-            tear();
-        job = IDLE;
-        jobs++;
+    if (kind == PROGRAMS) {
+        lines[bank][place].state = OPEN;
+        memcpy(lines[bank][place].bytes, source, LINE);
+    } else if (kind == ERASES) {
+        for (uint32 i = 0u; i < LINES; i++)
+            if (lines[bank][i].state != BLANK || below(4u) == 0u)
+                lines[bank][i].state = (lines[bank][i].state == WHOLE) ? OPEN : LOST;
     }
 }
 
-void memory_power_up(void)
+/* A read that failed was cancelled: a line that can't be corrected is unreadable. */
+void device_failed(uint32 kind)
 {
-    cut = 0u;
-    job = IDLE;
-}
-
-boolean memory_is_cut(void)
-{
-    return cut;
-}
-
-void memory_never_cut(boolean never)
-{
-    stays = never;
-}
-
-uint64 memory_jobs(void)
-{
-    return jobs;
+    failed = 1u;
+    cancelled = kind == READS;
+    device_is_cut(kind);
 }

@@ -1,92 +1,81 @@
-/* NvM with one native block: a write leaves the old block or the new one, wherever the power goes. */
+/* NvM with one native block: a write leaves the old block or the new one, wherever the power goes. A read that failed
+ * gives the ROM default: a store with counters 0. */
 #include <string.h>
 
 #include "FvM_Cfg.h"
 #include "NvM.h"
 #include "memory.h"
 
-enum { IDLE, READS, WRITES };
+enum { READS = 1, WRITES };
 
-static uint8 block[RATHONSI_STORE_SIZE(FVM_CELLS)];
+static uint8 block[RATHONSI_STORE_SIZE(FVM_ROOM)], first_block[sizeof block];
 static const void *source;
 static void *target;
-static uint32 job, left;
-static boolean cut, failed, stays;
-static uint64 jobs;
+static boolean failed, was_made;
 
-static Std_ReturnType begin(uint32 kind)
+static Std_ReturnType begin(NvM_BlockIdType BlockId, uint32 kind)
 {
-    if (job != IDLE || cut)
-        return E_NOT_OK;
-    job = kind;
-    left = below(5u);
     failed = 0u;
-    return E_OK;
+    return (BlockId == FVM_NVM_BLOCK) ? memory_begin(kind, 5u) : E_NOT_OK;
 }
 
 Std_ReturnType NvM_ReadBlock(NvM_BlockIdType BlockId, void *NvM_DstPtr)
 {
     target = NvM_DstPtr;
-    return (BlockId == FVM_NVM_BLOCK) ? begin(READS) : E_NOT_OK;
+    return begin(BlockId, READS);
 }
 
 Std_ReturnType NvM_WriteBlock(NvM_BlockIdType BlockId, const void *NvM_SrcPtr)
 {
     source = NvM_SrcPtr;
-    return (BlockId == FVM_NVM_BLOCK) ? begin(WRITES) : E_NOT_OK;
+    return begin(BlockId, WRITES);
 }
 
+/* Of the results that aren't OK, one after another: not OK, integrity failed, restored from ROM, redundancy failed. */
 Std_ReturnType NvM_GetErrorStatus(NvM_BlockIdType BlockId, NvM_RequestResultType *RequestResultPtr)
 {
+    static const NvM_RequestResultType results[4] = {NVM_REQ_NOT_OK, 3u, 8u, 7u};
+    static uint32 which;
     (void)BlockId;
-    *RequestResultPtr = (job != IDLE) ? NVM_REQ_PENDING : failed ? NVM_REQ_NOT_OK : NVM_REQ_OK;
+    *RequestResultPtr = (memory_job() != 0u) ? NVM_REQ_PENDING : failed ? results[which++ % 4u] : NVM_REQ_OK;
     return E_OK;
 }
 
-static void perform(void)
+uint32 device_cuts(uint32 kind)
 {
-    if (job == READS)
-        memcpy(target, block, sizeof block);
-    else
-        memcpy(block, source, sizeof block);
+    (void)kind;
+    return 400u;
 }
 
-void memory_tick(void)
+uint32 device_fails(uint32 kind)
 {
-    if (job == IDLE || cut)
-        return;
-    if (!stays && below(400u) == 0u) {
-        if (job == WRITES && below(2u) == 0u)
-            perform();
-        cut = 1u;
-    } else if (left > 0u) {
-        left--;
+    (void)kind;
+    return 500u;
+}
+
+void device_does(uint32 kind)
+{
+    if (kind == READS) {
+        memcpy(target, block, sizeof block);
     } else {
-        failed = !stays && below(500u) == 0u;
-        if (!failed || below(2u) == 0u)
-            perform();
-        job = IDLE;
-        jobs++;
+        memcpy(block, source, sizeof block);
+        if (!was_made)
+            memcpy(first_block, block, sizeof block);
+        was_made = 1u;
     }
 }
 
-void memory_power_up(void)
+void device_is_cut(uint32 kind)
 {
-    cut = 0u;
-    job = IDLE;
+    if (kind == WRITES && below(2u) == 0u)
+        device_does(kind);
 }
 
-boolean memory_is_cut(void)
+void device_failed(uint32 kind)
 {
-    return cut;
-}
-
-void memory_never_cut(boolean never)
-{
-    stays = never;
-}
-
-uint64 memory_jobs(void)
-{
-    return jobs;
+    failed = 1u;
+    if (kind == READS)
+        memcpy(target, first_block, sizeof first_block);
+    else
+        device_is_cut(kind);
 }

@@ -88,7 +88,7 @@ class RouteStruct(ctypes.Structure):
         ("booted", c_uint8),
         ("opened", c_uint8),
         ("freshness_only", c_uint8),
-        ("unused", c_uint8 * 3),
+        ("check", c_uint8 * 3),
     ]
     counter: int
     data_id: int

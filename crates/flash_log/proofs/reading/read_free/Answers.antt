@@ -1,8 +1,10 @@
 use Rattle.std.proofs.Common.{◌+◌, refl, ap, ◌∙◌, arith}
 use Rattle.flash_places.specs.declared.Answer.{Answer}
+use Rattle.flash_places.specs.declared.Answer.TheVariants.{Whole}
 use Rattle.flash_places.specs.Places.{line_in}
 use Rattle.flash_log.proofs.GoingLaws.{runs_then}
-use Rattle.flash_log.proofs.FreeLaws.{not_not, one_look, look_others, look_before, look_same, same_part, blank_more, blank_to_end}
+use Rattle.flash_log.proofs.FreeLaws.{as_answer, not_not, one_look, look_others, look_before, look_same, same_part, blank_more, blank_to_end}
+use Rattle.flash_log.proofs.HeadLaws.{not_both, seen_blank, told_nothing}
 use Rattle.flash_log.proofs.reading.read_free.Goals as goal
 
 pub returns-then-not-end-clause-looks : goal.returns-then-not-end-clause-looks
@@ -77,3 +79,17 @@ pub returns-clause-free : goal.returns-clause-free
 returns-clause-free g c _ =
     blank_to_end (g.D.FlashDevice.state c.loop-place.device).flash c.args.bank c.args.end.next c.loop-place.place (g.D.FlashDevice.state c.loop-place.device).places
     (g.met.D.FlashDevice.is_flash c.loop-place.device).behind (omega (arith, c.loop-place.invariant.runs.places)) c.loop-place.invariant.blank
+
+pub returns-then-not-end-clause-told : goal.returns-then-not-end-clause-told
+returns-then-not-end-clause-told g c tells blank = absurd (not_both c.args.end.is_blank c.if-not-end.true (c.requires.told tells (blank c.args.end.next (omega arith))))
+
+pub returns-in-Whole-clause-told : goal.returns-in-Whole-clause-told
+returns-in-Whole-clause-told g c tells blank =
+    let looks = as_answer _ _ c.in_ok-look.field-0 (Whole c.in-Whole.field-0) c.in_ok-look.ensures.looks.looks c.in-Whole.is in
+    absurd (seen_blank ((g.D.FlashDevice.state c.loop-place.device).flash c.args.bank c.loop-place.place) ((g.D.FlashDevice.state c.look.new.self).flash c.args.bank c.loop-place.place) c.in-Whole.field-0
+    looks (blank c.loop-place.place (omega arith)))
+
+pub returns-in-Nothing-clause-told : goal.returns-in-Nothing-clause-told
+returns-in-Nothing-clause-told g c tells blank =
+    absurd (told_nothing c.in_ok-look.field-0 ((g.D.FlashDevice.state c.loop-place.device).flash c.args.bank c.loop-place.place) ((g.D.FlashDevice.state c.look.new.self).flash c.args.bank c.loop-place.place)
+    (c.in_ok-look.ensures.told (c.loop-place.invariant.runs.tells ∙ tells)) c.in_ok-look.ensures.looks.looks c.in-Nothing.is (blank c.loop-place.place (omega arith)))

@@ -1,7 +1,8 @@
-use Rattle.std.proofs.Common.{◌≡◌, Ok, length, [], refl, sym, ap, ◌∙◌}
+use Rattle.std.proofs.Common.{◌≡◌, Ok, length, [], refl, sym, ap, ◌∙◌, arith}
 use Rattle.flash_log.proofs.GoingLaws.{OnErr-from}
 use Rattle.flash_log.proofs.BankLaws.{is_read, read_beyond, no_copy, head_part, puts_part, is_read_as, taken_part}
 use Rattle.flash_log.proofs.FreeLaws.{head_looks, no_head, part_more, reads_more}
+use Rattle.flash_log.proofs.HeadLaws.{noted_as}
 use Rattle.flash_log.proofs.reading.read_log.Goals as goal
 
 pub returns-in_err-head-clause-part : goal.returns-in_err-head-clause-part
@@ -59,3 +60,26 @@ pub returns-in-None-clause-log : goal.returns-in-None-clause-log
 returns-in-None-clause-log g c =
     let d = c.in_ok-head.ensures.looks in
     no_head c.in_ok-head.head (length c.args.cells.now) ((g.D.FlashDevice.state c.args.device.now).flash c.args.bank) ((g.D.FlashDevice.state c.look.new.self).flash c.args.bank) c.args.cells.now (sym c.generation_of.ensures ∙ c.in-None.is) d.looks d.same.rest
+
+pub read_free-requires-clause-told : goal.read_free-requires-clause-told
+read_free-requires-clause-told g c tells blank = c.in_ok-end-in-Some.ensures.told (sym c.read_puts.ensures.runs.tells ∙ tells) blank
+
+pub returns-in_ok-is_free-in-Some-clause-told : goal.returns-in_ok-is_free-in-Some-clause-told
+returns-in_ok-is_free-in-Some-clause-told g c tells blank =
+    c.in_ok-is_free-in-Some.ensures.told (c.read_puts.ensures.runs.tells ∙ (c.read_copy.ensures.runs.tells ∙ (c.look.ensures.runs.tells ∙ tells))) blank
+
+pub returns-then-not-branch-clause-noted : goal.returns-then-not-branch-clause-noted
+returns-then-not-branch-clause-noted g c tells =
+    noted_as c.in_ok-head.head ((g.D.FlashDevice.state c.args.device.now).flash c.args.bank 0) ((g.D.FlashDevice.state c.look.new.self).flash c.args.bank 0) ((g.D.FlashDevice.state c.read_copy.new.device).flash c.args.bank 0) c.latest_of-latest.result
+    c.latest_of-latest.ensures (c.in_ok-head.ensures.told tells) c.in_ok-head.ensures.looks.looks c.read_copy.ensures.head
+
+pub returns-in_ok-is_free-in-Some-clause-noted : goal.returns-in_ok-is_free-in-Some-clause-noted
+returns-in_ok-is_free-in-Some-clause-noted g c tells =
+    noted_as c.in_ok-head.head ((g.D.FlashDevice.state c.args.device.now).flash c.args.bank 0) ((g.D.FlashDevice.state c.look.new.self).flash c.args.bank 0) ((g.D.FlashDevice.state c.read_free.new.device).flash c.args.bank 0) c.latest_of-latest.result
+    c.latest_of-latest.ensures (c.in_ok-head.ensures.told tells) c.in_ok-head.ensures.looks.looks
+    (c.read_free.ensures.before 0 (omega arith) ∙ (c.read_puts.ensures.before 0 (omega arith) ∙ c.read_copy.ensures.head))
+
+pub returns-in-None-clause-noted : goal.returns-in-None-clause-noted
+returns-in-None-clause-noted g c tells =
+    noted_as c.in_ok-head.head ((g.D.FlashDevice.state c.args.device.now).flash c.args.bank 0) ((g.D.FlashDevice.state c.look.new.self).flash c.args.bank 0) ((g.D.FlashDevice.state c.look.new.self).flash c.args.bank 0) c.latest_of-latest.result
+    c.latest_of-latest.ensures (c.in_ok-head.ensures.told tells) c.in_ok-head.ensures.looks.looks refl

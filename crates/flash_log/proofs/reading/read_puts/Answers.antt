@@ -1,4 +1,5 @@
 use Rattle.std.proofs.Common.{◌+◌, length, ◌∙◌, arith}
+use Rattle.flash_log.proofs.HeadLaws.{told_nothing}
 use Rattle.flash_places.specs.declared.Answer.TheVariants.{Whole, Blank, Nothing}
 use Rattle.flash_log.proofs.GoingLaws.{runs_then, others_then}
 use Rattle.flash_log.proofs.BankLaws.{puts_end, puts_on}
@@ -30,3 +31,8 @@ loop-place-preserved g c =
           (as_answer _ _ c.in_ok-line.field-0 (Whole c.in-Whole.line) d.looks c.in-Whole.is)
           (omega arith) c.make_line.ensures;
     }
+
+pub returns-in-Nothing-clause-told : goal.returns-in-Nothing-clause-told
+returns-in-Nothing-clause-told g c tells blank =
+    absurd (told_nothing c.in_ok-line.field-0 ((g.D.FlashDevice.state c.loop-place.device).flash c.args.bank c.loop-place.place) ((g.D.FlashDevice.state c.look.new.self).flash c.args.bank c.loop-place.place)
+    (c.in_ok-line.ensures.told (c.loop-place.invariant.runs.tells ∙ tells)) c.in_ok-line.ensures.looks.looks c.in-Nothing.is blank)

@@ -2,10 +2,10 @@ use Rattle.std.proofs.Common.{◌≡◌, true, length, sym, subst}
 use Rattle.flash_log.specs.declared.reading.LogEnd.{LogEnd}
 use Rattle.flash_log.specs.declared.scanning.Best.{Best}
 use Rattle.flash_log.specs.Going.{BlankFrom}
-use Rattle.flash_log.specs.Scanned.{FreeBest}
+use Rattle.flash_log.specs.Scanned.{FreeBest, ToldBest}
 use Rattle.flash_log.proofs.GoingLaws.{in_some}
 use Rattle.flash_log.proofs.BankLaws.{is_read_as}
-use Rattle.flash_log.proofs.ScanLaws.{scanned_same, scanned_stays, scanned_new, free_same, free_judged}
+use Rattle.flash_log.proofs.ScanLaws.{scanned_same, scanned_stays, scanned_new, free_same, free_judged, told_same, told_judged}
 use Rattle.flash_log.proofs.scanning.read_bank.Goals as goal
 
 pub returns-then-not-is_new-clause-scanned : goal.returns-then-not-is_new-clause-scanned
@@ -43,3 +43,21 @@ returns-else-not-is_new-clause-free g c first s free =
 pub returns-in-None-clause-free : goal.returns-in-None-clause-free
 returns-in-None-clause-free g c first s free =
     free_same (length c.args.cells.now) c.args.bank s.read (g.D.FlashDevice.state c.args.device.now).flash (g.D.FlashDevice.state c.read_log.new.device).flash c.args.cells.now c.read_log.ensures.others c.args.best s.is free
+
+pub returns-then-not-is_new-clause-told : goal.returns-then-not-is_new-clause-told
+returns-then-not-is_new-clause-told g c first tells s told =
+    subst (λ (b : Best). ToldBest (g.D.FlashDevice.state c.read_log.new.device).flash b) (sym c.judge-better.ensures.best)
+    (told_judged (length c.args.cells.now) c.args.bank s.read (g.D.FlashDevice.state c.args.device.now).flash (g.D.FlashDevice.state c.read_log.new.device).flash c.args.cells.now c.read_log.ensures.others c.in-Some.log
+    (in_some (λ (z : LogEnd). (g.D.FlashDevice.state c.args.device.now).tells_blank ≡ true → BlankFrom (g.D.FlashDevice.state c.read_log.new.device).flash c.args.bank z.next → z.is_free ≡ true)
+    c.in_ok-read.read.log c.in-Some.log c.in_ok-read.ensures.told c.in-Some.is tells) c.args.best s.is told)
+
+pub returns-else-not-is_new-clause-told : goal.returns-else-not-is_new-clause-told
+returns-else-not-is_new-clause-told g c first tells s told =
+    subst (λ (b : Best). ToldBest (g.D.FlashDevice.state c.read_log.new.device).flash b) (sym c.judge-better.ensures.best)
+    (told_judged (length c.args.cells.now) c.args.bank s.read (g.D.FlashDevice.state c.args.device.now).flash (g.D.FlashDevice.state c.read_log.new.device).flash c.args.cells.now c.read_log.ensures.others c.in-Some.log
+    (in_some (λ (z : LogEnd). (g.D.FlashDevice.state c.args.device.now).tells_blank ≡ true → BlankFrom (g.D.FlashDevice.state c.read_log.new.device).flash c.args.bank z.next → z.is_free ≡ true)
+    c.in_ok-read.read.log c.in-Some.log c.in_ok-read.ensures.told c.in-Some.is tells) c.args.best s.is told)
+
+pub returns-in-None-clause-told : goal.returns-in-None-clause-told
+returns-in-None-clause-told g c first tells s told =
+    told_same (length c.args.cells.now) c.args.bank s.read (g.D.FlashDevice.state c.args.device.now).flash (g.D.FlashDevice.state c.read_log.new.device).flash c.args.cells.now c.read_log.ensures.others c.args.best s.is told

@@ -1,9 +1,11 @@
+use Rattle.std.proofs.lemmas.Bool.{true≢false}
 use Rattle.std.proofs.Common.{◌≡◌, ◌<◌, inl, inr, ℕ, Bool, true, false, Option, Some, None, List, length, get_or, refl, sym, ap, ◌∙◌}
 use Rattle.flash_places.specs.declared.FlashLine.{FlashLine}
 use Rattle.flash_places.specs.declared.mem_flash.MemPlace.{MemPlace}
-use Rattle.flash_places.specs.Places.{FlashPlace, Looks, sees, sees_nothing, whole_place}
+use Rattle.flash_places.specs.Places.{FlashPlace, Looks, sees, sees_nothing, blank_place, whole_place}
 use Rattle.flash_places.specs.Memory.{flash_place_in, flash_place_of}
 use Rattle.flash_places.proofs.ListLaws.{place_set, place_other, place_get}
+use Rattle.flash_places.proofs.mem_flash.see.Goals.{else-was-2-via-then-was-2+else-tells_blank, else-was-2-via-else-was-2}
 use Rattle.flash_places.proofs.mem_flash.see.Goals as goal
 
 -- the place that was read
@@ -48,3 +50,30 @@ returns-else-not-is_seen-clause-looks c = see_settles _ _ c.index-was.result.now
 
 pub returns-else-was-2-clause-looks : goal.returns-else-was-2-clause-looks
 returns-else-was-2-clause-looks c = see_none _ c.index-was.result.now _ (place_at _ _ c.index-was.result.now c.requires c.index-was.ensures) c.in-None.is refl
+
+-- a place with a line isn't blank
+line_not_blank : (p : FlashPlace) (w : MemPlace) (line : FlashLine) → p ≡ flash_place_of w → w.content ≡ Some line → p ≡ blank_place → ⊥
+line_not_blank p w line is held blank = (let e : Some line ≡ None = sym held ∙ ap (λ (x : FlashPlace). x.content) (sym is ∙ blank) in absurd (cc))
+
+-- a blank place is firm
+blank_is_firm : (p : FlashPlace) (w : MemPlace) → p ≡ flash_place_of w → p ≡ blank_place → w.firm ≡ true
+blank_is_firm p w is blank = ap (λ (x : FlashPlace). x.firm) (sym is ∙ blank)
+
+pub returns-then-was-clause-told : goal.returns-then-was-clause-told
+returns-then-was-clause-told c tells blank =
+    absurd (line_not_blank _ c.index-was.result.now c.in-Some.line (place_at _ _ c.index-was.result.now c.requires c.index-was.ensures) c.in-Some.is blank)
+
+pub returns-then-not-is_seen-clause-told : goal.returns-then-not-is_seen-clause-told
+returns-then-not-is_seen-clause-told c tells blank =
+    absurd (line_not_blank _ c.index-was.result.now c.in-Some.line (place_at _ _ c.index-was.result.now c.requires c.index-was.ensures) c.in-Some.is blank)
+
+pub returns-else-not-is_seen-clause-told : goal.returns-else-not-is_seen-clause-told
+returns-else-not-is_seen-clause-told c tells blank =
+    absurd (line_not_blank _ c.index-was.result.now c.in-Some.line (place_at _ _ c.index-was.result.now c.requires c.index-was.ensures) c.in-Some.is blank)
+
+pub returns-else-was-2-clause-told : goal.returns-else-was-2-clause-told
+returns-else-was-2-clause-told c tells blank =
+    elim c.else-was-2.branch [
+      | else-was-2-via-then-was-2+else-tells_blank w ↦ absurd (true≢false (sym tells ∙ w.if-tells_blank.false))
+      | else-was-2-via-else-was-2 w ↦ absurd (true≢false (sym (blank_is_firm _ c.index-was.result.now (place_at _ _ c.index-was.result.now c.requires c.index-was.ensures) blank) ∙ w.if-was-2.false))
+    ]

@@ -9,7 +9,7 @@ pub loop-operation-init : goal.loop-operation-init
 loop-operation-init g c = record {
   plan = c.requires.plan;
   sizes = record { banks = refl; places = refl };
-  runs = record { banks = refl; places = refl; later = omega arith };
+  runs = record { banks = refl; places = refl; later = omega arith; tells = refl };
   cells = refl;
   scratch = c.requires.alike;
   formats = λ h. h;
@@ -53,6 +53,7 @@ loop-operation-preserved g c =
         banks = c.perform-outcome.ensures.runs.banks ∙ v.runs.banks;
         places = c.perform-outcome.ensures.runs.places ∙ v.runs.places;
         later = omega (arith, v.runs.later, c.perform-outcome.ensures.runs.later);
+        tells = c.perform-outcome.ensures.runs.tells ∙ v.runs.tells;
       };
       cells = c.did.auto.cells ∙ v.cells;
       scratch = c.did.auto.scratch ∙ v.scratch;

@@ -1,11 +1,12 @@
-use Rattle.std.proofs.Common.{ℕ, inr, refl, rules}
+use Rattle.std.proofs.Common.{ℕ, inr, refl, rules, sym, subst, FitsSigned, w32}
 use Rattle.freshness_routes.specs.declared.routes.Direction.TheVariants.{Receives}
 use Rattle.rathonsi_c.specs.declared.TheConstants.{FRESHNESS_FAILURE, RESERVE}
 use Rattle.rathonsi_c.specs.Causes.{IfCause, IsDone}
 use Rattle.rathonsi_c.specs.Routes.{status_alone}
-use Rattle.rathonsi_c.specs.Freshness.{AheadWithBits, TakesBits, AheadOfBound}
-use Rattle.rathonsi_c.proofs.BoundLaws.{bounded_rest}
+use Rattle.rathonsi_c.specs.Freshness.{AheadWithBits, TakesBits, AheadOfBound, CandidateAnswers}
+use Rattle.rathonsi_c.proofs.BoundLaws.{bounded_rest, weaker_rest}
 use Rattle.rathonsi_c.proofs.FreshnessLaws.{candidate_covered}
+use Rattle.std.proofs.lemmas.Int.{to_z-of_z}
 use Rattle.rathonsi_c.proofs.freshness.rathonsi_freshness_candidate.Goals as goal
 
 pub returns-else-found-bound-clause-answer : goal.returns-else-found-bound-clause-answer
@@ -27,3 +28,19 @@ returns-else-found-bound-clause-answer c =
         )),
       ),
     )
+
+pub returns-in-Err-clause-answer : goal.returns-in-Err-clause-answer
+returns-in-Err-clause-answer c =
+    let r = c.args.route.now in
+    let bits = c.args.bits in
+    let truncated = c.args.truncated in
+    let status = c.in-Err.status in
+    let fits : FitsSigned w32 status = search rules in
+    let takes : TakesBits r.window bits truncated = c.takes_bits.ensures.0 c.if-not-takes_bits.false in
+    subst (λ s. CandidateAnswers c.args.route.now c.args.image.now c.args.truncated c.args.bits s) (sym (to_z-of_z w32 status fits)) (inr (
+      (λ other. other c.if-route-ne1.false),
+      inr (
+        (λ other. other takes),
+        weaker_rest status_alone r Receives c.args.image.now (λ _. ⊥) (IfCause ((freshness : ℕ) → ¬ AheadWithBits r.counter r.window bits truncated freshness) FRESHNESS_FAILURE (IfCause (AheadOfBound r c.args.image.now bits truncated) RESERVE IsDone)) status (λ says. absurd says) c.in-Err.ensures.refused,
+      ),
+    ))

@@ -1,6 +1,7 @@
 use Rattle.std.proofs.Common.{◌≡◌, ◌+◌, ◌<◌, ◌^◌, inl, inr, sym, subst, FitsSigned, w32, rules, arith}
 use Rattle.std.proofs.lemmas.Int.{to_z-of_z}
 use Rattle.rathonsi_c.specs.declared.TheConstants.{OK}
+use Rattle.rathonsi_c.specs.Routes.{IsOpened}
 use Rattle.rathonsi_c.specs.Reserving.{ReserveAheadAnswers}
 use Rattle.rathonsi_c.proofs.ImageLaws.{bound_alone}
 use Rattle.rathonsi_c.proofs.AnswerLaws.{damaged_keeps_none}
@@ -19,7 +20,7 @@ returns-clause-answer c =
     let next = c.in-Some-checked_add.next in
     let one : next ≡ bound + 1 = search rules in
     let few : bound + 1 < 2 ^ 64 = search rules in
-    let opened : r.opened ≡ 1 = (let t = c.if-route-ne1.false in omega arith) in
+    let opened : IsOpened r = c.is_open.ensures.0 c.if-not-is_open.false in
     let done : c.plan_ahead.result ≡ OK = elim c.plan_ahead.ensures.answer [
       | inl (h, _) ↦ absurd (let high = reserved-high r image d bound kept next h in let least = ranges.reserve_least in omega arith)
       | inr (_, ok) ↦ ok

@@ -1,6 +1,11 @@
-use Rattle.std.proofs.Common.{◌≡◌, inl, inr, arith, rules}
+use Rattle.std.proofs.Common.{◌≡◌, inl, inr, arith, rules, sym, subst, FitsSigned, w32}
 use Rattle.rathonsi_c.proofs.ImageLaws.{bound_alone}
 use Rattle.rathonsi_c.proofs.AnswerLaws.{damaged_keeps_none}
+use Rattle.std.proofs.lemmas.Int.{to_z-of_z}
+use Rattle.rathonsi_c.specs.declared.TheConstants.{BAD_VALUE}
+use Rattle.rathonsi_c.specs.Causes.{IfCause, IsDone}
+use Rattle.rathonsi_c.specs.Routes.{IsFarAhead, ReserveAnswers}
+use Rattle.rathonsi_c.proofs.BoundLaws.{weaker_plan}
 use Rattle.rathonsi_c.proofs.route.rathonsi_route_reserve.Goals as goal
 
 pub returns-clause-answer : goal.returns-clause-answer
@@ -33,3 +38,12 @@ returns-clause-answer c =
         ),
       ),
     )
+
+pub returns-in-Err-clause-answer : goal.returns-in-Err-clause-answer
+returns-in-Err-clause-answer c =
+    let r = c.args.route.now in
+    let image = c.args.image.now in
+    let status = c.in-Err.status in
+    let fits : FitsSigned w32 status = search rules in
+    subst (λ s. ReserveAnswers c.args.route.now c.args.image.now c.args.freshness c.args.plan.now s) (sym (to_z-of_z w32 status fits))
+    (weaker_plan r image c.args.plan.now (λ _. ⊥) (IfCause (IsFarAhead r image c.args.freshness) BAD_VALUE IsDone) status (λ says. absurd says) c.in-Err.ensures.refused)

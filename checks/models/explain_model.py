@@ -1,0 +1,264 @@
+#!/usr/bin/env python3
+"""What `explain` prints, by the CMAC of Python's `cryptography`; and logs.
+
+explain_model.py MAP LOG   what `explain MAP LOG` prints. It looks for no fault of the map
+explain_model.py --log     a log of the frames that standard input names, a line each:
+                           CAN KEY ID PAYLOAD FRESH [HOW..]. FRESH is a sum such as 70000+2. HOW is swap_id,
+                           swap_freshness or last (how the PDU is made), bit=19 (inverted), to=9 (cut short),
+                           more=3 (bytes behind it), times=2 or classic. A line that begins with = is copied
+
+checks/drawn imports it.
+"""
+import pathlib
+import re
+import sys
+
+from cryptography.hazmat.primitives.ciphers.algorithms import AES
+from cryptography.hazmat.primitives.cmac import CMAC
+
+FRAME = re.compile(rb"([0-9A-Fa-f]{3}|[0-9A-Fa-f]{8})#(?:#[0-9A-Fa-f]((?:[0-9A-Fa-f]{2}){0,64})|((?:[0-9A-Fa-f]{2}){0,8}))")
+KEPT = 65536
+FAR = 65536
+
+
+def cmac(key, message):
+    mac = CMAC(AES(key))
+    mac.update(message)
+    return mac.finalize()
+
+
+def covered(data_id, payload, freshness, swap_id=False, swap_freshness=False):
+    """What the authenticator covers."""
+    return (
+        data_id.to_bytes(2, "little" if swap_id else "big")
+        + payload
+        + freshness.to_bytes(8, "little" if swap_freshness else "big")
+    )
+
+
+def pdu(key, data_id, payload, freshness, last=False, **swaps):
+    """A Secured PDU, made as the standard says or otherwise."""
+    mac = cmac(key, covered(data_id, payload, freshness, **swaps))
+    return payload + bytes([freshness & 0xFF]) + (mac[-3:] if last else mac[:3])
+
+
+def inverted(data, bit):
+    """The data with one bit inverted."""
+    data = bytearray(data)
+    data[bit // 8] ^= 1 << bit % 8
+    return bytes(data)
+
+
+class Line:
+    """A line of a map."""
+
+    def __init__(self, number, words):
+        words = words[: next((at for at, word in enumerate(words) if word.startswith(b"#")), len(words))]
+        self.number = number
+        self.optional = b"optional" in words
+        self.name = next((word[5:] for word in words if word.startswith(b"name=")), words[0].lower())
+        words = [word for word in words if word != b"optional" and not word.startswith(b"name=")]
+        self.can = words[0].lower()
+        self.data_id = int(words[1], 16)
+        self.key = bytes.fromhex(words[2].decode())
+        self.first = self.counter = int(words[3], 16)
+        self.size = int(words[4])
+        self.window = int(words[5]) if len(words) > 5 else 256
+        self.channel = words[6] if len(words) > 6 and words[6] != b"-" else None
+
+
+def map_of(text):
+    lines = enumerate(text.split(b"\n"), 1)
+    return [Line(number, line.split()) for number, line in lines if line.split() and not line.split()[0].startswith(b"#")]
+
+
+class Found(Exception):
+    """A reason that holds."""
+
+
+class Search:
+    """Looks for the reason of one frame, and counts the authenticators that it computes."""
+
+    def __init__(self, mapping, accepted, line, data):
+        self.mapping, self.accepted, self.line, self.data = mapping, accepted, line, data
+        self.tries = 0
+
+    def fits(self, reason, key, data_id, size, data, freshness, last=False, **swaps):
+        """Raises the reason if this frame verifies so."""
+        if not 1 <= size <= 60 or len(data) < size + 4 or freshness >= 1 << 64 or freshness & 0xFF != data[size]:
+            return
+        self.tries += 1
+        mac = cmac(key, covered(data_id, data[:size], freshness, **swaps))
+        if data[size + 1 : size + 4] == (mac[-3:] if last else mac[:3]):
+            raise Found(reason)
+
+    def within(self, reason, line, data=None, **other):
+        """The same with the freshness within the window of a line that the frame's low byte has."""
+        size = other.pop("size", line.size)
+        counter, window = other.pop("counter", line.counter), other.pop("window", line.window)
+        key, data_id = other.pop("key", line.key), other.pop("data_id", line.data_id)
+        data = self.data if data is None else data
+        if len(data) < size + 4:
+            return
+        freshness = counter + 1 + (data[size] - counter - 1) % 256
+        if freshness <= counter + window:
+            self.fits(reason, key, data_id, size, data, freshness, **other)
+
+    def all(self):
+        own, data = self.line, self.data
+        for number, line, freshness in reversed(self.accepted[-KEPT:]):
+            if line is own:
+                self.fits(f"replay of line {number}", own.key, own.data_id, own.size, data, freshness)
+        # every 256th freshness has the low byte that the frame carries
+        low = data[own.size] if own.size < len(data) else 0
+        beyond = own.window + 1
+        for steps in range(beyond + (low - own.counter - beyond) % 256, beyond + FAR, 256):
+            text = f"{steps} ahead: the window is {own.window}, {steps - own.window} frames were missed beyond it"
+            self.fits(text, own.key, own.data_id, own.size, data, own.counter + steps)
+        for size in range(1, 61):
+            if size != own.size:
+                self.within(f"verifies with a payload of {size}", own, size=size)
+        others = [line for line in self.mapping if line is not own]
+        for line in others:
+            self.within(f"verifies as line {line.number}", line)
+        for line in others:
+            self.within(f"verifies with the key of line {line.number}", own, key=line.key)
+        for line in others:
+            self.within(f"verifies with the Data ID of line {line.number}", own, data_id=line.data_id)
+        self.within("verifies with the Data ID's bytes in the other order", own, swap_id=True)
+        self.within("verifies with the freshness's bytes in the other order", own, swap_freshness=True)
+        self.within("authenticator is the CMAC's last bytes", own, last=True)
+        for bit in range(8 * (own.size + 4)):
+            if bit // 8 < len(data):
+                self.within(f"bit {bit % 8} of byte {bit // 8} is flipped", own, data=inverted(data, bit))
+
+    def reason(self):
+        try:
+            self.all()
+        except Found as found:
+            hedge = "perhaps " if 1000 * self.tries > 1 << 24 else ""
+            return f"{hedge}{found}, tries {self.tries}"
+        if len(self.data) < self.line.size + 4:
+            return f"too short for a payload of {self.line.size}, tries {self.tries}"
+        return f"no reason found: key, or contents, tries {self.tries}"
+
+
+def frame_of(line):
+    """The identifier, channel and data of a line of a log; nothing if it has no data frame."""
+    # space and tab stand between words, and one carriage return at the end of a line isn't looked at
+    words = re.split(rb"[ \t]+", (line[:-1] if line.endswith(b"\r") else line).strip(b" \t"))
+    if len(line) > 4096 or len(words) < 3 or not (words[0].startswith(b"(") and words[0].endswith(b")")):
+        return None
+    frame = FRAME.fullmatch(words[2])
+    if not frame:
+        return None
+    return frame[1].lower(), words[1], bytes.fromhex((frame[2] or frame[3] or b"").decode())
+
+
+def explained(map_text, log_text):
+    """What is printed, and the status."""
+    mapping, accepted, text, failed = map_of(map_text), [], b"", False
+    for number, line in enumerate(log_text.split(b"\n"), 1):
+        frame = frame_of(line)
+        if not frame:
+            continue
+        can, channel, data = frame
+        own = next((l for l in mapping if l.can == can and l.channel in (None, channel)), None)
+        if own is None:
+            continue
+        try:
+            Search(mapping, accepted, own, data).within("", own)
+        except Found:
+            own.counter += 1 + (data[own.size] - own.counter - 1) % 256
+            accepted.append((number, own, own.counter))
+            continue
+        failed = True
+        reason = Search(mapping, accepted, own, data).reason()
+        text += b"%d %s %s\n" % (number, own.name, reason.encode())
+    heard = all(line.optional or line.counter > line.first for line in mapping)
+    return text, 1 if failed else 0 if mapping and heard else 3
+
+
+# ---- `explain --locate`
+
+
+def frames_of(line, mapping, log_text):
+    """The data of the first sixteen frames of a log that a line of a map hears."""
+    found = []
+    for text in log_text.split(b"\n"):
+        frame = frame_of(text)
+        if frame and next((l for l in mapping if l.can == frame[0] and l.channel in (None, frame[1])), None) is line:
+            found.append(frame[2])
+    return found[:16]
+
+
+def verifies(line, data, freshness):
+    size = line.size
+    if len(data) < size + 4 or freshness >= 1 << 64 or freshness & 0xFF != data[size]:
+        return False
+    return data[size + 1 : size + 4] == cmac(line.key, covered(line.data_id, data[:size], freshness))[:3]
+
+
+def next_of(line, counter, data):
+    """The freshness with which a receiver accepts a frame; nothing if it doesn't."""
+    return next((v for v in range(counter + 1, counter + 1 + line.window) if verifies(line, data, v)), None)
+
+
+def located(line, frames, first, last):
+    """The least freshness of a range with which the first frame verifies, and after which two others are accepted."""
+    if not frames or len(frames[0]) < line.size + 4:
+        return None
+    for value in range(first + (frames[0][line.size] - first) % 256, last + 1, 256):
+        if verifies(line, frames[0], value):
+            counter, accepted = value, 0
+            for frame in frames[1:]:
+                following = next_of(line, counter, frame)
+                if following is not None:
+                    counter, accepted = following, accepted + 1
+            if accepted >= 2:
+                return value
+    return None
+
+
+def filled(map_text, log_text, first=1, last=1 << 32):
+    """The map with each FRESH that is `?` filled in, and the status."""
+    lines = map_text.split(b"\n")
+    lines = lines[:-1] if lines[-1] == b"" else lines
+    asks = [len(l.split()) >= 4 and l.split()[3] == b"?" and not l.split()[0].startswith(b"#") for l in lines]
+
+    def put(line, fresh):
+        return line.replace(b"?", fresh, 1)
+
+    mapping = map_of(b"\n".join(put(l, b"0" * 16) if ask else l for l, ask in zip(lines, asks)))
+    text, status = b"", 0
+    for number, (line, ask) in enumerate(zip(lines, asks), 1):
+        if ask:
+            own = next(l for l in mapping if l.number == number)
+            value = located(own, frames_of(own, mapping, log_text), first, last)
+            status = 1 if value is None else status
+            line = line if value is None else put(line, b"%016x" % (value - 1))
+        text += line + b"\n"
+    return text, status
+
+
+def logged(text):
+    """The lines of a log for a line that names a frame."""
+    can, key, data_id, payload, fresh, *hows = text.split()
+    how = dict(it.partition("=")[::2] for it in hows)
+    made = {name: True for name in ("swap_id", "swap_freshness", "last") if name in how}
+    data = pdu(bytes.fromhex(key), int(data_id, 16), bytes.fromhex(payload), sum(int(it, 0) for it in fresh.split("+")), **made)
+    data = inverted(data, int(how["bit"])) if "bit" in how else data
+    data = data[: int(how.get("to", 64))] + bytes(int(how.get("more", 0)))
+    return f"(1.0) can0 {can}{'#' if 'classic' in how else '##1'}{data.hex()}\n" * int(how.get("times", 1))
+
+
+def main(words):
+    if words == ["--log"]:
+        for line in sys.stdin.read().splitlines():
+            sys.stdout.write(line[1:] + "\n" if line.startswith("=") else logged(line))
+    else:
+        sys.stdout.buffer.write(explained(*(pathlib.Path(it).read_bytes() for it in words))[0])
+
+
+if __name__ == "__main__":
+    main(sys.argv[1:])

@@ -1,0 +1,66 @@
+/* Jobs of a memory, one at a time, and the power that goes within them. */
+#include "memory.h"
+
+static uint32 job, left, times;
+static boolean cut;
+static uint64 jobs;
+
+/* Whether it happens now: once in so many, or more often. */
+static boolean happens(uint32 once_in)
+{
+    return times != 0u && once_in != 0u && below(once_in / times) == 0u;
+}
+
+Std_ReturnType memory_begin(uint32 kind, uint32 cycles)
+{
+    if (job != 0u || cut)
+        return E_NOT_OK;
+    job = kind;
+    left = below(cycles);
+    return E_OK;
+}
+
+uint32 memory_job(void)
+{
+    return job;
+}
+
+void memory_tick(void)
+{
+    if (job == 0u || cut)
+        return;
+    if (happens(device_cuts(job))) {
+        device_is_cut(job);
+        cut = 1u;
+    } else if (left > 0u) {
+        left--;
+    } else {
+        if (happens(device_fails(job)))
+            device_failed(job);
+        else
+            device_does(job);
+        job = 0u;
+        jobs++;
+    }
+}
+
+void memory_power_up(void)
+{
+    cut = 0u;
+    job = 0u;
+}
+
+boolean memory_is_cut(void)
+{
+    return cut;
+}
+
+void memory_cut(uint32 often)
+{
+    times = often;
+}
+
+uint64 memory_jobs(void)
+{
+    return jobs;
+}
