@@ -11,7 +11,8 @@
 
 ghost use Rattle.std.specs.Prelude.{◌≡◌, ◌<◌, IfOk, OnOk, OnErr};
 ghost use Rattle.basics.specs.FaultCount.{Rose};
-ghost use Rattle.seal_parts.specs.Parts.{MayProgram, FitsUnit, ErasesBank, CutsBankErase, ProgramsUnit, CutsProgramming};
+ghost use Rattle.seal_parts.specs.Parts.{MayProgram, FitsUnit, ErasesBank, CutsBankErase, ProgramsUnit};
+ghost use Rattle.seal_parts.specs.Parts.{CutsProgramming};
 ghost use Rattle.seal_parts.specs.Parts.{ReadsUnit, SamePart};
 ghost use Rattle.seal_parts.specs.State.{PartState, PartRuns, IsPart};
 
