@@ -205,8 +205,11 @@ class Row:
             if kind == "folder":
                 (folder / name).mkdir()
             elif kind == "socket":
+                # by a short name, since there is a limit
+                place = os.open(folder, os.O_RDONLY)
                 with socket.socket(socket.AF_UNIX) as it:
-                    it.bind(bytes(folder / name))
+                    it.bind(f"/proc/self/fd/{place}/{name}")
+                os.close(place)
             elif kind == "fifo":
                 os.mkfifo(folder / name)
                 if "fed" in spec:
