@@ -538,6 +538,8 @@ RathonsiVerdict rathonsi_route_receive(RathonsiRoute *route, const uint8_t *imag
  *   2. That unit makes the answer by rathonsi_sync_answer, and sends its 24 bytes back.
  *   3. The receiver takes the answer by rathonsi_sync_take, and forgets the nonce.
  * How nonce and answer travel is the caller's: plain PDUs will do. examples/c/resync.c does it.
+ * An answer names no direction: a unit that sends and receives under one Data ID and key would take
+ * its own. It makes no answers under that Data ID, or has another key for each direction.
  *
  * The library has no random numbers. The caller draws each nonce so that none comes twice. If one
  * does, an old answer to it is taken again. It moves the counter at most to where the sender was
