@@ -45,8 +45,8 @@
  *   - A Data ID in one direction has one cell and one route. No other route uses the cell.
  *     rathonsi_routes_open sees to it, if one call gets all routes of the store. rathonsi_route_make
  *     and rathonsi_store_grow refuse a second cell, and rathonsi_store_look names one.
- *   - An open route is not filled in with another Data ID, direction or cell. Every call refuses
- *     it then, by the check value of the route.
+ *   - An open route is not filled in with another Data ID, direction or cell. The calls on an open
+ *     route refuse it then, by its check value. Opening it again doesn't.
  *   - A route has the same Data ID, direction and cell in every life. Slot, window, reserve and
  *     booted may change. The caller zeroes opened at power-up, and never sets it.
  *   - While a plan is pending, routes send and receive as before. A new plan answers RATHONSI_BUSY.
@@ -538,6 +538,8 @@ RathonsiVerdict rathonsi_route_receive(RathonsiRoute *route, const uint8_t *imag
  *   2. That unit makes the answer by rathonsi_sync_answer, and sends its 24 bytes back.
  *   3. The receiver takes the answer by rathonsi_sync_take, and forgets the nonce.
  * How nonce and answer travel is the caller's: plain PDUs will do. examples/c/resync.c does it.
+ * An answer names no direction: a unit that sends and receives under one Data ID and key would take
+ * its own. It makes no answers under that Data ID, or has another key for each direction.
  *
  * The library has no random numbers. The caller draws each nonce so that none comes twice. If one
  * does, an old answer to it is taken again. It moves the counter at most to where the sender was

@@ -4,8 +4,9 @@
 //! else. [`issue`] and [`confirm`] add a row, or name why they don't. What they say of rows holds as long as the disk
 //! has returned what was written and nothing else wrote the file (`HasCleanDisk`). Once a counter is answered, each
 //! outcome of a crash has its row (`kept`). A crash in a call leaves the rows of before, or also the new one (`crash`).
-//! So the calls of all runs of a file are the steps of [`ledger_rows::laws`]. A row that isn't a ledger's is refused as
-//! damage. No clause says when an error of the file comes: that is the kit's.
+//! So calls that answer, or that a crash cuts, are steps of [`ledger_rows::laws`]. A row of the command's unit and slot
+//! that isn't a ledger's is refused as damage. No clause says when an error comes, nor what the connection sees after
+//! it: open the file again then.
 #![tactic(auto)]
 
 mod adding;
