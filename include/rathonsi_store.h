@@ -487,7 +487,10 @@ int32_t rathonsi_route_reserve(const RathonsiRoute *route, uint64_t freshness, c
  * RATHONSI_BAD_VALUE: a number of the route is outside its range, or the route isn't open.
  * RATHONSI_WRONG_CELL, RATHONSI_DAMAGED: as for rathonsi_route_open.
  * RATHONSI_EXHAUSTED: freshness + reserve - 1 is 2^64 - 1 or more. The route would be opened at
- * 2^64 - 1, and no freshness is above that. */
+ * 2^64 - 1, and no freshness is above that.
+ * Whoever can forge this freshness can use up nearly all of the route's counter, for ever. The library
+ * doesn't authenticate it: take it by a way that is authenticated, such as the answer to a nonce, or a
+ * workshop tool, and refuse one that is further ahead than a unit can have sent. */
 RATHONSI_CHECKED
 int32_t rathonsi_route_advance(const RathonsiRoute *route, uint64_t freshness, const uint8_t *image, size_t image_length,
                                RathonsiPlan *plan);
