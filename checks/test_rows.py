@@ -12,6 +12,7 @@ import concurrent.futures
 import contextlib
 import difflib
 import functools
+import importlib.machinery
 import importlib.util
 import itertools
 import os
@@ -481,9 +482,18 @@ OVER_TRIED = False
 
 @functools.cache
 def tried(name):
-    """The program as bin/try builds and keeps it."""
-    subprocess.run([TOP / "bin" / "try", name], stdin=subprocess.DEVNULL, capture_output=True)
-    return max(TOP.glob(f"crates/{name}/out/tried/*"), key=os.path.getmtime, default="")
+    """The program of this very text as bin/try builds and keeps it; or the proved one, if it is of this text."""
+    loader = importlib.machinery.SourceFileLoader("bin_try", str(TOP / "bin" / "try"))
+    bin_try = importlib.util.module_from_spec(importlib.util.spec_from_loader("bin_try", loader))
+    sys.dont_write_bytecode = True
+    loader.exec_module(bin_try)
+    status = subprocess.run([TOP / "bin" / "try", name], stdin=subprocess.DEVNULL, capture_output=True).returncode
+    kept = bin_try.place_for(name, bin_try.text_of(name)[0])
+    if kept and os.path.exists(kept):
+        return kept
+    if subprocess.run([TOP / "bin" / "proved", "--built", name], capture_output=True).returncode == 0:
+        return TOP / "crates" / name / "out" / name
+    raise FileNotFoundError(f"bin/try can't build {name}: status {status}")
 
 
 def program_of(name):
@@ -638,6 +648,9 @@ def main(texts):
         OVER_TRIED, texts = True, texts[1:]
         os.environ["ASAN_OPTIONS"] = "verify_asan_link_order=0"
     chosen = [row for row in ROWS.values() if all(it in row.id for it in texts)]
+    if not chosen:
+        print(f"FAILED: no row's id has {' and '.join(texts)}\nrows: 0 passed, 1 failed")
+        return 1
     try:
         rooms()
     except OSError as fault:
