@@ -15,6 +15,8 @@ enum { ROUNDS = 400, CALLS = 5000, PAYLOAD = 8, PDU = PAYLOAD + 4, ID = 0x1234 }
 static const uint8_t key[16] = {0x2b, 0x7e, 0x15, 0x16, 0x28, 0xae, 0xd2, 0xa6, 0xab, 0xf7, 0x15, 0x88, 0x09, 0xcf, 0x4f, 0x3c};
 static uint8_t image[RATHONSI_STORE_SIZE(2)], pdus[CALLS][PDU], payload[PAYLOAD];
 static RathonsiRoute sender, receiver;
+/* The two as they were opened: each round begins with them. */
+static RathonsiRoute first_sender, first_receiver;
 
 #ifdef AES_INSTRUCTIONS
 #include <wmmintrin.h>
@@ -112,7 +114,7 @@ static void stop(const char *what)
 
 static void send(void)
 {
-    sender.counter = 0;
+    sender = first_sender;
     for (int n = 0; n < CALLS; n++)
         if (rathonsi_route_send(&sender, image, sizeof image, payload, PAYLOAD, pdus[n], PDU) != RATHONSI_OK) stop("send");
 }
@@ -123,7 +125,7 @@ static void protect(void)
 }
 static void receive(void)
 {
-    receiver.counter = 0;
+    receiver = first_receiver;
     for (int n = 0; n < CALLS; n++)
         if (rathonsi_route_receive(&receiver, image, sizeof image, pdus[n], PDU).status != RATHONSI_OK) stop("receive");
 }
@@ -155,13 +157,19 @@ static void make_store(void)
     memcpy(update.key, key, 16);
     sender = (RathonsiRoute){0, ID, 14, 1, 256, 4, RATHONSI_SENDS, 0, 0, 0, {0}};
     receiver = (RathonsiRoute){0, ID, 15, 1, 256, 4, RATHONSI_RECEIVES, 0, 0, 0, {0}};
-    if (rathonsi_store_make(image, sizeof image) != RATHONSI_OK || rathonsi_route_make(&sender, 1u << 30, image, sizeof image) != RATHONSI_OK
-        || rathonsi_route_make(&receiver, 1u << 30, image, sizeof image) != RATHONSI_OK
+    if (rathonsi_store_make(image, sizeof image) != RATHONSI_OK || rathonsi_route_make(&sender, 0, image, sizeof image) != RATHONSI_OK
+        || rathonsi_route_make(&receiver, 0, image, sizeof image) != RATHONSI_OK
         || rathonsi_she_make_update(empty, 16, &update, &request) != RATHONSI_OK
         || rathonsi_slot_load(uid, 0, &request, image, sizeof image, &plan) != RATHONSI_OK
         || rathonsi_store_done(image, sizeof image, &plan) != RATHONSI_OK
-        || rathonsi_route_open(&sender, image, sizeof image) != RATHONSI_OK || rathonsi_route_open(&receiver, image, sizeof image) != RATHONSI_OK)
+        || rathonsi_route_open(&sender, image, sizeof image) != RATHONSI_OK || rathonsi_route_open(&receiver, image, sizeof image) != RATHONSI_OK
+        || rathonsi_route_advance(&sender, CALLS, image, sizeof image, &plan) != RATHONSI_OK
+        || rathonsi_store_done(image, sizeof image, &plan) != RATHONSI_OK
+        || rathonsi_route_advance(&receiver, CALLS, image, sizeof image, &plan) != RATHONSI_OK
+        || rathonsi_store_done(image, sizeof image, &plan) != RATHONSI_OK)
         stop("no store");
+    first_sender = sender;
+    first_receiver = receiver;
 }
 
 static struct { const char *name; void (*calls)(void); double best; } timed[] = {

@@ -63,6 +63,9 @@ class Names(dict):
     def __getitem__(self, name):
         return self.filled(super().__getitem__(name))
 
+    def __missing__(self, name):
+        raise ValueError(f"there is no name ${name}")
+
     def filled(self, text):
         return string.Template(text).substitute(self)
 
@@ -74,6 +77,8 @@ def whole_of(parts, forms):
     for part in parts if isinstance(parts, list) else [parts]:
         if isinstance(part, str):
             name, *words = shlex.split(part)
+            if name not in forms:
+                raise ValueError(f"there is no form {name}")
             of_form = forms[name]
             named = of_form["takes"].split()
             if len(words) != len(named):
@@ -86,6 +91,8 @@ def whole_of(parts, forms):
         about.update({name: {**about[name], **it} if name in about else it for name, it in own.items()})
         if "run" in rest or "judge" in rest:
             steps.append(rest)
+        elif rest and not steps:
+            raise ValueError("its first part has no command (`run`)")
         elif rest:
             steps[-1].update(rest)
     return about, steps
@@ -103,7 +110,7 @@ class Row:
         self.has = about.get("has", [])
         unknown = {name for step in self.steps for name in step} - FIELDS
         if unknown or not self.steps:
-            raise ValueError(f"{self.id}: {sorted(unknown) or 'no command'}")
+            raise ValueError(f"no such field: {', '.join(sorted(unknown))}" if unknown else "it has no command")
 
     def bytes_of(self, spec):
         """The bytes of a text, of a table that says how they are made, or of a list of these."""
@@ -205,8 +212,11 @@ class Row:
             if kind == "folder":
                 (folder / name).mkdir()
             elif kind == "socket":
+                # by a short name, since there is a limit
+                place = os.open(folder, os.O_RDONLY)
                 with socket.socket(socket.AF_UNIX) as it:
-                    it.bind(bytes(folder / name))
+                    it.bind(f"/proc/self/fd/{place}/{name}")
+                os.close(place)
             elif kind == "fifo":
                 os.mkfifo(folder / name)
                 if "fed" in spec:
@@ -534,21 +544,36 @@ def alternatives(cell):
 
 
 
+def table_of(path):
+    """A table of rows; if it is none, it says where."""
+    try:
+        return tomllib.loads(path.read_text())
+    except tomllib.TOMLDecodeError as fault:
+        raise ValueError(f"{path.name}: {fault}") from None
+
+
 def rows():
     """Every row of every table."""
-    common = tomllib.loads((CHECKS / "rows" / "common.toml").read_text())
+    common = table_of(CHECKS / "rows" / "common.toml")
     for path in sorted(CHECKS.glob("rows/*.toml")):
         if path.stem == "common":
             continue
-        table = tomllib.loads(path.read_text())
+        table = table_of(path)
         parts = ("names", "files", "tables", "forms")
         whole = {name: {**common.get(name, {}), **table.get(name, {})} for name in parts}
         for key, fields in table["rows"].items():
-            about, _ = whole_of(fields, whole["forms"])
-            each = [list(cases(whole["tables"].get(it, it))) for it in about.get("each", [])]
-            for chosen in itertools.product(*each):
-                case = {name: value for it in chosen for name, value in it.items()}
-                yield Row({"program": path.stem, **whole}, key, fields, case)
+            try:
+                yield from cases_of({"program": path.stem, **whole}, key, fields)
+            except (KeyError, ValueError) as fault:
+                raise ValueError(f"{path.name}: {key}: {fault}") from None
+
+
+def cases_of(table, key, fields):
+    """The rows of one entry of a table: one for each of its cases."""
+    about, _ = whole_of(fields, table["forms"])
+    each = [list(cases(table["tables"].get(it, it))) for it in about.get("each", [])]
+    for chosen in itertools.product(*each):
+        yield Row(table, key, fields, {name: value for it in chosen for name, value in it.items()})
 
 
 def by_id():
@@ -559,7 +584,12 @@ def by_id():
     return found
 
 
-ROWS = by_id()
+try:
+    ROWS = by_id()
+except ValueError as wrong:
+    if __name__ != "__main__":
+        raise
+    sys.exit(f"FAILED: {wrong}\nrows: 0 passed, 1 failed")
 
 
 def pytest_generate_tests(metafunc):

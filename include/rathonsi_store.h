@@ -48,8 +48,8 @@
  *   D-10 A Data ID in one direction has one cell and one route. No other route uses the cell.
  *     rathonsi_routes_open sees to it, if one call gets all routes of the store. rathonsi_route_make
  *     and rathonsi_store_grow refuse a second cell, and rathonsi_store_look names one.
- *   D-11 An open route is not filled in with another Data ID, direction or cell. Every call refuses
- *     it then, by the check value of the route.
+ *   D-11 An open route is not filled in with another Data ID, direction or cell. The calls on an open
+ *     route refuse it then, by its check value. Opening it again doesn't.
  *   D-12 A route has the same Data ID, direction and cell in every life. Slot, window, reserve and
  *     booted may change. The caller zeroes opened at power-up, and never sets it.
  *   D-13 While a plan is pending, routes send and receive as before. A new plan answers RATHONSI_BUSY.

@@ -1,12 +1,9 @@
-#!/usr/bin/env python3
-"""station_model: what `station slots` and `station ledger` are to print, from docs/formats.md alone.
+"""What `station slots` and `station ledger` print and leave, from docs/formats.md alone; checks/drawn asks it.
 
-station_model slots list|check FILE, slots check FILE BUS, slots reply FILE UID ID AUTH, ledger list|open FILE.., ledger export FILE, ledger
-show FILE UID SLOT: prints the text, and ends with the status. Replies are made by bus_model (python3-cryptography).
-ledger adopt [--new] FILE UID SLOT COUNTER, ledger import [--new] FILE BACKUP, ledger merge [--new] FILE OTHER: the same,
-without writing FILE.
+`slots`, `ledger`, `make`, `grow` and `adoption` take the bytes of the files that the arguments name, and the other
+arguments. They give the status and the text, `make` and `grow` the store's bytes too, and `adoption` first the ledger's
+places. A refusal is raised as `No`. Replies are made by bus_model (python3-cryptography).
 """
-import sys
 
 FLAGS = ("WRITE_PROTECTION", "BOOT_PROTECTION", "DEBUGGER_PROTECTION", "KEY_USAGE", "WILDCARD")
 LIVE = 0xA7
@@ -136,16 +133,6 @@ def line_of(place, cell):
     if cell[0] != 2 or cell[1] not in (1, 2) or any(cell[12:]):
         return f"cell {place} BadBound\n", False
     return f"bound {place} {cell[2:4].hex()} {'sends' if cell[1] == 1 else 'receives'} {cell[4:12].hex()}\n", True
-
-
-def bus_of(text):
-    """Of a bus file that is good and has one node: Data ID and direction, 1 or 2, of each route; and kind and version of the store, numbers."""
-    import tomllib
-    bus = tomllib.loads(text)
-    if len(bus["node"]) != 1:
-        raise No(3, "config: nodes\n")
-    routes = [(bytes.fromhex(route["id"]), 1 if route["direction"] == "send" else 2) for route in bus["node"][0].get("route", [])]
-    return routes, ({"twin": 1, "log": 2}[bus.get("store", "twin")], bus.get("version", 1))
 
 
 def finding(place, cell, routes):
@@ -378,35 +365,3 @@ def ledger(name, files, values):
         return (0, f"{STATES[held[0][3]]} {held[0][2]}\n") if held else (1, "none\n")
     lines = [f"{entry_text(entry)}\n" for entry in entries if name != "open" or not entry[3]]
     return 0, "".join(lines) + (f"end {len(lines)}\n" if name == "export" else "")
-
-
-def read(name):
-    """The bytes of a file."""
-    with open(name, "rb") as file:
-        return file.read()
-
-
-def main(words):
-    is_new = words[:1] == ["ledger"] and words[2:3] == ["--new"]
-    words = words[:2] + words[3:] if is_new else words
-    several = words[:1] == ["ledger"] and words[1] in ("list", "open")
-    files = [read(name) for name in (words[2:] if several else words[2:3])]
-    over_bus = words[:2] == ["slots", "check"] and len(words) == 4
-    try:
-        if over_bus:
-            status, text = slots("check", files[0], [], *bus_of(read(words[3]).decode()))
-        elif words[0] == "slots":
-            status, text = slots(words[1], files[0], words[3:])
-        elif words[1] in ("adopt", "import", "merge"):
-            values = words[3:] if words[1] == "adopt" else [read(words[3])]
-            _, status, text = adoption(words[1], files[0], values, is_new)
-        else:
-            status, text = ledger(words[1], files, words[3:])
-    except No as no:
-        status, text = no.args
-    sys.stdout.write(text)
-    return status
-
-
-if __name__ == "__main__":
-    sys.exit(main(sys.argv[1:]))

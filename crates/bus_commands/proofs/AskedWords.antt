@@ -1,6 +1,6 @@
 -- What arguments ask for and name, by how many they are
 use Rattle.std.specs.Prelude.{◌≡◌, ℕ, List, [], ◌∷◌, Option, Some, None, option_map, IfSome, IfNone, codes}
-use Rattle.std.proofs.Common.{refl}
+use Rattle.std.proofs.Common.{arith, refl}
 use Rattle.bus_world.specs.declared.start.Start.{Start}
 use Rattle.bus_world.specs.declared.start.Start.TheVariants.{Format, Attach}
 use Rattle.bus_commands.specs.declared.words.Command.{Command}
@@ -15,29 +15,18 @@ use Rattle.bus_commands.proofs.Asking.{node_or_trial}
 -- ---- malformed arguments
 
 config_asks : (words : List (List ℕ)) (name : List ℕ) → NamesConfig words name → AsksSomething words
-config_asks [] name names = absurd names
-config_asks (word ∷ []) name names = absurd names
-config_asks (word ∷ file ∷ []) name names = absurd names
-config_asks (word ∷ bus ∷ file ∷ []) name names = names.0
-config_asks (word ∷ bus ∷ count ∷ seed ∷ []) name names = names.0
-config_asks (word ∷ bus ∷ count ∷ seed ∷ more ∷ words) name names = absurd names
+config_asks words name names = grind arith
 
 script_asks : (words : List (List ℕ)) (name : List ℕ) → NamesScript words name → AsksSomething words
 script_asks [] name names = (Lines Frame, tt)
-script_asks (word ∷ []) name names = absurd names
 script_asks (word ∷ file ∷ []) name names = names.0
 script_asks (word ∷ bus ∷ file ∷ []) name names = names.0
 script_asks (word ∷ bus ∷ file ∷ disk ∷ []) name names = (World (Replay Attach), names.0)
-script_asks (word ∷ bus ∷ file ∷ disk ∷ more ∷ words) name names = absurd names
+script_asks words name names = absurd (omega arith)
 
 -- words that name a disk ask for `node`, which runs over it
 pub names_node : (words : List (List ℕ)) (name : List ℕ) → NamesDisk words name → Asks words (World (Replay Attach))
-names_node [] name names = absurd names
-names_node (word ∷ []) name names = absurd names
-names_node (word ∷ bus ∷ []) name names = absurd names
-names_node (word ∷ bus ∷ file ∷ []) name names = absurd names
-names_node (word ∷ bus ∷ file ∷ disk ∷ []) name names = names.0
-names_node (word ∷ bus ∷ file ∷ disk ∷ more ∷ words) name names = absurd names
+names_node words name names = grind arith
 
 -- they name nothing
 pub nothing_asked : (words : List (List ℕ)) (command : Option Command) (config script disk : Option (List ℕ))

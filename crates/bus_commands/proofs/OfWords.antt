@@ -24,7 +24,7 @@ use Rattle.bus_programs.specs.Inputs.{BusInputs}
 use Rattle.bus_programs.specs.Named.{SourcesBack, inputs_had}
 use Rattle.bus_commands.specs.declared.words.Command.TheVariants.{World}
 use Rattle.bus_commands.specs.declared.words.WorldCommand.{WorldCommand}
-use Rattle.bus_commands.specs.declared.words.WorldCommand.TheVariants.{Replay, Trial}
+use Rattle.bus_commands.specs.declared.words.WorldCommand.TheVariants.{Replay}
 use Rattle.bus_commands.specs.Words.{Asks, AsksNothing, NamesDisk}
 use Rattle.bus_commands.specs.Inputs.{start_of, OverWorld, OverReplayOf, SetsWorld}
 use Rattle.bus_commands.specs.StartRows.{disks_between}
@@ -40,19 +40,13 @@ use Rattle.bus_commands.proofs.Headlines.{written_run}
 
 -- words that ask for `node` name a disk
 node_names : (words : List (List ℕ)) → Asks words (World (Replay Attach)) → (name : List ℕ) × NamesDisk words name
-node_names [] asks = absurd asks
-node_names (word ∷ []) asks = absurd asks
-node_names (word ∷ file ∷ []) asks = absurd asks
-node_names (word ∷ bus ∷ file ∷ []) asks = absurd asks
 node_names (word ∷ bus ∷ file ∷ disk ∷ []) asks = (disk, (asks, refl))
-node_names (word ∷ bus ∷ file ∷ disk ∷ more ∷ words) asks = absurd asks
+node_names words asks = absurd (omega arith)
 
 -- so each run over disks that are made formats them
 formats : (words : List (List ℕ)) (c : WorldCommand) → Asks words (World c)
     → ((name : List ℕ) → ¬ NamesDisk words name) → start_of c ≡ Format
-formats words (Replay Format) asks none = refl
-formats words (Replay Attach) asks none = let node = node_names words asks in absurd (none node.0 node.1)
-formats words (Trial trial) asks none = refl
+formats words c asks none = grind (arith, node_names)
 
 -- ---- over disks in memory
 
@@ -140,18 +134,11 @@ module _ {D : Type 0} (state : D → DiskState) (opens : List ℕ → SourceStat
   -- ---- either
 
   pub words_usage : RunsNamed state opens opens_disk o back left words e → e.status ≡ 2 → AsksNothing words
-  words_usage (ran_in_memory none empty ran) two = (ran.over.over.has.0.inputs.usage_told two).0
-  words_usage (ran_over_disk ran) two = (ran.over.over.has.0.inputs.usage_told two).0
-  words_usage (refused_node ran) two = absurd (let no : ⊥ = omega (arith, ran.statuses.0, two) in no)
-  words_usage (wanted_disks none empty wants) two =
-      absurd (let no : ⊥ = omega (arith, wants.wants.status_is, two) in no)
+  words_usage runs two = grind arith
 
   pub words_usage_only : RunsNamed state opens opens_disk o back left words e → AsksNothing words
       → (e.status ≡ 2) ⊎ (e.status ≡ 6)
-  words_usage_only (ran_in_memory none empty ran) nothing = ran.over.over.has.0.inputs.usage_only nothing
-  words_usage_only (ran_over_disk ran) nothing = ran.over.over.has.0.inputs.usage_only nothing
-  words_usage_only (refused_node ran) nothing = absurd (nothing (World (Replay Attach)) ran.asks)
-  words_usage_only (wanted_disks none empty wants) nothing = absurd (nothing (World wants.asks.0) wants.asks.1)
+  words_usage_only runs nothing = grind arith
 
   pub words_start : RunsNamed state opens opens_disk o back left words e → (e.status ≡ 9) ⊎ (e.status ≡ 10)
       → Asks words (World (Replay Attach))

@@ -1,6 +1,5 @@
 -- What a command promises that ends in a row of the table, or did the first events of a replay
 use Rattle.std.specs.Prelude.{◌≡◌, ◌≢◌, ◌⊎◌, ℕ, ◌<◌, List, [], length, get_or, None, Some, Option, Result, Ok, Err, codes}
-
 use Rattle.std.proofs.Common.{refl, sym, subst, arith, inl, inr}
 use Rattle.program_edge.specs.declared.input.InputFault.TheVariants as input
 use Rattle.text_lines.specs.Readings.{Fault}

@@ -1,8 +1,7 @@
 -- What each row of the table says of the sources and of the arguments
 use Rattle.std.specs.Prelude.{◌≡◌, ◌⊎◌, ℕ, List, None, Some, Result, Err}
 use Rattle.std.specs.Result.{result_err}
-use Rattle.std.proofs.Common.{refl, sym, ap, subst, inl, inr}
-use Rattle.program_edge.specs.Input.{input_fault_text}
+use Rattle.std.proofs.Common.{arith, refl, sym, ap, subst, inl, inr}
 use Rattle.text_lines.specs.Readings.{Fault}
 use Rattle.program_edge.specs.Rows.{Row}
 use Rattle.program_edge.specs.Inputs.{Reading, Offers}
@@ -15,12 +14,11 @@ use Rattle.bus_world.specs.Starts.{HasRoom}
 use Rattle.bus_world.specs.declared.start.Start.{Start}
 use Rattle.bus_world.specs.declared.start.Start.TheVariants.{Format}
 use Rattle.bus_programs.proofs.CallerLemmas.{ReadsCalmly, calm_unread, calm_whole, RowTells, told_first, told_second, bus_or_fault, offered_no_fault, memory_status, same_bus}
-use Rattle.bus_commands.specs.declared.words.Command.TheVariants.{Lines, World}
-use Rattle.bus_commands.specs.declared.words.LineCommand.TheVariants as lines
+use Rattle.bus_commands.specs.declared.words.Command.TheVariants.{World}
 use Rattle.bus_commands.specs.declared.words.WorldCommand.{WorldCommand}
 use Rattle.bus_commands.specs.declared.words.WorldCommand.TheVariants.{Replay, Trial}
 use Rattle.bus_commands.specs.Words.{AsksNothing}
-use Rattle.bus_commands.specs.Tasks.{Task, frame, judge, check, replay}
+use Rattle.bus_commands.specs.Tasks.{Task, check, replay}
 use Rattle.bus_commands.specs.Texts.{IsOutput, fault_of}
 use Rattle.bus_programs.specs.BusFiles.{OffersBus}
 use Rattle.bus_programs.specs.Inputs.{BusInputs}
@@ -33,10 +31,7 @@ use Rattle.bus_commands.proofs.Asking.{apart, needs_bus, command_for, set_asks, 
 -- ---- the sources
 
 calm_set : (i : BusInputs) (task : Task) → SetsTask i task → ReadsCalmly i.config
-calm_set i frame set = calm_unread i.config set.1
-calm_set i judge set = calm_unread i.config set.1
-calm_set i (check bus) set = calm_whole i.config set.1.0 set.1.1
-calm_set i (replay start bus) set = calm_whole i.config set.1.0 set.1.1
+calm_set i task set = grind (arith, calm_unread, calm_whole)
 
 calm_events : (c : WorldCommand) (bus : NamedBus) (script : Reading) (events : List Event) → HasEvents c bus script events → ReadsCalmly script
 calm_events (Replay start) bus script events has = calm_whole script has.0 has.1
@@ -46,12 +41,7 @@ pub calm_world : (i : BusInputs) (c : WorldCommand) (bus : NamedBus) (events : L
 calm_world i c bus events set = (calm_whole i.config set.of_bus.0 set.of_bus.1, calm_events c bus i.script events set.has)
 
 inputs_tell : (i : BusInputs) (row : Row) → ComesOfInputs i row → RowTells row i.config i.script
-inputs_tell i row (no_form none config script) = inr (inr (calm_unread i.config config, calm_unread i.script script))
-inputs_tell i row (no_config fault (asks, lacks, unread)) = told_first fault (input_fault_text fault) i.config i.script lacks (calm_unread i.script unread)
-inputs_tell i row (config_refused fault text asks is told unread) = inr (inr (calm_whole i.config is.0 is.1, calm_unread i.script unread))
-inputs_tell i row (no_script fault (task, set, lacks)) = told_second fault (input_fault_text fault) i.config i.script (calm_set i task set) lacks
-inputs_tell i row (script_refused fault (task, set, (text, whole, is))) = inr (inr (calm_set i task set, calm_whole i.script text whole))
-inputs_tell i row (done text (task, set, (read, whole, is))) = inr (inr (calm_set i task set, calm_whole i.script read whole))
+inputs_tell i row comes = grind (arith, calm_unread, told_first, calm_whole, told_second, calm_set)
 
 module _ {V : Type 0} where
   pub row_tells : (i : BusInputs) (d : CommandDisks V) (row : Row) → ComesInRun i d row → RowTells row i.config i.script
@@ -63,55 +53,34 @@ module _ {V : Type 0} where
 -- ---- the words
 
 inputs_ask : (i : BusInputs) (row : Row) → ComesOfInputs i row → AsksNothing i.words → row.status ≡ 2
-inputs_ask i row (no_form none config script) nothing = refl
-inputs_ask i row (no_config fault ((c, asks, needs), lacks, unread)) nothing = absurd (nothing c asks)
-inputs_ask i row (config_refused fault text (c, asks, needs) is told unread) nothing = absurd (nothing c asks)
-inputs_ask i row (no_script fault (task, set, lacks)) nothing = absurd (nothing (command_for task) (set_asks i task set))
-inputs_ask i row (script_refused fault (task, set, over)) nothing = absurd (nothing (command_for task) (set_asks i task set))
-inputs_ask i row (done text (task, set, over)) nothing = absurd (nothing (command_for task) (set_asks i task set))
+inputs_ask i row comes nothing = grind (arith, set_asks)
 
 module _ {V : Type 0} where
   -- malformed arguments have their row
   pub row_asks : (i : BusInputs) (d : CommandDisks V) (row : Row) → ComesInRun i d row → AsksNothing i.words → row.status ≡ 2
-  row_asks i d row (without_disks _ comes as_before) nothing = inputs_ask i row comes nothing
-  row_asks i d row (not_started _ (c, bus, events, set, comes) nine) nothing = absurd (nothing (World c) set.asks)
-  row_asks i d row (tried summary (trial, bus, events, set, ran)) nothing = absurd (nothing (World (Trial trial)) set.asks)
-  row_asks i d row (tried_without_memory summary (trial, bus, events, set, ran)) nothing = absurd (nothing (World (Trial trial)) set.asks)
+  row_asks i d row comes nothing = grind (arith, inputs_ask)
 
 -- ---- a bus file that is offered
 
 set_has_bus : (i : BusInputs) (task : Task) (file : List ℕ) (fault : ConfigFault) → SetsTask i task → AsksOverBus i.words → Offers i.config file → bus_of file ≡ Err fault → ⊥
-set_has_bus i frame file fault set over offers err = needs_bus i.words (Lines lines.Frame) set.0 over
-set_has_bus i judge file fault set over offers err = needs_bus i.words (Lines lines.Judge) set.0 over
-set_has_bus i (check bus) file fault set over offers err = bus_or_fault i.config bus file fault set.1 offers err
-set_has_bus i (replay start bus) file fault set over offers err = bus_or_fault i.config bus file fault set.1 offers err
+set_has_bus i task file fault set over offers err = grind (arith, needs_bus, bus_or_fault)
 
 inputs_refuse : (i : BusInputs) (row : Row) (file : List ℕ) (fault : ConfigFault) → ComesOfInputs i row → AsksOverBus i.words → Offers i.config file → bus_of file ≡ Err fault
     → (row.status ≡ 3) ⊎ (row.status ≡ 7)
-inputs_refuse i row file fault (no_form none config script) over offers err = absurd (none over.0 over.1)
-inputs_refuse i row file fault (no_config other (asks, lacks, unread)) over offers err = inr (memory_status i.config file other offers lacks)
-inputs_refuse i row file fault (config_refused other text asks is told unread) over offers err = inl refl
-inputs_refuse i row file fault (no_script other (task, set, lacks)) over offers err = absurd (set_has_bus i task file fault set over offers err)
-inputs_refuse i row file fault (script_refused other (task, set, rest)) over offers err = absurd (set_has_bus i task file fault set over offers err)
-inputs_refuse i row file fault (done text (task, set, rest)) over offers err = absurd (set_has_bus i task file fault set over offers err)
+inputs_refuse i row file fault comes over offers err = grind (arith, memory_status, set_has_bus)
 
 module _ {V : Type 0} where
   -- its first fault is printed, or out of memory
   pub row_refuses : (i : BusInputs) (d : CommandDisks V) (row : Row) (file : List ℕ) (fault : ConfigFault) → ComesInRun i d row → AsksOverBus i.words → Offers i.config file
       → bus_of file ≡ Err fault → (row.status ≡ 3) ⊎ (row.status ≡ 7)
-  row_refuses i d row file fault (without_disks _ comes as_before) over offers err = inputs_refuse i row file fault comes over offers err
-  row_refuses i d row file fault (not_started _ (c, bus, events, set, comes) nine) over offers err = absurd (bus_or_fault i.config bus file fault set.of_bus offers err)
-  row_refuses i d row file fault (tried summary (trial, bus, events, set, ran)) over offers err = absurd (bus_or_fault i.config bus file fault set.of_bus offers err)
-  row_refuses i d row file fault (tried_without_memory summary (trial, bus, events, set, ran)) over offers err =
-      absurd (bus_or_fault i.config bus file fault set.of_bus offers err)
+  row_refuses i d row file fault comes over offers err = grind (arith, inputs_refuse, bus_or_fault)
 
 -- ---- a task that is offered
 
 offered_bus : (i : BusInputs) (task : Task) → OffersTask i task → AsksOverBus i.words → (bus : NamedBus) × OffersBus i.config bus
-offered_bus i frame offers over = absurd (needs_bus i.words (Lines lines.Frame) offers over)
-offered_bus i judge offers over = absurd (needs_bus i.words (Lines lines.Judge) offers over)
 offered_bus i (check bus) offers over = (bus, offers.1)
 offered_bus i (replay start bus) offers over = (bus, offers.1)
+offered_bus i task offers over = absurd (grind (arith, needs_bus))
 
 -- what was read holds of what was offered
 of_offered : (i : BusInputs) (P : Task → List ℕ → Type 0) (task : Task) (input : List ℕ) → OffersTask i task → Offers i.script input → OverLines i P → P task input
@@ -173,12 +142,7 @@ abbrev pub OfTrial : DiskStates → Row → NamedBus → Type 0
 OfTrial d row bus = (row.status ≡ 7) ⊎ (ComesOfStart Format bus d row ⊎ ((row.status ≡ 0) × HasRoom bus d.before))
 
 inputs_tried : (i : BusInputs) (d : DiskStates) (row : Row) (bus : NamedBus) → ComesOfInputs i row → OffersTrial i bus → OfTrial d row bus
-inputs_tried i d row bus (no_form none config script) (trial, asks, of_bus) = absurd (none (World (Trial trial)) asks)
-inputs_tried i d row bus (no_config fault (over, lacks, unread)) (trial, asks, of_bus) = inl (memory_status i.config of_bus.0 fault of_bus.1 lacks)
-inputs_tried i d row bus (config_refused fault text over is told unread) (trial, asks, of_bus) = absurd (offered_no_fault i.config bus fault of_bus is)
-inputs_tried i d row bus (no_script fault (task, set, lacks)) (trial, asks, of_bus) = no_trial i.words task trial (set_asks i task set) asks
-inputs_tried i d row bus (script_refused fault (task, set, over)) (trial, asks, of_bus) = no_trial i.words task trial (set_asks i task set) asks
-inputs_tried i d row bus (done text (task, set, over)) (trial, asks, of_bus) = no_trial i.words task trial (set_asks i task set) asks
+inputs_tried i d row bus comes offers = grind (arith, memory_status, offered_no_fault, no_trial, set_asks)
 
 -- a trial formats its disks, and words that ask for one ask for no replay
 start_tried : (i : BusInputs) (d : DiskStates) (row : Row) (c : WorldCommand) (over bus : NamedBus) (events : List Event) → SetsWorld i c over events → ComesOfStart (start_of c) over d row
@@ -189,8 +153,4 @@ start_tried i d row (Trial drawn) over bus events set comes offers =
 
 module _ {V : Type 0} where
   pub row_tried : (i : BusInputs) (d : CommandDisks V) (row : Row) (bus : NamedBus) → ComesInRun i d row → OffersTrial i bus → OfTrial d.states row bus
-  row_tried i d row bus (without_disks _ comes as_before) offers = inputs_tried i d.states row bus comes offers
-  row_tried i d row bus (not_started _ (c, over, events, set, comes) nine) offers = start_tried i d.states row c over bus events set comes.1 offers
-  row_tried i d row bus (tried summary (trial, over, events, set, ran)) offers =
-      inr (inr (refl, subst (λ (b : NamedBus). HasRoom b d.states.before) (same_bus i.config over bus set.of_bus offers.2) ran.ran.started.room))
-  row_tried i d row bus (tried_without_memory summary (trial, over, events, set, ran)) offers = inl refl
+  row_tried i d row bus comes offers = grind (arith, inputs_tried, start_tried, same_bus)

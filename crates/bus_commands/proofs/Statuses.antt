@@ -1,7 +1,6 @@
 -- Which status a command ends with, and what it leaves of the disks then
 use Rattle.std.specs.Prelude.{◌≡◌, ◌⊎◌, ℕ, ◌≤◌, List}
-use Rattle.std.proofs.Common.{refl, sym, ◌∙◌, subst, inl, inr, arith}
-use Rattle.program_edge.specs.declared.input.InputFault.TheVariants as input
+use Rattle.std.proofs.Common.{◌∙◌, inl, inr, arith}
 use Rattle.program_edge.specs.Told.{EndingTold}
 use Rattle.program_edge.specs.Rows.{Row}
 use Rattle.program_edge.specs.Endings.{Ending, EndsInRow}
@@ -13,7 +12,7 @@ use Rattle.bus_commands.specs.declared.words.WorldCommand.{WorldCommand}
 use Rattle.bus_programs.specs.Inputs.{BusInputs}
 use Rattle.bus_commands.specs.Inputs.{SetsWorld, start_of}
 use Rattle.bus_commands.specs.StartRows.{CommandDisks}
-use Rattle.bus_commands.specs.Rows.{ComesOfInputs, no_form, no_config, config_refused, no_script, script_refused, done, ComesInRun, without_disks, not_started, tried, tried_without_memory}
+use Rattle.bus_commands.specs.Rows.{ComesOfInputs, ComesInRun, without_disks, not_started, tried, tried_without_memory}
 use Rattle.bus_commands.specs.Table.{LeavesDisks, as_before, by_unfinished_start, by_trial}
 
 -- ---- the status
@@ -23,16 +22,7 @@ abbrev pub InTable : ℕ → Type 0
 InTable n = (n ≡ 0) ⊎ ((2 ≤ n) × (n ≤ 10))
 
 inputs_in_table : (i : BusInputs) (row : Row) → ComesOfInputs i row → InTable row.status
-inputs_in_table i row (no_form none config script) = inr (omega arith, omega arith)
-inputs_in_table i row (no_config input.ReadFault of) = inr (omega arith, omega arith)
-inputs_in_table i row (no_config input.TooLong of) = inr (omega arith, omega arith)
-inputs_in_table i row (no_config input.Memory of) = inr (omega arith, omega arith)
-inputs_in_table i row (config_refused fault text asks of told unread) = inr (omega arith, omega arith)
-inputs_in_table i row (no_script input.ReadFault of) = inr (omega arith, omega arith)
-inputs_in_table i row (no_script input.TooLong of) = inr (omega arith, omega arith)
-inputs_in_table i row (no_script input.Memory of) = inr (omega arith, omega arith)
-inputs_in_table i row (script_refused fault of) = inr (omega arith, omega arith)
-inputs_in_table i row (done text of) = inl refl
+inputs_in_table i row comes = grind arith
 
 -- that of a bus that isn't started
 unstarted_in_table : (n : ℕ) → (n ≡ 9) ⊎ ((n ≡ 10) ⊎ (n ≡ 7)) → InTable n
@@ -40,22 +30,15 @@ unstarted_in_table n is = inr (omega (arith, is), omega (arith, is))
 
 -- that of a replay
 pub replayed_in_table : (n : ℕ) → (n ≡ 0) ⊎ ((n ≡ 6) ⊎ (n ≡ 7)) → InTable n
-replayed_in_table n (inl zero) = inl zero
-replayed_in_table n (inr is) = inr (omega (arith, is), omega (arith, is))
+replayed_in_table n is = grind arith
 
 module _ {V : Type 0} where
   row_in_table : (i : BusInputs) (d : CommandDisks V) (row : Row) → ComesInRun i d row → InTable row.status
-  row_in_table i d row (without_disks _ comes same) = inputs_in_table i row comes
-  row_in_table i d row (not_started _ (c, bus, events, set, comes) nine) = unstarted_in_table row.status (start.start_status (start_of c) bus d.states row comes.1)
-  row_in_table i d row (tried summary ran) = inl refl
-  row_in_table i d row (tried_without_memory summary ran) = inr (omega arith, omega arith)
+  row_in_table i d row comes = grind (arith, inputs_in_table, unstarted_in_table)
 
   -- no other status comes of a row
   pub ends_in_table : (i : BusInputs) (d : CommandDisks V) (e : Ending) → EndsInRow (ComesInRun i d) e → InTable e.status
-  ends_in_table i d e ends = elim ends.told [
-    | inl (status_is, well) ↦ subst InTable (sym status_is) (row_in_table i d ends.row ends.comes)
-    | inr (six, rose, part) ↦ inr (omega (arith, six), omega (arith, six))
-  ]
+  ends_in_table i d e ends = grind (arith, row_in_table)
 
   -- ---- the disks
 

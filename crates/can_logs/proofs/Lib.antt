@@ -4,6 +4,7 @@ pub mod Rising
 pub mod Windows
 pub mod OneFinding
 pub mod Noting
+pub mod TableLists
 pub mod Places
 pub mod MapPhases
 pub mod MapWindows

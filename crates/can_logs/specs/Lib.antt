@@ -1,4 +1,5 @@
 pub mod MapLines
+pub mod MapTables
 pub mod Frames
 pub mod Findings
 pub mod FindingSteps

@@ -104,12 +104,6 @@ log_failed_text = line (codes "log: read fault")
 abbrev pub log_too_long_text : List ℕ
 log_too_long_text = line (codes "log: input too long")
 
--- the sources and the sink of a log before any of it came, and now
-pub record Ports : Type 0 where
-  pub log : Reading
-  pub before : SinkState
-  pub after : SinkState
-
 -- the status of a log that was read to its end
 abbrev pub IsAnswer : ℕ → Type 0
 IsAnswer status = (status ≡ 0) ⊎ (status ≡ 1) ⊎ (status ≡ 3)

@@ -5,11 +5,12 @@ ghost use Rattle.can_logs.specs.Findings.{front_text, is_other_tally, is_accepte
 ghost use Rattle.can_logs.specs.FindingSteps.{AddsFinding, AddsDataVerdict};
 
 use crate::frames::{OtherLine, dataless_line, log_frame, unheard_line};
-use crate::map_lines::{MapLine, place_for};
+use crate::map_lines::MapLine;
+use crate::map_tables::MapTable;
 use itoa::Buffer;
 use secoc_words::push_verdict;
 use secoc_words::verdicts::push_bad_length;
-use she_aes::expand;
+use she_aes::Schedule;
 use std::alloc::{AllocError, Global};
 use text_lines::words::Words;
 
@@ -53,7 +54,7 @@ pub fn counters_of(alloc: Global, map: &[MapLine]) -> Result<Vec<u64>, AllocErro
 
 /// Adds what is found of a line of the log, and tells what it counts as. In room for 232 bytes it takes no memory.
 pub fn push_finding(
-    map: &[MapLine],
+    map: &MapTable,
     counters: &mut [u64],
     number: u64,
     words: &Words<'_>,
@@ -67,12 +68,20 @@ pub fn push_finding(
     let Some(frame) = log_frame(words) else {
         return Ok(FrameTally::Other(dataless_line(words)));
     };
-    let Some(place) = place_for(map, frame.can.digits(), words.word(2)) else {
+    let Some(place) = map.place_for(frame.can.digits(), words.word(2)) else {
         return Ok(FrameTally::Other(unheard_line(&frame)));
     };
-    let line = &map[place];
+    let lines = map.lines();
+    let line = &lines[place];
     push_front(number, line.head(), text)?;
-    push_data_verdict(line, place, &mut counters[place], frame.bytes.bytes(), text)
+    push_data_verdict(
+        line,
+        map.schedule(place),
+        place,
+        &mut counters[place],
+        frame.bytes.bytes(),
+        text,
+    )
 }
 
 /// Adds the number of a line and what is printed of the map's line, each with a space after it.
@@ -94,11 +103,13 @@ pub fn push_front(number: u64, head: &[u8], text: &mut Vec<u8>) -> Result<(), Al
 /// it.
 fn push_data_verdict(
     line: &MapLine,
+    schedule: &Schedule,
     place: usize,
     counter: &mut u64,
     bytes: &[u8],
     text: &mut Vec<u8>,
 ) -> Result<FrameTally, AllocError>
+    requires { schedule.now ≡ line.now.key }
     ensures verdict { IfOk result (AddsDataVerdict line.now place counter.old counter.new bytes.now
         text.old.items text.new.items) }
     ensures room { AddsAtMost 158 text.old text.new result }
@@ -110,7 +121,7 @@ fn push_data_verdict(
     }
     let before = *counter;
     push_verdict(
-        &expand(&line.key),
+        schedule,
         line.id,
         line.window.get(),
         counter,

@@ -12,6 +12,7 @@ mod findings;
 mod frames;
 pub mod laws;
 mod map_lines;
+mod map_tables;
 mod maps;
 
 pub use arguments::{is_only, names_inputs};
@@ -19,7 +20,7 @@ pub use faults::map_input_refusal;
 pub use findings::{FrameTally, counters_of, push_finding, push_front};
 pub use frames::{FrameBytes, LogFrame, OtherLine, has_data_can, log_frame, place_of_hash};
 pub use map_lines::{
-    CanId, LineName, MOST_MAP_LINES, MapLine, PayloadSize, Window, can_id, line_of_words,
-    place_for, place_of,
+    CanId, LineName, MOST_MAP_LINES, MapLine, PayloadSize, Window, can_id, line_of_words, place_of,
 };
+pub use map_tables::MapTable;
 pub use maps::{WatchMap, map_of_text, read_watch_map};

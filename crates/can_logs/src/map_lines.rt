@@ -3,7 +3,7 @@ ghost use Rattle.std.specs.Prelude.{◌≡◌, ◌≤◌, length, map as each, t
 ghost use Rattle.std.specs.Char.{to_ascii_lowercase};
 ghost use Rattle.secured_pdu.specs.Frame.{IsWindow};
 ghost use Rattle.can_logs.specs.MapLines.{is_can, can_form, line_with, place_of_can};
-ghost use Rattle.can_logs.specs.MapLines.{hears_frame, place_of_frame, row_head};
+ghost use Rattle.can_logs.specs.MapLines.{hears_frame, row_head};
 
 use arrayvec::ArrayVec;
 use basics::{Block, Bytes};
@@ -227,7 +227,7 @@ pub fn place_of(lines: &[MapLine], can: &[u8]) -> Option<usize>
 }
 
 /// Whether a line hears a frame of this CAN identifier on this channel.
-fn does_hear(line: &MapLine, can: &[u8], channel: &[u8]) -> bool
+pub fn does_hear(line: &MapLine, can: &[u8], channel: &[u8]) -> bool
     ensures { result ≡ hears_frame line.now can.now channel.now }
 {
     if line.can.digits() != can {
@@ -237,13 +237,6 @@ fn does_hear(line: &MapLine, can: &[u8], channel: &[u8]) -> bool
         Some(own) => own.bytes() == channel,
         None => true,
     }
-}
-
-/// The place of the first line that hears a frame, counted from 0; `None` if none does.
-pub fn place_for(lines: &[MapLine], can: &[u8], channel: &[u8]) -> Option<usize>
-    ensures { result ≡ place_of_frame lines.now can.now channel.now }
-{
-    lines.iter().position(|line| does_hear(line, can, channel))
 }
 
 /// The line of these words, with its CAN identifier and window, if they are of their forms, and its channel. It isn't

@@ -15,11 +15,12 @@ ghost use Rattle.can_logs.specs.WatchMaps.{reached_can_form, watch_map_of, line_
 use crate::faults::{map_input_refusal, map_line_refusal};
 use crate::frames::has_data_can;
 use crate::map_lines::{CanId, LineName, MOST_MAP_LINES, MapLine, Window, can_id, line_of_words};
+use crate::map_tables::MapTable;
 use basics::Bytes;
 use bus_port::Source;
 use program_edge::{Refusal, read_input};
 use secoc_words::WIDEST_WINDOW;
-use std::alloc::Global;
+use std::alloc::{AllocError, Global};
 use std::marker::Model;
 use text_lines::forms::cut;
 use text_lines::laws::places_are_those_of_the_words;
@@ -30,29 +31,28 @@ use text_lines::{Cause, LineFault, Memory, forms};
 /// The lines of a map, at most 256, and the number of each in the text of the map, counted from 1.
 #[derive(Drop)]
 pub struct WatchMap {
-    lines: Vec<MapLine>,
+    table: MapTable,
     numbers: Vec<u64>,
 }
 
 impl Model for WatchMap {
-    ghost use Rattle.std.specs.Prelude.{◌≡◌, ◌≤◌, length};
+    ghost use Rattle.std.specs.Prelude.{◌≡◌, length};
     ghost use Rattle.can_logs.specs.WatchMaps.{NumberedMap};
 
     ghost Value = { NumberedMap };
 
-    ghost view = { λ m. record { lines = m.lines.items; numbers = m.numbers.items } };
+    ghost view = { λ m. record { lines = m.table; numbers = m.numbers.items } };
 
-    ghost invariant = { λ m. (length m.lines.items ≤ 256) × (length m.numbers.items ≡ length m.lines.items) };
+    ghost invariant = { λ m. length m.numbers.items ≡ length m.table };
 }
 
 impl WatchMap {
     /// These lines with these numbers.
-    pub fn of(lines: Vec<MapLine>, numbers: Vec<u64>) -> WatchMap
-        requires few { length lines.items ≤ 256 }
-        requires as_many { length numbers.items ≡ length lines.items }
-        ensures { result ≡ record { lines = lines.items; numbers = numbers.items } }
+    pub fn of(table: MapTable, numbers: Vec<u64>) -> WatchMap
+        requires { length numbers.items ≡ length table }
+        ensures { result ≡ record { lines = table; numbers = numbers.items } }
     {
-        WatchMap { lines, numbers }
+        WatchMap { table, numbers }
     }
 
     /// The lines.
@@ -60,7 +60,14 @@ impl WatchMap {
         ensures value { result.now ≡ self.now.lines }
         ensures few { length result.now ≤ 256 }
     {
-        self.lines.as_slice()
+        self.table.lines()
+    }
+
+    /// The lines in a table over their CAN identifiers.
+    pub fn table(&self) -> &MapTable
+        ensures { result.now ≡ self.now.lines }
+    {
+        &self.table
     }
 
     /// The number of each.
@@ -345,8 +352,21 @@ fn numbered(alloc: Global, lines: Vec<MapLine>, text: &[u8]) -> Result<WatchMap,
     ensures err { IfErr result (λ row. row ≡ memory_row) }
 {
     match numbers_of(alloc, text) {
-        Ok(numbers) => Ok(WatchMap::of(lines, numbers)),
+        Ok(numbers) => with_numbers(alloc, lines, numbers),
         Err(Memory) => Err(Refusal::no_memory()),
+    }
+}
+
+/// These lines with these numbers, or out of memory.
+fn with_numbers(alloc: Global, lines: Vec<MapLine>, numbers: Vec<u64>) -> Result<WatchMap, Refusal>
+    requires few { length lines.items ≤ 256 }
+    requires as_many { length numbers.items ≡ length lines.items }
+    ensures ok { IfOk result (λ map. map ≡ record { lines = lines.items; numbers = numbers.items }) }
+    ensures err { IfErr result (λ row. row ≡ memory_row) }
+{
+    match MapTable::of(alloc, lines) {
+        Ok(table) => Ok(WatchMap::of(table, numbers)),
+        Err(AllocError) => Err(Refusal::no_memory()),
     }
 }
 

@@ -1,7 +1,6 @@
 -- What each row of a chart's table says of the arguments and of the sources
 use Rattle.std.specs.Prelude.{◌≡◌, ◌⊎◌, ℕ, Option, Some, List, Result, Ok, Err}
-use Rattle.std.proofs.Common.{refl, subst, inl, inr}
-use Rattle.program_edge.specs.Input.{input_fault_text}
+use Rattle.std.proofs.Common.{arith, refl, subst, inl, inr}
 use Rattle.text_lines.specs.Readings.{Fault}
 use Rattle.program_edge.specs.Rows.{Row}
 use Rattle.program_edge.specs.Inputs.{Offers}
@@ -29,11 +28,7 @@ pub calm_chart : (i : BusInputs) (bus : NamedBus) (events : List Event) → Sets
 calm_chart i bus events set = (set_calm i bus set.set, calm_whole i.script set.text set.whole)
 
 inputs_tell : (i : BusInputs) (row : Row) → ChartInputRow i row → RowTells row i.config i.script
-inputs_tell i row (no_form none config script) = inr (inr (calm_unread i.config config, calm_unread i.script script))
-inputs_tell i row (no_config fault (asks, lacks, unread)) = told_first fault (input_fault_text fault) i.config i.script lacks (calm_unread i.script unread)
-inputs_tell i row (config_refused fault text asks is told unread) = inr (inr (calm_whole i.config is.0 is.1, calm_unread i.script unread))
-inputs_tell i row (no_script fault (bus, set, lacks)) = told_second fault (input_fault_text fault) i.config i.script (set_calm i bus set) lacks
-inputs_tell i row (script_refused fault f) = inr (inr (set_calm i f.bus f.set, calm_whole i.script f.text f.whole))
+inputs_tell i row comes = grind (arith, calm_unread, told_first, calm_whole, told_second, set_calm)
 
 pub row_tells : (same : Type 0) (i : BusInputs) (d : DiskStates) (row : Row) → ChartRow same i d row → RowTells row i.config i.script
 row_tells same i d row (without_disks _ comes as_before) = inputs_tell i row comes
@@ -44,34 +39,20 @@ row_tells same i d row (done_without_memory kept (bus, events, set, done)) = inr
 -- ---- words of another form
 
 inputs_ask : (i : BusInputs) (row : Row) → ChartInputRow i row → ¬ AsksChart i.words → row.status ≡ 2
-inputs_ask i row (no_form none config script) nothing = refl
-inputs_ask i row (no_config fault (asks, lacks, unread)) nothing = absurd (nothing asks)
-inputs_ask i row (config_refused fault text asks is told unread) nothing = absurd (nothing asks)
-inputs_ask i row (no_script fault (bus, set, lacks)) nothing = absurd (nothing set.asks)
-inputs_ask i row (script_refused fault f) nothing = absurd (nothing f.set.asks)
+inputs_ask i row comes nothing = grind arith
 
 pub row_asks : (same : Type 0) (i : BusInputs) (d : DiskStates) (row : Row) → ChartRow same i d row → ¬ AsksChart i.words → row.status ≡ 2
-row_asks same i d row (without_disks _ comes as_before) nothing = inputs_ask i row comes nothing
-row_asks same i d row (not_started _ (bus, events, set, start) nine) nothing = absurd (nothing set.set.asks)
-row_asks same i d row (all_done _ (bus, events, set, done)) nothing = absurd (nothing set.set.asks)
-row_asks same i d row (done_without_memory kept (bus, events, set, done)) nothing = absurd (nothing set.set.asks)
+row_asks same i d row comes nothing = grind (arith, inputs_ask)
 
 -- ---- a bus file that is offered, and has a fault
 
 inputs_refuse : (i : BusInputs) (row : Row) (file : List ℕ) (fault : ConfigFault) → ChartInputRow i row → AsksChart i.words
     → Offers i.config file → bus_of file ≡ Err fault → (row.status ≡ 3) ⊎ (row.status ≡ 7)
-inputs_refuse i row file fault (no_form none config script) asks offers err = absurd (none asks)
-inputs_refuse i row file fault (no_config other (also, lacks, unread)) asks offers err = inr (memory_status i.config file other offers lacks)
-inputs_refuse i row file fault (config_refused other text also is told unread) asks offers err = inl refl
-inputs_refuse i row file fault (no_script other (bus, set, lacks)) asks offers err = absurd (bus_or_fault i.config bus file fault set.of_bus offers err)
-inputs_refuse i row file fault (script_refused other f) asks offers err = absurd (bus_or_fault i.config f.bus file fault f.set.of_bus offers err)
+inputs_refuse i row file fault comes asks offers err = grind (arith, memory_status, bus_or_fault)
 
 pub row_refuses : (same : Type 0) (i : BusInputs) (d : DiskStates) (row : Row) (file : List ℕ) (fault : ConfigFault) → ChartRow same i d row
     → AsksChart i.words → Offers i.config file → bus_of file ≡ Err fault → (row.status ≡ 3) ⊎ (row.status ≡ 7)
-row_refuses same i d row file fault (without_disks _ comes as_before) asks offers err = inputs_refuse i row file fault comes asks offers err
-row_refuses same i d row file fault (not_started _ (bus, events, set, start) nine) asks offers err = absurd (bus_or_fault i.config bus file fault set.set.of_bus offers err)
-row_refuses same i d row file fault (all_done _ (bus, events, set, done)) asks offers err = absurd (bus_or_fault i.config bus file fault set.set.of_bus offers err)
-row_refuses same i d row file fault (done_without_memory kept (bus, events, set, done)) asks offers err = absurd (bus_or_fault i.config bus file fault set.set.of_bus offers err)
+row_refuses same i d row file fault comes asks offers err = grind (arith, inputs_refuse, bus_or_fault)
 
 -- ---- a chart that is offered
 

@@ -30,7 +30,7 @@ use Rattle.bus_programs.proofs.CallerLemmas.{told_fault, told_too_much}
 use Rattle.chart_svg.specs.ChartTexts.{chart_text}
 use Rattle.bus_programs.specs.Inputs.{BusInputs}
 use Rattle.chart_commands.specs.Inputs.{AsksChart, chart_usage, NoChartConfig, NoChartScript, HasBadEvent, OverChart}
-use Rattle.chart_commands.specs.Rows.{ChartInputRow, no_form, no_config, config_refused, no_script, script_refused, DoneChart, ChartRow, without_disks, not_started, all_done, done_without_memory, EndsChart}
+use Rattle.chart_commands.specs.Rows.{ChartInputRow, config_refused, DoneChart, ChartRow, without_disks, not_started, all_done, done_without_memory, EndsChart}
 use Rattle.chart_commands.specs.Promises.{DrawsChart, LeavesChartDisks, as_before, by_unfinished_start, by_chart, RunsChart}
 use Rattle.chart_commands.proofs.Facts.{row_tells, row_asks, row_refuses, OfOffered, row_offered}
 
@@ -44,9 +44,11 @@ module _ (same : Type 0) (i : BusInputs) (d : DiskStates) (e : Ending) where
   -- ---- which row a status is that of
 
   fault_is : (fault : InputFault) → (input_fault_status fault ≡ 5) ⊎ ((input_fault_status fault ≡ 8) ⊎ (input_fault_status fault ≡ 7))
-  fault_is input.ReadFault = inl refl
-  fault_is input.TooLong = inr (inl refl)
-  fault_is input.Memory = inr (inr refl)
+  fault_is fault = grind arith
+
+  -- that of a row for which no disk is used
+  inputs_low : (row : Row) → ChartInputRow i row → (row.status ≡ 2) ⊎ ((row.status ≡ 3) ⊎ ((row.status ≡ 4) ⊎ ((row.status ≡ 5) ⊎ ((row.status ≡ 8) ⊎ (row.status ≡ 7)))))
+  inputs_low row comes = grind (arith, fault_is)
 
   draws : (text : List ℕ) → OverChart i (λ bus events. (lines : List Line) × DoneChart bus events d (Some lines) × (text ≡ chart_text bus events lines))
       → PrintsWhole e text → OverChart i (λ bus events. DrawsChart bus events d e)
@@ -54,86 +56,34 @@ module _ (same : Type 0) (i : BusInputs) (d : DiskStates) (e : Ending) where
       (bus, events, set, record { lines = lines; done = done; drawn = subst (PrintsWhole e) text_is well })
 
   row_0 : (row : Row) → Comes row → row.status ≡ 0 → PrintsWhole e row.text → OverChart i (λ bus events. DrawsChart bus events d e)
-  row_0 row (without_disks _ (no_form none config script) unused) is well = absurd (let no : ⊥ = omega (arith, is) in no)
-  row_0 row (without_disks _ (no_config fault lack) unused) is well = absurd (let no : ⊥ = omega (arith, fault_is fault, is) in no)
-  row_0 row (without_disks _ (config_refused fault text asks has told unread) unused) is well = absurd (let no : ⊥ = omega (arith, is) in no)
-  row_0 row (without_disks _ (no_script fault lack) unused) is well = absurd (let no : ⊥ = omega (arith, fault_is fault, is) in no)
-  row_0 row (without_disks _ (script_refused fault f) unused) is well = absurd (let no : ⊥ = omega (arith, is) in no)
+  row_0 row (without_disks _ comes unused) is well = absurd (let no : ⊥ = omega (arith, inputs_low row comes, is) in no)
   row_0 row (not_started _ (bus, events, set, start) nine) is well = absurd (let no : ⊥ = omega (arith, start_status Format bus d row start, is) in no)
   row_0 row (all_done text over) is well = draws text over well
   row_0 row (done_without_memory kept over) is well = absurd (let no : ⊥ = omega (arith, is) in no)
 
   row_2 : (row : Row) → Comes row → row.status ≡ 2 → PrintsWhole e row.text → (¬ AsksChart i.words) × IsUnread i.config × IsUnread i.script × PrintsWhole e chart_usage
-  row_2 row (without_disks _ (no_form none config script) unused) is well = (none, config, script, well)
-  row_2 row (without_disks _ (no_config fault lack) unused) is well = absurd (let no : ⊥ = omega (arith, fault_is fault, is) in no)
-  row_2 row (without_disks _ (config_refused fault text asks has told unread) unused) is well = absurd (let no : ⊥ = omega (arith, is) in no)
-  row_2 row (without_disks _ (no_script fault lack) unused) is well = absurd (let no : ⊥ = omega (arith, fault_is fault, is) in no)
-  row_2 row (without_disks _ (script_refused fault f) unused) is well = absurd (let no : ⊥ = omega (arith, is) in no)
-  row_2 row (not_started _ (bus, events, set, start) nine) is well = absurd (let no : ⊥ = omega (arith, start_status Format bus d row start, is) in no)
-  row_2 row (all_done _ over) is well = absurd (let no : ⊥ = omega (arith, is) in no)
-  row_2 row (done_without_memory kept over) is well = absurd (let no : ⊥ = omega (arith, is) in no)
+  row_2 row comes is well = grind (arith, fault_is, start_status)
 
   abbrev ConfigTold : Type 0
   ConfigTold = AsksChart i.words × IsUnread i.script
       × ((fault : ConfigFault) × (text : List ℕ) × IsConfigFault i.config fault × (config_fault_text fault ≡ Some text) × PrintsWhole e text)
 
   row_3 : (row : Row) → Comes row → row.status ≡ 3 → PrintsWhole e row.text → ConfigTold
-  row_3 row (without_disks _ (no_form none config script) unused) is well = absurd (let no : ⊥ = omega (arith, is) in no)
-  row_3 row (without_disks _ (no_config fault lack) unused) is well = absurd (let no : ⊥ = omega (arith, fault_is fault, is) in no)
   row_3 row (without_disks _ (config_refused fault text asks has told unread) unused) is well = (asks, unread, (fault, text, has, told, well))
-  row_3 row (without_disks _ (no_script fault lack) unused) is well = absurd (let no : ⊥ = omega (arith, fault_is fault, is) in no)
-  row_3 row (without_disks _ (script_refused fault f) unused) is well = absurd (let no : ⊥ = omega (arith, is) in no)
   row_3 row (not_started _ (bus, events, set, start) nine) is well = absurd (let no : ⊥ = omega (arith, start_status Format bus d row start, is) in no)
-  row_3 row (all_done _ over) is well = absurd (let no : ⊥ = omega (arith, is) in no)
-  row_3 row (done_without_memory kept over) is well = absurd (let no : ⊥ = omega (arith, is) in no)
+  row_3 row comes is well = absurd (grind (arith, fault_is))
 
   row_4 : (row : Row) → Comes row → row.status ≡ 4 → PrintsWhole e row.text → (fault : Fault) × HasBadEvent i fault × PrintsWhole e (fault_text_of fault)
-  row_4 row (without_disks _ (no_form none config script) unused) is well = absurd (let no : ⊥ = omega (arith, is) in no)
-  row_4 row (without_disks _ (no_config fault lack) unused) is well = absurd (let no : ⊥ = omega (arith, fault_is fault, is) in no)
-  row_4 row (without_disks _ (config_refused fault text asks has told unread) unused) is well = absurd (let no : ⊥ = omega (arith, is) in no)
-  row_4 row (without_disks _ (no_script fault lack) unused) is well = absurd (let no : ⊥ = omega (arith, fault_is fault, is) in no)
-  row_4 row (without_disks _ (script_refused fault f) unused) is well = (fault, f, well)
-  row_4 row (not_started _ (bus, events, set, start) nine) is well = absurd (let no : ⊥ = omega (arith, start_status Format bus d row start, is) in no)
-  row_4 row (all_done _ over) is well = absurd (let no : ⊥ = omega (arith, is) in no)
-  row_4 row (done_without_memory kept over) is well = absurd (let no : ⊥ = omega (arith, is) in no)
+  row_4 row comes is well = grind (arith, fault_is, start_status)
 
   abbrev NoInput : InputFault → Type 0
   NoInput fault = NoChartConfig i fault ⊎ NoChartScript i fault
 
   row_5 : (row : Row) → Comes row → row.status ≡ 5 → PrintsWhole e row.text → NoInput input.ReadFault × PrintsWhole e (codes "read fault\n")
-  row_5 row (without_disks _ (no_form none config script) unused) is well = absurd (let no : ⊥ = omega (arith, is) in no)
-  row_5 row (without_disks _ (no_config input.ReadFault lack) unused) is well = (inl lack, well)
-  row_5 row (without_disks _ (no_config input.TooLong lack) unused) is well = absurd (let no : ⊥ = omega (arith, is) in no)
-  row_5 row (without_disks _ (no_config input.Memory lack) unused) is well = absurd (let no : ⊥ = omega (arith, is) in no)
-  row_5 row (without_disks _ (config_refused fault text asks has told unread) unused) is well = absurd (let no : ⊥ = omega (arith, is) in no)
-  row_5 row (without_disks _ (no_script input.ReadFault lack) unused) is well = (inr lack, well)
-  row_5 row (without_disks _ (no_script input.TooLong lack) unused) is well = absurd (let no : ⊥ = omega (arith, is) in no)
-  row_5 row (without_disks _ (no_script input.Memory lack) unused) is well = absurd (let no : ⊥ = omega (arith, is) in no)
-  row_5 row (without_disks _ (script_refused fault f) unused) is well = absurd (let no : ⊥ = omega (arith, is) in no)
-  row_5 row (not_started _ (bus, events, set, start) nine) is well = absurd (let no : ⊥ = omega (arith, start_status Format bus d row start, is) in no)
-  row_5 row (all_done _ over) is well = absurd (let no : ⊥ = omega (arith, is) in no)
-  row_5 row (done_without_memory kept over) is well = absurd (let no : ⊥ = omega (arith, is) in no)
+  row_5 row comes is well = grind (arith, start_status)
 
   row_8 : (row : Row) → Comes row → row.status ≡ 8 → PrintsWhole e row.text → NoInput input.TooLong × PrintsWhole e (codes "input too long\n")
-  row_8 row (without_disks _ (no_form none config script) unused) is well = absurd (let no : ⊥ = omega (arith, is) in no)
-  row_8 row (without_disks _ (no_config input.ReadFault lack) unused) is well = absurd (let no : ⊥ = omega (arith, is) in no)
-  row_8 row (without_disks _ (no_config input.TooLong lack) unused) is well = (inl lack, well)
-  row_8 row (without_disks _ (no_config input.Memory lack) unused) is well = absurd (let no : ⊥ = omega (arith, is) in no)
-  row_8 row (without_disks _ (config_refused fault text asks has told unread) unused) is well = absurd (let no : ⊥ = omega (arith, is) in no)
-  row_8 row (without_disks _ (no_script input.ReadFault lack) unused) is well = absurd (let no : ⊥ = omega (arith, is) in no)
-  row_8 row (without_disks _ (no_script input.TooLong lack) unused) is well = (inr lack, well)
-  row_8 row (without_disks _ (no_script input.Memory lack) unused) is well = absurd (let no : ⊥ = omega (arith, is) in no)
-  row_8 row (without_disks _ (script_refused fault f) unused) is well = absurd (let no : ⊥ = omega (arith, is) in no)
-  row_8 row (not_started _ (bus, events, set, start) nine) is well = absurd (let no : ⊥ = omega (arith, start_status Format bus d row start, is) in no)
-  row_8 row (all_done _ over) is well = absurd (let no : ⊥ = omega (arith, is) in no)
-  row_8 row (done_without_memory kept over) is well = absurd (let no : ⊥ = omega (arith, is) in no)
-
-  inputs_low : (row : Row) → ChartInputRow i row → (row.status ≡ 2) ⊎ ((row.status ≡ 3) ⊎ ((row.status ≡ 4) ⊎ ((row.status ≡ 5) ⊎ ((row.status ≡ 8) ⊎ (row.status ≡ 7)))))
-  inputs_low row (no_form none config script) = inl refl
-  inputs_low row (no_config fault lack) = inr (inr (inr (fault_is fault)))
-  inputs_low row (config_refused fault text asks has told unread) = inr (inl refl)
-  inputs_low row (no_script fault lack) = inr (inr (inr (fault_is fault)))
-  inputs_low row (script_refused fault f) = inr (inr (inl refl))
+  row_8 row comes is well = grind (arith, start_status)
 
   -- ---- a start that is refused
 
@@ -141,54 +91,31 @@ module _ (same : Type 0) (i : BusInputs) (d : DiskStates) (e : Ending) where
   DisksTold bus = (d.after ≡ d.before) × ((fault : StartFault) × FindsRoom bus d.before fault × PrintsWhole e (start_row fault).text)
 
   start_9 : (bus : NamedBus) (row : Row) → ComesOfStart Format bus d row → row.status ≡ 9 → PrintsWhole e row.text → DisksTold bus
-  start_9 bus row (answer.disks_refused fault finds unused) is well = (unused, (fault, finds, well))
-  start_9 bus row (answer.store_refused fault room cause left) is well = absurd (let no : ⊥ = omega (arith, is) in no)
-  start_9 bus row (answer.start_without_memory fault may refused calm) is well = absurd (let no : ⊥ = omega (arith, is) in no)
+  start_9 bus row comes is well = grind arith
 
   row_9 : (row : Row) → Comes row → row.status ≡ 9 → PrintsWhole e row.text → OverChart i (λ bus events. DisksTold bus)
-  row_9 row (without_disks _ comes unused) is well = absurd (let no : ⊥ = omega (arith, inputs_low row comes, is) in no)
-  row_9 row (not_started _ (bus, events, set, start) nine) is well = (bus, events, set, start_9 bus row start is well)
-  row_9 row (all_done _ over) is well = absurd (let no : ⊥ = omega (arith, is) in no)
-  row_9 row (done_without_memory kept over) is well = absurd (let no : ⊥ = omega (arith, is) in no)
+  row_9 row comes is well = grind (arith, inputs_low, start_9)
 
   abbrev StoreTold : NamedBus → Type 0
   StoreTold bus = LeavesEach Format bus d.before d.after × ((fault : StartFault) × StoreCause Format bus d.before d.after fault × PrintsWhole e (start_row fault).text)
 
   start_10 : (bus : NamedBus) (row : Row) → ComesOfStart Format bus d row → row.status ≡ 10 → PrintsWhole e row.text → StoreTold bus
-  start_10 bus row (answer.disks_refused fault finds unused) is well = absurd (let no : ⊥ = omega (arith, is) in no)
   start_10 bus row (answer.store_refused fault room cause left) is well = (left, (fault, cause, well))
-  start_10 bus row (answer.start_without_memory fault may refused calm) is well = absurd (let no : ⊥ = omega (arith, is) in no)
+  start_10 bus row comes is well = absurd (omega arith)
 
   row_10 : (row : Row) → Comes row → row.status ≡ 10 → PrintsWhole e row.text → OverChart i (λ bus events. StoreTold bus)
-  row_10 row (without_disks _ comes unused) is well = absurd (let no : ⊥ = omega (arith, inputs_low row comes, is) in no)
-  row_10 row (not_started _ (bus, events, set, start) nine) is well = (bus, events, set, start_10 bus row start is well)
-  row_10 row (all_done _ over) is well = absurd (let no : ⊥ = omega (arith, is) in no)
-  row_10 row (done_without_memory kept over) is well = absurd (let no : ⊥ = omega (arith, is) in no)
+  row_10 row comes is well = grind (arith, inputs_low, start_10)
 
   row_not_6 : (row : Row) → Comes row → row.status ≢ 6
-  row_not_6 row (without_disks _ comes unused) = λ is. omega (arith, inputs_low row comes, is)
-  row_not_6 row (not_started _ (bus, events, set, start) nine) = λ is. omega (arith, start_status Format bus d row start, is)
-  row_not_6 row (all_done _ over) = λ is. omega (arith, is)
-  row_not_6 row (done_without_memory kept over) = λ is. omega (arith, is)
+  row_not_6 row comes = grind (arith, inputs_low, start_status)
 
   -- ---- 7
 
   inputs_memory : (row : Row) → ChartInputRow i row → row.status ≡ 7 → row ≡ memory_row
-  inputs_memory row (no_form none config script) is = absurd (let no : ⊥ = omega (arith, is) in no)
-  inputs_memory row (no_config input.ReadFault lack) is = absurd (let no : ⊥ = omega (arith, is) in no)
-  inputs_memory row (no_config input.TooLong lack) is = absurd (let no : ⊥ = omega (arith, is) in no)
-  inputs_memory row (no_config input.Memory lack) is = refl
-  inputs_memory row (config_refused fault text asks has told unread) is = absurd (let no : ⊥ = omega (arith, is) in no)
-  inputs_memory row (no_script input.ReadFault lack) is = absurd (let no : ⊥ = omega (arith, is) in no)
-  inputs_memory row (no_script input.TooLong lack) is = absurd (let no : ⊥ = omega (arith, is) in no)
-  inputs_memory row (no_script input.Memory lack) is = refl
-  inputs_memory row (script_refused fault f) is = absurd (let no : ⊥ = omega (arith, is) in no)
+  inputs_memory row comes is = grind arith
 
   is_memory : (row : Row) → Comes row → row.status ≡ 7 → row ≡ memory_row
-  is_memory row (without_disks _ comes unused) is = inputs_memory row comes is
-  is_memory row (not_started _ (bus, events, set, start) nine) is = start_memory Format bus d row start is
-  is_memory row (all_done _ over) is = absurd (let no : ⊥ = omega (arith, is) in no)
-  is_memory row (done_without_memory kept over) is = refl
+  is_memory row comes is = grind (arith, inputs_memory, start_memory)
 
   row_7 : (row : Row) → Comes row → row.status ≡ 7 → PrintsWhole e row.text → ChartRow same i d memory_row × PrintsWhole e []
   row_7 row comes is well =
@@ -198,40 +125,24 @@ module _ (same : Type 0) (i : BusInputs) (d : DiskStates) (e : Ending) where
   -- ---- what makes a row come
 
   refused_of : (row : Row) (bus : NamedBus) (text : List ℕ) (fault : Fault) → events_of bus.nodes text ≡ Err fault → OfOffered d row bus text → (row.status ≡ 4) ⊎ (row.status ≡ 7)
-  refused_of row bus text fault is (inl seven) = inr seven
-  refused_of row bus text fault is (inr (inl (other, four, also))) = inl four
-  refused_of row bus text fault is (inr (inr (inl (events, ok, start)))) = absurd (Ok_not_Err (events_of bus.nodes text) events fault ok is)
-  refused_of row bus text fault is (inr (inr (inr (events, ok, ran)))) = absurd (Ok_not_Err (events_of bus.nodes text) events fault ok is)
+  refused_of row bus text fault is of = grind (arith, Ok_not_Err)
 
   without_room_of : (row : Row) (bus : NamedBus) (text : List ℕ) (events : List Event) → events_of bus.nodes text ≡ Ok events → ¬ HasRoom bus d.before → OfOffered d row bus text
       → (row.status ≡ 9) ⊎ (row.status ≡ 7)
-  without_room_of row bus text events is lacks (inl seven) = inr seven
-  without_room_of row bus text events is lacks (inr (inl (fault, four, err))) = absurd (Ok_not_Err (events_of bus.nodes text) events fault is err)
-  without_room_of row bus text events is lacks (inr (inr (inl (also, ok, start)))) = start_without_room Format bus d row start lacks
-  without_room_of row bus text events is lacks (inr (inr (inr (also, ok, ran)))) = absurd (lacks ran.room)
+  without_room_of row bus text events is lacks of = grind (arith, Ok_not_Err, start_without_room)
 
   complete_of : (row : Row) (bus : NamedBus) (text : List ℕ) (events : List Event) → events_of bus.nodes text ≡ Ok events → BusHasDisks Format bus d
       → OfOffered d row bus text → (row.status ≡ 0) ⊎ (row.status ≡ 7)
-  complete_of row bus text events is able (inl seven) = inr seven
-  complete_of row bus text events is able (inr (inl (fault, four, err))) = absurd (Ok_not_Err (events_of bus.nodes text) events fault is err)
-  complete_of row bus text events is able (inr (inr (inl (also, ok, start)))) = inr (start_complete Format bus d row start able)
-  complete_of row bus text events is able (inr (inr (inr (also, ok, ran)))) = ran.status
+  complete_of row bus text events is able of = grind (arith, Ok_not_Err, start_complete)
 
   -- ---- the disks
 
   row_low : (row : Row) → Comes row
       → (row.status ≡ 2) ⊎ (row.status ≡ 3) ⊎ (row.status ≡ 4) ⊎ (row.status ≡ 5) ⊎ (row.status ≡ 8) ⊎ (row.status ≡ 9) → same
-  row_low row (without_disks _ comes unused) low = unused
-  row_low row (not_started _ (bus, events, set, start) nine) low =
-      nine (let is : row.status ≡ 9 = omega (arith, start_status Format bus d row start, low) in is)
-  row_low row (all_done _ over) low = absurd (let no : ⊥ = omega (arith, low) in no)
-  row_low row (done_without_memory kept over) low = absurd (let no : ⊥ = omega (arith, low) in no)
+  row_low row comes low = grind (arith, start_status)
 
   unused_of : EndsInRow Comes e → (e.status ≡ 2) ⊎ (e.status ≡ 3) ⊎ (e.status ≡ 4) ⊎ (e.status ≡ 5) ⊎ (e.status ≡ 8) ⊎ (e.status ≡ 9) → same
-  unused_of ends low = elim ends.told [
-    | inl (status_is, well) ↦ row_low ends.row ends.comes (subst (λ (n : ℕ). (n ≡ 2) ⊎ (n ≡ 3) ⊎ (n ≡ 4) ⊎ (n ≡ 5) ⊎ (n ≡ 8) ⊎ (n ≡ 9)) status_is low)
-    | inr (is, rose, part) ↦ absurd (let no : ⊥ = omega (arith, is, low) in no)
-  ]
+  unused_of ends low = grind (arith, row_low)
 
   -- a start that isn't finished ends in 6, 7 or 10; at 9 no disk was called
   unfinished : (bus : NamedBus) (row : Row) → ComesOfStart Format bus d row → (row.status ≡ 9 → same) → EndingTold e.before e.after row.text row.status e.status

@@ -1,4 +1,4 @@
--- What is done of the line that is kept, by what it asks
+-- What is done of a line, by what it asks
 use Rattle.std.proofs.Common.{◌≡◌, ℕ, ◌<◌, ◌≤◌, Bool, true, false, List, [], ◌∷◌, ◌++◌, length, drop, map, refl, sym, ap, ◌∙◌, subst, arith}
 use Rattle.std.specs.Prelude.{nat_lt}
 use Rattle.std.proofs.lemmas.List.{length-take, length-drop}
@@ -17,7 +17,7 @@ use Rattle.endpoint_commands.specs.Asking.{asked_of, asked_of_words, event_asked
 use Rattle.endpoint_commands.specs.Lines.{answer_text}
 use Rattle.endpoint_commands.specs.Counting.{kind_asked, counts_with}
 use Rattle.endpoint_commands.specs.Running.{DoesEvent}
-use Rattle.endpoint_commands.specs.States.{EndpointState, AnswersWords, AnswersKept}
+use Rattle.endpoint_commands.specs.States.{EndpointState, AnswersWords, AnswersNext}
 
 pub asked_long : (rules : List FrameRule) (bytes : List ℕ) → line_limit < length bytes → asked_of rules bytes ≡ Other
 unfolding asked_of
@@ -31,15 +31,15 @@ pub asked_words : (rules : List FrameRule) (bytes : List ℕ) → length bytes �
 unfolding asked_of
 asked_words rules bytes few kept = let is : nat_lt line_limit (length bytes) ≡ false = grind (arith, nat_tests, few) in rw is (rw kept refl)
 
-pub kept_as : (old : EndpointState) (asked : Asked) (node : NodeState) (text : List ℕ) (counts : EndpointCounts) (failed : Bool) → asked_of old.rules old.line ≡ asked
-    → AnswersWords old.rules old.lines (words_of old.line) asked old.node node old.text text old.counts counts failed
-    → AnswersKept old (record old { node = node; counts = counts; text = text }) failed
-kept_as old asked node text counts failed is a = record {
+pub kept_as : (old : EndpointState) (number : ℕ) (line : List ℕ) (asked : Asked) (node : NodeState) (text : List ℕ) (counts : EndpointCounts) (failed : Bool) → asked_of old.rules line ≡ asked
+    → AnswersWords old.rules number (words_of line) asked old.node node old.text text old.counts counts failed
+    → AnswersNext old number line (record old { node = node; counts = counts; text = text }) failed
+kept_as old number line asked node text counts failed is a = record {
   told = a.told;
   takes = subst (λ (x : Asked). DoesEvent (event_asked old.rules x) old.node a.told node) (sym is) a.does;
   counts = counts;
   counts_are = a.counts_are ∙ ap (λ (x : Asked). counts_with (kind_asked x a.told) old.counts) (sym is);
-  new_is = ap (λ (t : List ℕ). record old { node = node; counts = counts; text = t }) (a.text_is ∙ ap (λ (x : Asked). old.text ++ answer_text old.rules old.lines (words_of old.line) x a.told) (sym is));
+  new_is = ap (λ (t : List ℕ). record old { node = node; counts = counts; text = t }) (a.text_is ∙ ap (λ (x : Asked). old.text ++ answer_text old.rules number (words_of line) x a.told) (sym is));
   failed_is = a.failed_is;
 }
 

@@ -12,7 +12,6 @@ mod Answered
 mod KeptLine
 mod Doing
 mod LineEnds
-mod Finishing
 mod Naming
 mod FaultCounts
 mod LogTells

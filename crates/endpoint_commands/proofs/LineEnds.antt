@@ -1,57 +1,37 @@
--- A line feed came: the line before it was taken, and its answer printed, or it stopped
-use Rattle.std.proofs.Common.{◌≡◌, ℕ, Bool, true, false, List, [], refl, ap, subst}
+-- A line was answered, and its answer printed, or the log ended at it
+use Rattle.std.proofs.Common.{◌≡◌, ℕ, Bool, true, false, List, [], refl, sym, ◌∙◌, ap, subst, inl, inr}
 use Rattle.std.specs.Prelude.{Result, Ok, Err, OnOk, OnErr}
-use Rattle.basics.specs.FaultCount.{counted}
 use Rattle.bus_port.specs.Fault.{Rose}
 use Rattle.bus_port.specs.declared.port.PortFailed.{PortFailed}
 use Rattle.bus_port.specs.Sink.{SinkState, Appended}
 use Rattle.bus_port.specs.Whole.{AppendedPart}
 use Rattle.program_edge.specs.Told.{AppendedWell}
-use Rattle.secoc_node.specs.State.{NodeState}
-use Rattle.endpoint_commands.specs.declared.endpoint.EndpointStop.TheVariants.{SinkFailed, DiskFailed}
-use Rattle.endpoint_commands.specs.Running.{LineMoment}
-use Rattle.endpoint_commands.specs.States.{EndpointState, LogBehind, AnswersKept, EndsLine, stop_told}
-use Rattle.endpoint_commands.proofs.Going.{LineTaken, before_answer, line_taken, ends_well, ends_by_disk, ends_by_sink}
+use Rattle.endpoint_commands.specs.Running.{line_answer}
+use Rattle.endpoint_commands.specs.States.{EndpointState, EndpointAtSink, AnswersNext, AnswersLine, PrintsAnswer, stop_told}
 
-module _ (old mid : EndpointState) (before after : SinkState) (failed : Bool) (lines : ℕ) (text : List ℕ) (lines_are : lines ≡ counted old.lines) (empty : text ≡ [])
-    (answers : AnswersKept (record old { lines = lines; text = text }) mid failed) where
-  abbrev left : EndpointState
-  left = record mid { line = [] }
+module _ (p : EndpointAtSink) (number : ℕ) (line : List ℕ) (mid : EndpointState) (after : SinkState) (failed : Bool) (answers : AnswersNext (record p.endpoint { text = [] }) number line mid failed) where
+  abbrev said : List ℕ
+  said = line_answer p.endpoint.rules number line answers.told
 
-  kept : AnswersKept (before_answer old) mid failed
-  kept = subst (λ (t : List ℕ). AnswersKept (record old { lines = counted old.lines; text = t }) mid failed) empty
-      (subst (λ (n : ℕ). AnswersKept (record old { lines = n; text = text }) mid failed) lines_are answers)
+  text_is : mid.text ≡ said
+  text_is = ap (λ (s : EndpointState). s.text) answers.new_is
 
-  taken : (start : NodeState) (bytes : List ℕ) (moments : List LineMoment) → LogBehind old start bytes moments → LineTaken old mid.node mid.text mid.counts failed start bytes moments
-  taken = line_taken old mid failed kept
+  answered : (result : Result (Unit {0}) ℕ) → PrintsAnswer p.sink after said answers.told result → AnswersLine p number line (record { endpoint = mid; sink = after }) result
+  answered result prints = record {
+    told = answers.told;
+    rules = ap (λ (s : EndpointState). s.rules) answers.new_is;
+    takes = answers.takes;
+    counts_are = ap (λ (s : EndpointState). s.counts) answers.new_is ∙ answers.counts_are;
+    prints = prints;
+  }
 
-  same_rules : mid.rules ≡ old.rules
-  same_rules = ap (λ (s : EndpointState). s.rules) kept.new_is
-
-  one_more : mid.lines ≡ counted old.lines
-  one_more = ap (λ (s : EndpointState). s.lines) kept.new_is
-
-  at_false : failed ≡ false → (start : NodeState) (bytes : List ℕ) (moments : List LineMoment) → LogBehind old start bytes moments → LineTaken old mid.node mid.text mid.counts false start bytes moments
-  at_false is start bytes moments b = subst (λ (f : Bool). LineTaken old mid.node mid.text mid.counts f start bytes moments) is (taken start bytes moments b)
-
-  at_true : failed ≡ true → (start : NodeState) (bytes : List ℕ) (moments : List LineMoment) → LogBehind old start bytes moments → LineTaken old mid.node mid.text mid.counts true start bytes moments
-  at_true is start bytes moments b = subst (λ (f : Bool). LineTaken old mid.node mid.text mid.counts f start bytes moments) is (taken start bytes moments b)
-
-  line_answered : failed ≡ false → AppendedWell before after mid.text → EndsLine old before left after (Ok tt)
-  line_answered is prints = λ start bytes moments b. ends_well old left before after start bytes moments b (at_false is start bytes moments b) same_rules refl one_more prints
-
-  disk_failed : failed ≡ true → AppendedWell before after mid.text → EndsLine old before left after (Err DiskFailed)
-  disk_failed is prints = λ start bytes moments b. ends_by_disk old left before after start bytes moments (at_true is start bytes moments b) prints
-
-  sink_failed : Rose before.faults after.faults → AppendedPart before after mid.text → EndsLine old before left after (Err SinkFailed)
-  sink_failed rose part = λ start bytes moments b. ends_by_sink old left before after failed start bytes moments (taken start bytes moments b) rose part
-
-  by_failed : (b : Bool) → failed ≡ b → AppendedWell before after mid.text → EndsLine old before left after (stop_told (Ok tt) b)
-  by_failed true is prints = disk_failed is prints
-  by_failed false is prints = line_answered is prints
+  by_failed : (b : Bool) → failed ≡ b → AppendedWell p.sink after mid.text → PrintsAnswer p.sink after said answers.told (stop_told (Ok tt) b)
+  by_failed true is well = inr (refl, subst (AppendedWell p.sink after) text_is well, sym answers.failed_is ∙ is)
+  by_failed false is well = (subst (AppendedWell p.sink after) text_is well, sym answers.failed_is ∙ is)
 
   -- by what became of its answer
-  pub line_ended : (printed : Result (Unit {0}) PortFailed) → OnOk printed (Appended before after mid.text) → OnOk printed (after.faults ≡ before.faults)
-      → OnErr printed (Rose before.faults after.faults) → OnErr printed (AppendedPart before after mid.text) → EndsLine old before left after (stop_told printed failed)
-  line_ended (Ok _) appended calm rose part = by_failed failed refl (calm, appended)
-  line_ended (Err _) appended calm rose part = sink_failed rose part
+  pub line_ended : (printed : Result (Unit {0}) PortFailed) → OnOk printed (Appended p.sink after mid.text) → OnOk printed (after.faults ≡ p.sink.faults)
+      → OnErr printed (Rose p.sink.faults after.faults) → OnErr printed (AppendedPart p.sink after mid.text)
+      → AnswersLine p number line (record { endpoint = mid; sink = after }) (stop_told printed failed)
+  line_ended (Ok _) appended calm rose part = answered (stop_told (Ok tt) failed) (by_failed failed refl (calm, appended))
+  line_ended (Err _) appended calm rose part = answered (Err 6) (inl (refl, rose, subst (AppendedPart p.sink after) text_is part))

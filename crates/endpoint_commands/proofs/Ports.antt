@@ -1,194 +1,234 @@
--- What comes of a log, and what is printed for it, from turn to turn
-use Rattle.std.proofs.Common.{◌≡◌, ℕ, ◌+◌, ◌<◌, ◌≤◌, List, [], ◌∷◌, ◌++◌, length, take, refl, sym, ◌∙◌, ap, subst, inl, inr, arith, append-nil, append_assoc, length-append}
-use Rattle.std.specs.Prelude.{Some, codes, Result, Ok, Err, MatchResult}
+-- What comes of a log, and what is printed of it
+use Rattle.std.proofs.Common.{◌≡◌, ℕ, ◌+◌, ◌<◌, List, [], ◌∷◌, ◌++◌, length, sym, ◌∙◌, ap, subst, inl, inr, refl, arith, append_assoc, length-append}
+use Rattle.std.specs.Prelude.{Ok, Err, codes}
 use Rattle.basics.proofs.CallerLemmas.{rose_after}
-use Rattle.bus_port.specs.Source.{SourceState, Came, HandsOut, ReadFails}
-use Rattle.bus_port.specs.Sink.{SinkState, Appended}
-use Rattle.bus_port.proofs.CallerLemmas.{Came-nothing, Came-more, Appended-more}
-use Rattle.bus_port.specs.Whole.{ReadsAll}
+use Rattle.bus_port.specs.Source.{Came}
+use Rattle.bus_port.specs.Sink.{SinkState}
+use Rattle.bus_port.proofs.CallerLemmas.{Appended-more}
 use Rattle.program_edge.specs.Told.{AppendedWell, EndingTold}
 use Rattle.program_edge.proofs.CallerLemmas.{AppendedWell-more}
 use Rattle.program_edge.specs.Rows.{row_of}
 use Rattle.program_edge.specs.Inputs.{Reading}
+use Rattle.machine_runs.specs.Run.{Run, commands_in}
 use Rattle.secoc_node.specs.State.{NodeState}
-use Rattle.line_stream.specs.Pieces.{in_64_bits}
+use Rattle.line_stream.specs.Pieces.{log_lines, in_64_bits}
+use Rattle.line_stream.specs.Streams.{kept_of, TakesLines, Paused, EndsStream, StopsStream, Streamed}
+use Rattle.line_stream.specs.declared.driver.StreamFault.{StreamFault}
+use Rattle.line_stream.specs.declared.driver.StreamFault.TheVariants.{ReadFault, TooLong}
+use Rattle.line_stream.proofs.CallerLemmas.{told_more, TakesLines-keeps, Paused-keeps}
 use Rattle.can_logs.specs.LogRuns.{Writing, WatchEnding}
 use Rattle.endpoint_commands.specs.declared.rules.FrameRule.{FrameRule}
-use Rattle.endpoint_commands.specs.declared.endpoint.EndpointStop.{EndpointStop}
-use Rattle.endpoint_commands.specs.declared.endpoint.EndpointStop.TheVariants.{SinkFailed, DiskFailed}
-use Rattle.endpoint_commands.specs.Running.{LineMoment, line_answer, answers_behind, closing_text}
-use Rattle.endpoint_commands.specs.States.{EndpointState, LogBehind, LogGoesOn, StopsWith, StopsBehind, LineEnded, Finished, Finishes}
-use Rattle.endpoint_commands.specs.Logs.{EndsBehind, answer_behind, LinesRead, StopsAt, by_sink, by_disk, EndsLines, done, failed, too_long, stopped, stopped_last}
-use Rattle.endpoint_commands.specs.Steps.{LogPorts, AnswersSoFar, EndsOverPorts, IsStop}
-use Rattle.endpoint_commands.proofs.Going.{answers-append}
+use Rattle.endpoint_commands.specs.Counting.{counts_line}
+use Rattle.endpoint_commands.specs.Running.{LineMoment, TakesLine, answers_behind, closing_text}
+use Rattle.endpoint_commands.specs.States.{IsFreshEndpoint, EndpointAtSink, AnswersLine, GoesOnAtPause, TellsCounts}
+use Rattle.endpoint_commands.specs.Logs.{EndsBehind, answer_behind, FirstLinesRead, EndsLines, done, failed, too_long, stopped, stopped_last}
+use Rattle.endpoint_commands.specs.Steps.{EndsOverPorts}
+use Rattle.endpoint_commands.proofs.Going.{Answered, Answered-none, Answered-more, Answered-stops, last_moment, last_lines, last_run, last_unfailed, last_answer, last_counts}
 
--- ---- what is printed behind what was printed well
-
-told_behind : (first before after : SinkState) (some text : List ℕ) (status answer : ℕ) → AppendedWell first before some → EndingTold before after text status answer
+-- what is printed after what was printed well
+told_after : (first before after : SinkState) (some text : List ℕ) (status answer : ℕ) → AppendedWell first before some → EndingTold before after text status answer
     → EndsBehind (record { before = first; after = after; status = answer }) some (row_of status text)
-told_behind first before after some text status answer well (inl (is, told)) = inl (is, AppendedWell-more first before after some text well told)
-told_behind first before after some text status answer well (inr (six, rose, (n, less, part))) =
+told_after first before after some text status answer well (inl (is, told)) = inl (is, AppendedWell-more first before after some text well told)
+told_after first before after some text status answer well (inr (six, rose, (n, less, part))) =
     inr (six, rose_after first.faults before.faults after.faults well.1.later rose, (n, less, Appended-more well.1 part))
 
--- of the answers behind others, and one more
-answers_more : (rules : List FrameRule) (opening : List ℕ) (moments more : List LineMoment)
-    → (opening ++ answers_behind rules 0 moments) ++ answers_behind rules (length moments) more ≡ opening ++ answers_behind rules 0 (moments ++ more)
-answers_more rules opening moments more =
-    let number : length moments ≡ 0 + length moments = omega arith in
-    append_assoc opening (answers_behind rules 0 moments) (answers_behind rules (length moments) more)
-    ∙ ap (λ (k : ℕ). opening ++ (answers_behind rules 0 moments ++ answers_behind rules k more)) number
-    ∙ ap (λ (l : List ℕ). opening ++ l) (sym (answers-append rules 0 moments more))
+module _ (begun : EndpointAtSink) (first : SinkState) (opening : List ℕ) (fresh : IsFreshEndpoint begun.endpoint) (opens : AppendedWell first begun.sink opening) where
+  abbrev rules : List FrameRule
+  rules = begun.endpoint.rules
 
--- why it stopped, behind what was printed well
-stops_at : (rules : List FrameRule) (opening : List ℕ) (moments : List LineMoment) (last : LineMoment) (first before after : SinkState) (some whole : List ℕ) (stop : EndpointStop) (status : ℕ)
-    → IsStop stop status → AppendedWell first before some → some ++ whole ≡ opening ++ answers_behind rules 0 moments
-    → StopsWith stop before after whole (answer_behind rules (length moments) last) last.line
-    → StopsAt rules opening moments last (record { before = first; after = after; status = status })
-stops_at rules opening moments last first before after some whole SinkFailed status is well same (rose, (n, less, front)) =
-    by_sink is (rose_after first.faults before.faults after.faults well.1.later rose) n less
-    (subst (Appended first after)
-    (sym (append_assoc some whole (take n (answer_behind rules (length moments) last))) ∙ ap (λ (l : List ℕ). l ++ take n (answer_behind rules (length moments) last)) same)
-    (Appended-more well.1 front))
-stops_at rules opening moments last first before after some whole DiskFailed status is well same (tells, all) =
-    by_disk is tells
-    (subst (AppendedWell first after)
-    (sym (append_assoc some whole (answer_behind rules (length moments) last)) ∙ ap (λ (l : List ℕ). l ++ answer_behind rules (length moments) last) same)
-    (AppendedWell-more first before after some (whole ++ answer_behind rules (length moments) last) well all))
+  abbrev start : NodeState
+  start = begun.endpoint.node
 
--- ---- before the log
+  abbrev Done : List (List ℕ) → EndpointAtSink → Type 0
+  Done lines p = Answered rules start first opening lines p
 
-pub AnswersSoFar-none : (log : SourceState) (start sink told : SinkState) (opening : List ℕ) (endpoint : EndpointState) → LogBehind endpoint endpoint.node [] [] → AppendedWell start sink opening
-    → AnswersSoFar (record { log = record { before = log; after = log }; output = record { before = start; after = sink }; errors = record { before = told; after = told } }) opening endpoint endpoint.node [] []
-AnswersSoFar-none log start sink told opening endpoint b prints = record {
-  came = Came-nothing log;
-  calm = refl;
-  behind = b;
-  prints = subst (AppendedWell start sink) (sym (append-nil opening)) prints;
-  untold = refl;
-}
+  lines_done : (lines more : List (List ℕ)) (p q : EndpointAtSink) → Done lines p → TakesLines AnswersLine (length lines) p more q → Done (lines ++ more) q
+  lines_done lines more p q d taken = TakesLines-keeps AnswersLine Done (Answered-more rules start first opening) lines more p q d taken
 
--- ---- a turn
+  at_pause : (bytes : List ℕ) (lines : List (List ℕ)) (p : EndpointAtSink) → Paused AnswersLine GoesOnAtPause begun bytes lines p → Done lines p
+  at_pause = Paused-keeps AnswersLine GoesOnAtPause begun (λ bytes lines p. Done lines p) (Answered-none rules start first opening begun refl refl fresh opens)
+      (λ bytes piece lines more rest p q v d short cut taken same. subst (Done (lines ++ more)) (sym same) (lines_done lines more p q d taken))
 
-module _ (first log later : SourceState) (start sink next : SinkState) (errors : Writing) (opening : List ℕ) (old new : EndpointState) (node : NodeState) (bytes : List ℕ) (moments : List LineMoment)
-    (same : new.rules ≡ old.rules) (so_far : AnswersSoFar (record { log = record { before = first; after = log }; output = record { before = start; after = sink }; errors = errors }) opening old node bytes moments) where
-  abbrev reading : Reading
-  reading = record { before = first; after = later }
+  -- what no line feed has ended at a pause
+  unended : (bytes : List ℕ) (lines : List (List ℕ)) (p : EndpointAtSink) → Paused AnswersLine GoesOnAtPause begun bytes lines p → (rest : List ℕ) × (log_lines bytes ≡ lines ++ rest ∷ [])
+  unended = Paused-keeps AnswersLine GoesOnAtPause begun (λ bytes lines p. (rest : List ℕ) × (log_lines bytes ≡ lines ++ rest ∷ [])) ([], refl)
+      (λ bytes piece lines more rest p q v had short cut taken same. (rest, cut))
 
-  abbrev ports : LogPorts
-  ports = record { log = reading; output = record { before = start; after = next }; errors = errors }
-
-  -- an ending with this status, of which nothing was told on standard error
-  abbrev ended : ℕ → WatchEnding
-  ended status = record { output = record { before = start; after = next }; errors = errors; status = status }
-
-  -- a piece came and was taken
-  pub AnswersSoFar-more : (piece : List ℕ) → Came log later piece → later.faults ≡ log.faults → (goes : LogGoesOn old sink piece new next node bytes moments)
-      → AnswersSoFar ports opening new node (bytes ++ piece) (moments ++ goes.more)
-  AnswersSoFar-more piece came calm goes = record {
-    came = Came-more so_far.came came;
-    calm = calm ∙ so_far.calm;
-    behind = goes.behind;
-    prints = subst (AppendedWell start next)
-        (answers_more old.rules opening moments goes.more ∙ ap (λ (rules : List FrameRule). opening ++ answers_behind rules 0 (moments ++ goes.more)) (sym same))
-        (AppendedWell-more start sink next (opening ++ answers_behind old.rules 0 moments) (answers_behind old.rules (length moments) goes.more) so_far.prints goes.prints);
-    untold = so_far.untold;
+  -- the complete lines of what came, of which the last one is known
+  first_read : (log : Reading) (node : NodeState) (bytes : List ℕ) → Came log.before log.after bytes → log.after.faults ≡ log.before.faults → (moments : List LineMoment)
+      (all : List (List ℕ)) (line : List ℕ) (beyond : List (List ℕ)) → 0 < length beyond → commands_in moments ≡ all ++ line ∷ [] → log_lines bytes ≡ all ++ line ∷ beyond
+      → Run (TakesLine rules) start moments node → FirstLinesRead rules start log moments node
+  first_read log node bytes came calm moments all line [] some lines_are cut run = absurd (omega (arith, some))
+  first_read log node bytes came calm moments all line (next ∷ later) some lines_are cut run = record {
+    bytes = bytes;
+    came = came;
+    calm = calm;
+    done = record {
+      rest = next;
+      later = later;
+      cut = cut ∙ sym (append_assoc all (line ∷ []) (next ∷ later)) ∙ ap (λ (ls : List (List ℕ)). ls ++ next ∷ later) (sym lines_are);
+      run = run;
+    };
   }
 
-  -- a piece came, and it stopped at one of its lines
-  stopped_in : (piece : List ℕ) (stop : EndpointStop) (status : ℕ) → IsStop stop status → Came log later piece → later.faults ≡ log.faults → (s : StopsBehind old.rules node (bytes ++ piece) moments new.node sink next stop)
-      → EndsLines old.rules node opening reading (ended status) new.node ((moments ++ s.more) ++ s.last ∷ [])
-  stopped_in piece stop status is came calm s =
-      let before : List LineMoment = moments ++ s.more in
-      let number : length moments + length s.more + 1 ≡ length before + 1 = omega (arith, length-append moments s.more) in
-      stopped before s.last
-      (record {
-        bytes = bytes ++ piece;
-        came = Came-more so_far.came came;
-        calm = calm ∙ so_far.calm;
-        done = s.done;
-      })
-      s.unfailed
-      (stops_at old.rules opening before s.last start sink next (opening ++ answers_behind old.rules 0 moments) (answers_behind old.rules (length moments) s.more) stop status is so_far.prints
-      (answers_more old.rules opening moments s.more)
-      (subst (λ (n : ℕ). StopsWith stop sink next (answers_behind old.rules (length moments) s.more) (line_answer old.rules (in_64_bits n) s.last.command s.last.line) s.last.line) number s.stops))
-      so_far.untold
+  module _ (log : Reading) (now : EndpointAtSink) (errors : SinkState) where
+    -- how a log ended with this status, of which nothing was told on standard error
+    abbrev ended : ℕ → WatchEnding
+    ended status = record { output = record { before = first; after = now.sink }; errors = record { before = errors; after = errors }; status = status }
 
-  pub Ends-stopped : (piece : List ℕ) (stop : EndpointStop) (status : ℕ) → IsStop stop status → Came log later piece → later.faults ≡ log.faults → StopsBehind old.rules node (bytes ++ piece) moments new.node sink next stop
-      → EndsOverPorts ports opening new node status
-  Ends-stopped piece stop status is came calm s = (
-    (moments ++ s.more) ++ s.last ∷ [],
-    subst (λ (rules : List FrameRule). EndsLines rules node opening reading (ended status) new.node ((moments ++ s.more) ++ s.last ∷ [])) (sym same)
-        (stopped_in piece stop status is came calm s),
-  )
+    abbrev Ends : ℕ → Type 0
+    Ends status = (moments : List LineMoment) × EndsLines rules start opening log (ended status) now.endpoint.node moments
 
-  came_no_more : Came log later [] → Came first later bytes
-  came_no_more nothing = subst (Came first later) (append-nil bytes) (Came-more so_far.came nothing)
+    ends_log : (status : ℕ) → EndsStream AnswersLine GoesOnAtPause TellsCounts log begun now status → Ends status
+    ends_log status d = elim d.ended [
+      | inl (taken, next, (rules_are, node_is, told)) ↦
+          let a = at_pause d.bytes d.lines d.before d.paused in
+          let m : LineMoment = last_moment rules start first opening d.lines d.before d.last taken (Ok tt) a next in
+          let moments : List LineMoment = a.moments ++ m ∷ [] in
+          let answer : List ℕ = answer_behind rules (length a.moments) m in
+          let printed : AppendedWell d.before.sink taken.sink answer =
+          subst (AppendedWell d.before.sink taken.sink) (last_answer rules start first opening d.lines d.before d.last taken (Ok tt) a next) next.prints.0 in
+          let closing : counts_line taken.endpoint.counts ≡ closing_text rules moments =
+          ap counts_line (last_counts rules start first opening d.lines d.before d.last taken (Ok tt) a next) in
+          let text_told : EndingTold d.before.sink now.sink (answer ++ closing_text rules moments) 0 status =
+          subst (λ (t : List ℕ). EndingTold d.before.sink now.sink (answer ++ t) 0 status) closing
+          (told_more d.before.sink taken.sink now.sink answer (counts_line taken.endpoint.counts) 0 status printed told) in (
+            moments,
+            done a.moments m
+                (record {
+                  bytes = d.bytes;
+                  reads = d.read;
+                  lines = d.cut ∙ sym (last_lines rules start first opening d.lines d.before d.last taken (Ok tt) a next);
+                  run = subst (λ (n : NodeState). Run (TakesLine rules) start moments n) (sym node_is) (last_run rules start first opening d.lines d.before d.last taken (Ok tt) a next);
+                })
+                (last_unfailed rules start first opening d.lines d.before d.last taken a next)
+                (told_after first d.before.sink now.sink (opening ++ answers_behind rules 0 a.moments) (answer ++ closing_text rules moments) 0 status a.prints text_told)
+                refl,
+          )
+      | inr next ↦
+          let a = at_pause d.bytes d.lines d.before d.paused in
+          let m : LineMoment = last_moment rules start first opening d.lines d.before d.last now (Err status) a next in (
+            a.moments ++ m ∷ [],
+            stopped_last a.moments m
+                (record {
+                  bytes = d.bytes;
+                  reads = d.read;
+                  lines = d.cut ∙ sym (last_lines rules start first opening d.lines d.before d.last now (Err status) a next);
+                  run = last_run rules start first opening d.lines d.before d.last now (Err status) a next;
+                })
+                a.unfailed
+                (Answered-stops rules start first opening d.lines d.before d.last now status a next)
+                refl,
+          )
+    ]
 
-  -- nothing came: this was the end of the log
-  all_read : (room left : List ℕ) → HandsOut log later room left 0 → 0 < length room → ReadsAll first later (length bytes) bytes
-  all_read room left hands some =
-      let whole : (text : List ℕ) → first.told ≡ Some text → (bytes ≡ text) × (later.told ≡ Some []) =
-      λ text is_told.
-      let here = so_far.came.next text is_told in
-      let gone : here.0 ≡ [] = (hands.ended some here.0 here.1).0 refl in
-      let behind = hands.came.next here.0 here.1 in
-      let last : behind.0 ≡ [] = sym behind.2 ∙ gone in
-      (sym (here.2 ∙ ap (λ r. bytes ++ r) gone ∙ append-nil bytes), behind.1 ∙ ap Some last) in
-      record { came = came_no_more hands.came; within = omega arith; no_fault = hands.no_fault ∙ so_far.calm; whole = whole }
+    stops_log : (status : ℕ) → StopsStream AnswersLine GoesOnAtPause log begun now status → Ends status
+    stops_log status d = elim d.stops [
+      | inl (none, stop) ↦ absurd stop
+      | inr (some, stop) ↦
+          let all : List (List ℕ) = d.lines ++ d.more in
+          let a = lines_done d.lines d.more d.before d.taken (at_pause d.bytes d.lines d.before d.paused) d.takes_more in
+          let next : AnswersLine d.taken (in_64_bits (length all + 1)) (kept_of d.rest) now (Err status) =
+          subst (λ (n : ℕ). AnswersLine d.taken (in_64_bits (n + 1)) (kept_of d.rest) now (Err status)) (sym (length-append d.lines d.more)) stop in
+          let m : LineMoment = last_moment rules start first opening all d.taken d.rest now (Err status) a next in (
+            a.moments ++ m ∷ [],
+            stopped a.moments m
+                (first_read log now.endpoint.node (d.bytes ++ d.piece) d.came d.calm (a.moments ++ m ∷ []) all d.rest d.beyond some
+                (last_lines rules start first opening all d.taken d.rest now (Err status) a next) d.cut
+                (last_run rules start first opening all d.taken d.rest now (Err status) a next))
+                a.unfailed
+                (Answered-stops rules start first opening all d.taken d.rest now status a next)
+                refl,
+          )
+    ]
 
-  pub Ends-done : (room left : List ℕ) (status : ℕ) → HandsOut log later room left 0 → 0 < length room → Finished old sink new next status node bytes moments
-      → EndsOverPorts ports opening new node status
-  Ends-done room left status hands some f = (
-    moments ++ f.last ∷ [],
-    subst (λ (rules : List FrameRule). EndsLines rules node opening reading (ended status) new.node (moments ++ f.last ∷ [])) (sym same)
-        (done moments f.last (record { bytes = bytes; reads = all_read room left hands some; lines = f.all; run = f.run }) f.unfailed
-        (told_behind start sink next (opening ++ answers_behind old.rules 0 moments)
-        (answer_behind old.rules (length moments) f.last ++ closing_text old.rules (moments ++ f.last ∷ [])) 0 status so_far.prints f.told) so_far.untold),
-  )
+    -- the rules stay as they are
+    rules_at_end : (status : ℕ) → EndsStream AnswersLine GoesOnAtPause TellsCounts log begun now status → now.endpoint.rules ≡ rules
+    rules_at_end status d =
+        let a = at_pause d.bytes d.lines d.before d.paused in
+        elim d.ended [
+          | inl (taken, next, (rules_are, node_is, told)) ↦ rules_are ∙ next.rules ∙ a.same
+          | inr next ↦ next.rules ∙ a.same
+        ]
 
-  pub Ends-stopped_last : (room left : List ℕ) (stop : EndpointStop) (status : ℕ) → IsStop stop status → HandsOut log later room left 0 → 0 < length room
-      → LineEnded old sink new next (Err stop) node bytes moments
-      → EndsOverPorts ports opening new node status
-  Ends-stopped_last room left stop status is hands some at_end = (
-    moments ++ at_end.last ∷ [],
-    subst (λ (rules : List FrameRule). EndsLines rules node opening reading (ended status) new.node (moments ++ at_end.last ∷ [])) (sym same)
-        (stopped_last moments at_end.last (record { bytes = bytes; reads = all_read room left hands some; lines = at_end.cut; run = at_end.run }) so_far.behind.unfailed
-        (stops_at old.rules opening moments at_end.last start sink next (opening ++ answers_behind old.rules 0 moments) [] stop status is so_far.prints
-        (append-nil (opening ++ answers_behind old.rules 0 moments)) at_end.ends) so_far.untold),
-  )
+    rules_at_stop : (status : ℕ) → StopsStream AnswersLine GoesOnAtPause log begun now status → now.endpoint.rules ≡ rules
+    rules_at_stop status d = elim d.stops [
+      | inl (none, stop) ↦ absurd stop
+      | inr (some, stop) ↦ stop.rules ∙ (lines_done d.lines d.more d.before d.taken (at_pause d.bytes d.lines d.before d.paused) d.takes_more).same
+    ]
 
-  -- the same, with the status of a run that ended so
-  pub Ends-finished : (room left : List ℕ) (result : Result ℕ EndpointStop) (status : ℕ) → HandsOut log later room left 0 → 0 < length room → Finishes old sink new next result
-      → MatchResult result (λ told. status ≡ told) (λ stop. IsStop stop status) → EndsOverPorts ports opening new node status
-  Ends-finished room left (Ok told) status hands some finishes is =
-      Ends-done room left status hands some (subst (λ (n : ℕ). Finished old sink new next n node bytes moments) (sym is) (finishes node bytes moments so_far.behind))
-  Ends-finished room left (Err stop) status hands some finishes is = Ends-stopped_last room left stop status is hands some (finishes node bytes moments so_far.behind)
+    -- a log that was taken to its end, or until the sink or the disk failed
+    pub Ends-taken : (status : ℕ) → Streamed AnswersLine GoesOnAtPause TellsCounts log begun now (Ok status) → Ends status
+    Ends-taken status (inl ends) = ends_log status ends
+    Ends-taken status (inr stops) = stops_log status stops
 
--- ---- the log failed, or gave too much
+    pub Ends-rules : (status : ℕ) → Streamed AnswersLine GoesOnAtPause TellsCounts log begun now (Ok status) → now.endpoint.rules ≡ rules
+    Ends-rules status (inl ends) = rules_at_end status ends
+    Ends-rules status (inr stops) = rules_at_stop status stops
 
-abbrev lines_read : (log : Reading) (opening : List ℕ) (endpoint : EndpointState) (node : NodeState) (bytes : List ℕ) (moments : List LineMoment) → Came log.before log.after bytes → LogBehind endpoint node bytes moments
-    → LinesRead endpoint.rules node log moments endpoint.node
-lines_read log opening endpoint node bytes moments came b = record { bytes = bytes; rest = b.rest; came = came; lines = b.cut; run = b.run }
+    -- the log failed, or gave too much, and standard error tells it
+    abbrev told_ending : SinkState → ℕ → WatchEnding
+    told_ending after status = record { output = record { before = first; after = now.sink }; errors = record { before = errors; after = after }; status = status }
 
-pub Ends-failed : (first log later : SourceState) (start sink told next : SinkState) (opening : List ℕ) (endpoint : EndpointState) (node : NodeState) (bytes : List ℕ) (moments : List LineMoment)
-    (room left : List ℕ) (before : SinkState) (status : ℕ)
-    → AnswersSoFar (record { log = record { before = first; after = log }; output = record { before = start; after = sink }; errors = record { before = before; after = told } }) opening endpoint node bytes moments
-    → ReadFails log later room left → EndingTold told next (codes "read fault\n") 5 status
-    → EndsOverPorts (record { log = record { before = first; after = later }; output = record { before = start; after = sink }; errors = record { before = before; after = next } }) opening endpoint node status
-Ends-failed first log later start sink told next opening endpoint node bytes moments room left before status so_far fails tells = (
-  moments,
-  failed moments
-      (lines_read (record { before = first; after = later }) opening endpoint node bytes moments (subst (Came first later) (append-nil bytes) (Came-more so_far.came fails.nothing)) so_far.behind)
-      so_far.behind.unfailed (rose_after first.faults log.faults later.faults so_far.came.later fails.rose)
-      (so_far.prints, subst (λ (s : SinkState). EndingTold s next (codes "read fault\n") 5 status) so_far.untold tells),
-)
+    pub Ends-failed : (fault : StreamFault) → fault ≡ ReadFault → Streamed AnswersLine GoesOnAtPause TellsCounts log begun now (Err fault)
+        → (after : SinkState) (status : ℕ) → EndingTold errors after (codes "read fault\n") 5 status
+        → (moments : List LineMoment) × EndsLines rules start opening log (told_ending after status) now.endpoint.node moments
+    Ends-failed fault is streamed after status told =
+        let d = subst (λ (f : StreamFault). Streamed AnswersLine GoesOnAtPause TellsCounts log begun now (Err f)) is streamed in
+        let a = at_pause d.bytes d.lines now d.paused in
+        let left = unended d.bytes d.lines now d.paused in (
+          a.moments,
+          failed a.moments (record { bytes = d.bytes; rest = left.0; came = d.came; lines = left.1 ∙ ap (λ (ls : List (List ℕ)). ls ++ left.0 ∷ []) (sym a.lines_are); run = a.run })
+              a.unfailed d.holds (a.prints, told),
+        )
 
-pub Ends-too_long : (first log : SourceState) (start sink told next : SinkState) (opening : List ℕ) (endpoint : EndpointState) (node : NodeState) (bytes : List ℕ) (moments : List LineMoment) (before : SinkState) (status : ℕ)
-    → AnswersSoFar (record { log = record { before = first; after = log }; output = record { before = start; after = sink }; errors = record { before = before; after = told } }) opening endpoint node bytes moments
-    → 18446744073709551615 ≤ length bytes → EndingTold told next (codes "input too long\n") 8 status
-    → EndsOverPorts (record { log = record { before = first; after = log }; output = record { before = start; after = sink }; errors = record { before = before; after = next } }) opening endpoint node status
-Ends-too_long first log start sink told next opening endpoint node bytes moments before status so_far long tells = (
-  moments,
-  too_long moments (lines_read (record { before = first; after = log }) opening endpoint node bytes moments so_far.came so_far.behind) so_far.behind.unfailed so_far.calm (omega (arith, long))
-      (so_far.prints, subst (λ (s : SinkState). EndingTold s next (codes "input too long\n") 8 status) so_far.untold tells),
-)
+    pub Ends-too_long : (fault : StreamFault) → fault ≡ TooLong → Streamed AnswersLine GoesOnAtPause TellsCounts log begun now (Err fault)
+        → (after : SinkState) (status : ℕ) → EndingTold errors after (codes "input too long\n") 8 status
+        → (moments : List LineMoment) × EndsLines rules start opening log (told_ending after status) now.endpoint.node moments
+    Ends-too_long fault is streamed after status told =
+        let d = subst (λ (f : StreamFault). Streamed AnswersLine GoesOnAtPause TellsCounts log begun now (Err f)) is streamed in
+        let a = at_pause d.bytes d.lines now d.paused in
+        let left = unended d.bytes d.lines now d.paused in (
+          a.moments,
+          too_long a.moments (record { bytes = d.bytes; rest = left.0; came = d.came; lines = left.1 ∙ ap (λ (ls : List (List ℕ)). ls ++ left.0 ∷ []) (sym a.lines_are); run = a.run })
+              a.unfailed d.holds.0 d.holds.1 (a.prints, told),
+        )
+
+    pub Fails-rules : (fault : StreamFault) → Streamed AnswersLine GoesOnAtPause TellsCounts log begun now (Err fault) → now.endpoint.rules ≡ rules
+    Fails-rules ReadFault d = (at_pause d.bytes d.lines now d.paused).same
+    Fails-rules TooLong d = (at_pause d.bytes d.lines now d.paused).same
+
+    -- the same, as the caller says it
+    pub Over-taken : (status : ℕ) → Streamed AnswersLine GoesOnAtPause TellsCounts log begun now (Ok status)
+        → EndsOverPorts (record { log = log; output = record { before = first; after = now.sink }; errors = record { before = errors; after = errors } }) opening now.endpoint start status
+    Over-taken status streamed =
+        let e = Ends-taken status streamed in
+        (e.0, subst (λ (rs : List FrameRule). EndsLines rs start opening log (ended status) now.endpoint.node e.0) (sym (Ends-rules status streamed)) e.1)
+
+    pub Over-failed : (fault : StreamFault) → fault ≡ ReadFault → Streamed AnswersLine GoesOnAtPause TellsCounts log begun now (Err fault)
+        → (after : SinkState) (status : ℕ) → EndingTold errors after (codes "read fault\n") 5 status
+        → EndsOverPorts (record { log = log; output = record { before = first; after = now.sink }; errors = record { before = errors; after = after } }) opening now.endpoint start status
+    Over-failed fault is streamed after status told =
+        let e = Ends-failed fault is streamed after status told in
+        (e.0, subst (λ (rs : List FrameRule). EndsLines rs start opening log (told_ending after status) now.endpoint.node e.0) (sym (Fails-rules fault streamed)) e.1)
+
+    pub Over-too_long : (fault : StreamFault) → fault ≡ TooLong → Streamed AnswersLine GoesOnAtPause TellsCounts log begun now (Err fault)
+        → (after : SinkState) (status : ℕ) → EndingTold errors after (codes "input too long\n") 8 status
+        → EndsOverPorts (record { log = log; output = record { before = first; after = now.sink }; errors = record { before = errors; after = after } }) opening now.endpoint start status
+    Over-too_long fault is streamed after status told =
+        let e = Ends-too_long fault is streamed after status told in
+        (e.0, subst (λ (rs : List FrameRule). EndsLines rs start opening log (told_ending after status) now.endpoint.node e.0) (sym (Fails-rules fault streamed)) e.1)
+
+-- ---- what stands behind the borrows now
+
+abbrev pub EndsWith : Reading → SinkState → Writing → List ℕ → NodeState → ℕ → List FrameRule → NodeState → SinkState → Type 0
+EndsWith log first errors opening start status rules node sink =
+    (moments : List LineMoment) × EndsLines rules start opening log (record { output = record { before = first; after = sink }; errors = errors; status = status }) node moments
+
+pub ends_now : (log : Reading) (first : SinkState) (errors : Writing) (opening : List ℕ) (start : NodeState) (status : ℕ) (rules rules_now : List FrameRule) (node node_now : NodeState)
+    (sink sink_now : SinkState) → rules ≡ rules_now → node ≡ node_now → sink ≡ sink_now → EndsWith log first errors opening start status rules node sink
+    → EndsWith log first errors opening start status rules_now node_now sink_now
+ends_now log first errors opening start status rules rules_now node node_now sink sink_now rules_are node_is sink_is ends =
+    subst (λ (rs : List FrameRule). EndsWith log first errors opening start status rs node_now sink_now) rules_are
+    (subst (λ (n : NodeState). EndsWith log first errors opening start status rules n sink_now) node_is
+    (subst (λ (k : SinkState). EndsWith log first errors opening start status rules node k) sink_is ends))

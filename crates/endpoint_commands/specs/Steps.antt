@@ -1,26 +1,22 @@
 -- What the steps of a run of `endpoint` say to one another
-use Rattle.std.specs.Prelude.{◌≡◌, ℕ, ◌<◌, Bool, true, false, Option, None, Some, Result, Ok, Err, List, ◌++◌, length, codes, Vec}
+use Rattle.std.specs.Prelude.{◌≡◌, ℕ, Bool, true, false, Option, None, Some, Result, Ok, Err, List, length, codes, Vec}
 use Rattle.std.specs.declared.alloc.Global.{Global}
-use Rattle.bus_port.specs.Source.{Came}
 use Rattle.text_lines.specs.LineRows.{NoLines}
 use Rattle.text_lines.specs.Texts.{line}
 use Rattle.program_edge.specs.declared.input.InputFault.{InputFault}
 use Rattle.program_edge.specs.Rows.{Row, row_of, input_row}
 use Rattle.program_edge.specs.Inputs.{Reading, IsUnread, ReadsWhole, Lacks}
-use Rattle.program_edge.specs.Told.{AppendedWell}
 use Rattle.freshness_routes.specs.declared.routes.Route.{Route}
 use Rattle.secoc_node.specs.Words.{IsImage}
 use Rattle.bus_config.specs.Buses.{IsNamedBus}
 use Rattle.secoc_node.specs.State.{NodeState}
 use Rattle.bus_programs.specs.Scripts.{LacksLines, ReadsLinesAs}
-use Rattle.can_logs.specs.LogRuns.{Writing, IsUnwritten}
+use Rattle.can_logs.specs.LogRuns.{Writing}
 use Rattle.endpoint_commands.specs.declared.rules.FrameRule.{FrameRule}
-use Rattle.endpoint_commands.specs.declared.endpoint.EndpointStop.{EndpointStop}
-use Rattle.endpoint_commands.specs.declared.endpoint.EndpointStop.TheVariants as stop
 use Rattle.endpoint_commands.specs.declared.run.EndpointJob.{EndpointJob}
 use Rattle.endpoint_commands.specs.Rules.{rules_of}
-use Rattle.endpoint_commands.specs.Running.{LineMoment, answers_behind}
-use Rattle.endpoint_commands.specs.States.{EndpointState, LogBehind, HasRoomFor}
+use Rattle.endpoint_commands.specs.Running.{LineMoment}
+use Rattle.endpoint_commands.specs.States.{EndpointState, HasRoomFor}
 use Rattle.endpoint_commands.specs.Logs.{EndsLines}
 use Rattle.endpoint_commands.specs.Rows.{EndpointInputs, SetsEndpoint, ComesBeforeLog}
 
@@ -70,31 +66,8 @@ pub record LogPorts : Type 0 where
   pub output : Writing
   pub errors : Writing
 
--- these bytes came of the log without a fault, and the answers to their complete lines were printed behind an opening
-pub record AnswersSoFar (ports : LogPorts) (opening : List ℕ) (endpoint : EndpointState) (start : NodeState)
-    (bytes : List ℕ) (moments : List LineMoment) : Type 0 where
-  pub came : Came ports.log.before ports.log.after bytes
-  pub calm : ports.log.after.faults ≡ ports.log.before.faults
-  pub behind : LogBehind endpoint start bytes moments
-  pub prints : AppendedWell ports.output.before ports.output.after (opening ++ answers_behind endpoint.rules 0 moments)
-  pub untold : IsUnwritten ports.errors
-
 -- a log ended so, and these lines were taken
 abbrev pub EndsOverPorts : LogPorts → List ℕ → EndpointState → NodeState → ℕ → Type 0
 EndsOverPorts ports opening endpoint start status =
     (done : List LineMoment) × EndsLines endpoint.rules start opening ports.log
     (record { output = ports.output; errors = ports.errors; status = status }) endpoint.node done
-
--- what a turn of the loop leaves: one more byte at least came and was taken; or the log ended with a status
-abbrev pub AnswersTurn : LogPorts → List ℕ → EndpointState → NodeState → List ℕ → List LineMoment → Option ℕ → Type 0
-AnswersTurn ports opening endpoint start bytes moments None =
-    (piece : List ℕ) × (more : List LineMoment) × (0 < length piece)
-    × AnswersSoFar ports opening endpoint start (bytes ++ piece) (moments ++ more)
-AnswersTurn ports opening endpoint start bytes moments (Some status) = EndsOverPorts ports opening endpoint start status
-
--- ---- a stop
-
--- the status of a run whose sink failed, or whose disk
-abbrev pub IsStop : EndpointStop → ℕ → Type 0
-IsStop stop.SinkFailed status = status ≡ 6
-IsStop stop.DiskFailed status = status ≡ 11

@@ -1,11 +1,11 @@
-//! A node between the channels of a bus, and the state between two pieces of a log.
-ghost use Rattle.std.specs.Prelude.{◌≡◌, ◌+◌, ◌<◌, ◌≤◌, ◌++◌, [], length, take, IfOk, All};
-ghost use Rattle.std.specs.Prelude.{vec_len, vec_capacity};
+//! A node between the channels of a bus.
+ghost use Rattle.std.specs.Prelude.{◌≡◌, ◌+◌, ◌≤◌, ◌++◌, [], length, IfOk, All};
+ghost use Rattle.std.specs.Prelude.{vec_capacity};
 ghost use Rattle.std.specs.List.{position_or_len};
 ghost use Rattle.text_lines.specs.Lines.{is_line_feed};
 ghost use Rattle.secoc_node.specs.Words.{IsImage};
-ghost use Rattle.endpoint_commands.specs.States.{LogBehind, EndsLine, TakesFront, TakesPiece, Finishes};
-ghost use Rattle.endpoint_commands.specs.States.{AnswersKept, BootsFirst, HasRoomFor, stop_told};
+ghost use Rattle.endpoint_commands.specs.Counting.{counts_line};
+ghost use Rattle.endpoint_commands.specs.States.{IsFreshEndpoint, AnswersNext, BootsFirst, HasRoomFor};
 
 use crate::answering::add_comment;
 use crate::counting::{EndpointCounts, LineKind};
@@ -14,8 +14,6 @@ use crate::turns::image_turn;
 use crate::words_answered::answer_words;
 use bus_port::{PortFailed, Sink, write_all};
 use cell_store::Cells;
-use line_stream::{add_bytes, until_feed};
-use program_edge::{DONE, tell};
 use secoc_node::Node;
 use std::alloc::{AllocError, Global};
 use std::marker::Model;
@@ -28,19 +26,9 @@ const LINE_LIMIT: usize = 4096;
 /// The most bytes that are printed for a line, without the name of its channel.
 const ANSWER_ROOM: usize = LINE_LIMIT + 302;
 
-/// Why no further line is answered.
-#[derive(Clone, Copy, Debug, PartialEq, Eq)]
-pub enum EndpointStop {
-    /// The sink failed: the answer to the last line isn't written whole.
-    SinkFailed,
-    /// The disk failed at the last line, and its answer tells so.
-    DiskFailed,
-}
-
-/// Room for the bytes of a line, for its answer, and for the places of its words.
+/// Room for the answer to a line, and for the places of its words.
 #[derive(Drop)]
 pub struct Room {
-    line: Vec<u8>,
     text: Vec<u8>,
     spans: Vec<Span>,
 }
@@ -50,10 +38,9 @@ impl Room {
     pub fn of(alloc: Global, rules: &[FrameRule]) -> Result<Room, AllocError>
         ensures { IfOk result (HasRoomFor rules.now) }
     {
-        let line = Vec::with_capacity(alloc, LINE_LIMIT + 1)?;
         let spans = Vec::with_capacity(alloc, LINE_LIMIT + 1)?;
         let text = answer_room(alloc, rules)?;
-        Ok(Room { line, text, spans })
+        Ok(Room { text, spans })
     }
 }
 
@@ -69,23 +56,18 @@ fn answer_room(alloc: Global, rules: &[FrameRule]) -> Result<Vec<u8>, AllocError
     Ok(text)
 }
 
-/// A node, the rules of a map, and what is known of a log after the pieces that were taken: the line that no line feed
-/// has ended yet, the number of lines before it, and the counts. All room is taken when it is made.
+/// A node, the rules of a map, and the counts of the lines of a log that were taken. All room is taken when it is made.
 #[derive(Drop)]
 pub struct Endpoint<C: Cells> {
     node: Node<C>,
     rules: Vec<FrameRule>,
-    line: Vec<u8>,
-    lines: u64,
     counts: EndpointCounts,
     text: Vec<u8>,
     spans: Vec<Span>,
 }
 
 impl<C: Cells> Model for Endpoint<C> {
-    ghost use Rattle.std.specs.Prelude.{◌≡◌, ◌+◌, ◌≤◌, length, vec_len, vec_capacity, All};
-    ghost use Rattle.std.specs.List.{position_or_len};
-    ghost use Rattle.text_lines.specs.Lines.{is_line_feed};
+    ghost use Rattle.std.specs.Prelude.{◌+◌, ◌≤◌, length, vec_capacity, All};
     ghost use Rattle.endpoint_commands.specs.States.{EndpointState};
 
     ghost Value = { EndpointState };
@@ -93,14 +75,11 @@ impl<C: Cells> Model for Endpoint<C> {
     ghost view = { λ e. record {
       rules = e.rules.items;
       node = e.node;
-      line = e.line.items;
-      lines = e.lines;
       counts = e.counts;
       text = e.text.items;
     } };
 
-    ghost invariant = { λ e. (vec_len e.line ≤ 4097) × (position_or_len is_line_feed e.line.items ≡ length e.line.items)
-        × (4097 ≤ vec_capacity e.line) × (4097 ≤ vec_capacity e.spans) × (4398 ≤ vec_capacity e.text)
+    ghost invariant = { λ e. (4097 ≤ vec_capacity e.spans) × (4398 ≤ vec_capacity e.text)
         × All (λ r. length r.to + 4398 ≤ vec_capacity e.text) e.rules.items };
 }
 
@@ -110,14 +89,12 @@ impl<C: Cells> Endpoint<C> {
         requires { HasRoomFor rules.items room }
         ensures rules { result.rules ≡ rules.items }
         ensures node { result.node ≡ node }
-        ensures before { LogBehind result node [] [] }
+        ensures before { IsFreshEndpoint result }
     {
-        let Room { line, text, spans } = room;
+        let Room { text, spans } = room;
         Endpoint {
             node,
             rules,
-            line,
-            lines: 0,
             counts: EndpointCounts::none(),
             text,
             spans,
@@ -143,114 +120,53 @@ impl<C: Cells> Endpoint<C> {
         write_all(sink, self.text.as_slice())
     }
 
-    /// Takes the next piece of the log, and answers each line that is complete with it before the next line is looked
-    /// at. It takes no memory.
-    pub fn take<K: Sink>(&mut self, piece: &[u8], sink: &mut K) -> Result<(), EndpointStop>
-        ensures rules { self.new.rules ≡ self.old.rules }
-        // Whatever pieces came before: the lines are those of all their bytes, wherever they were cut.
-        ensures goes_on { TakesPiece self.old (K.state sink.old) piece.now self.new (K.state sink.new) result }
+    /// Does what the line with this number asks for, of which 4,097 bytes at most are kept. Its answer is then the text.
+    /// Whether the disk failed. It takes no memory.
+    pub fn answer(&mut self, number: u64, line: &[u8]) -> bool
+        requires { position_or_len is_line_feed line.now ≡ length line.now }
+        ensures { AnswersNext (record self.old { text = [] }) number line.now self.new result }
     {
-        let mut at = 0;
-        while at < piece.len() {
-            match self.take_front(&piece[at..], sink) {
-                Ok(count) => at += count,
-                Err(stop) => return Err(stop),
-            }
-        }
-        Ok(())
-    }
-
-    /// Takes the front of these bytes up to the first line feed, or all if there is none, and gives its length.
-    fn take_front<K: Sink>(&mut self, bytes: &[u8], sink: &mut K) -> Result<usize, EndpointStop>
-        requires some { 0 < length bytes.now }
-        ensures some { IfOk result (λ count. 0 < count) }
-        ensures within { IfOk result (λ count. count ≤ length bytes.now) }
-        ensures rules { self.new.rules ≡ self.old.rules }
-        ensures goes_on { TakesFront self.old (K.state sink.old) bytes.now self.new (K.state sink.new) result }
-    {
-        let end = until_feed(bytes);
-        self.keep(&bytes[..end]);
-        if end == bytes.len() {
-            return Ok(end);
-        }
-        match self.end_line(sink) {
-            Ok(()) => Ok(end + 1),
-            Err(stop) => Err(stop),
-        }
-    }
-
-    /// Adds bytes without a line feed to the line. Of a line that is too long no more is kept than shows it.
-    fn keep(&mut self, bytes: &[u8])
-        requires { position_or_len is_line_feed bytes.now ≡ length bytes.now }
-        ensures { self.new ≡ record self.old { line = take 4097 (self.old.line ++ bytes.now) } }
-    {
-        let room = LINE_LIMIT + 1 - self.line.len();
-        let kept = &bytes[..room.min(bytes.len())];
-        add_bytes(&mut self.line, kept);
-    }
-
-    /// A line feed came: answers the line.
-    fn end_line<K: Sink>(&mut self, sink: &mut K) -> Result<(), EndpointStop>
-        ensures rules { self.new.rules ≡ self.old.rules }
-        ensures ends { EndsLine self.old (K.state sink.old) self.new (K.state sink.new) result }
-    {
-        self.lines = self.lines.saturating_add(1);
         self.text.clear();
-        let failed = self.answer_line();
-        self.line.clear();
-        let printed = write_all(sink, self.text.as_slice());
-        stop_after(printed, failed)
+        self.answer_line(number, line)
+    }
+
+    /// What is printed next.
+    pub fn text(&self) -> &[u8]
+        ensures { result.now ≡ self.now.text }
+    {
+        self.text.as_slice()
+    }
+
+    /// The line with the counts is then the text.
+    pub fn push_counts(&mut self)
+        ensures { self.new ≡ record self.old { text = counts_line self.old.counts } }
+    {
+        self.text.clear();
+        self.counts.push_line(&mut self.text).unwrap();
     }
 
     /// Does what the line asks for and adds its answer. Whether the disk failed.
-    fn answer_line(&mut self) -> bool
-        requires { self.old.text ≡ [] }
-        ensures { AnswersKept self.old self.new result }
+    fn answer_line(&mut self, number: u64, line: &[u8]) -> bool
+        requires one { position_or_len is_line_feed line.now ≡ length line.now }
+        requires empty { self.old.text ≡ [] }
+        ensures { AnswersNext self.old number line.now self.new result }
     {
-        if self.line.len() > LINE_LIMIT {
+        if line.len() > LINE_LIMIT {
             self.counts.count(LineKind::Other);
             return false;
         }
-        put_words(&mut self.spans, self.line.as_slice()).unwrap();
-        let words = Words::of(self.line.as_slice(), self.spans.as_slice());
+        put_words(&mut self.spans, line).unwrap();
+        let words = Words::of(line, self.spans.as_slice());
         if words.is_skipped() {
             return false;
         }
         answer_words(
             &mut self.node,
             self.rules.as_slice(),
-            self.lines,
+            number,
             &words,
             &mut self.counts,
             &mut self.text,
         )
     }
-
-    /// The end of the log: what stands after the last line feed is a line, too. Prints its answer and the counts, and
-    /// gives the status that the program ends with. It takes no memory.
-    pub fn finish<K: Sink>(&mut self, sink: &mut K) -> Result<u8, EndpointStop>
-        ensures rules { self.new.rules ≡ self.old.rules }
-        ensures ends { Finishes self.old (K.state sink.old) self.new (K.state sink.new) result }
-    {
-        match self.end_line(sink) {
-            Ok(()) => (),
-            Err(stop) => return Err(stop),
-        }
-        self.text.clear();
-        self.counts.push_line(&mut self.text).unwrap();
-        Ok(tell(sink, self.text.as_slice(), DONE))
-    }
-}
-
-/// Whether the next line is answered, by what became of the answer before, and whether the disk failed.
-fn stop_after(printed: Result<(), PortFailed>, failed: bool) -> Result<(), EndpointStop>
-    ensures { result ≡ stop_told printed failed }
-{
-    if printed.is_err() {
-        return Err(EndpointStop::SinkFailed);
-    }
-    if failed {
-        return Err(EndpointStop::DiskFailed);
-    }
-    Ok(())
 }

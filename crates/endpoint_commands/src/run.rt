@@ -1,22 +1,20 @@
 //! The program's one command.
-ghost use Rattle.std.specs.Prelude.{◌≡◌, [], map as each, string_bytes, List, ℕ, Some, MatchResult};
+ghost use Rattle.std.specs.Prelude.{◌≡◌, map as each, string_bytes, List, ℕ, Some};
 ghost use Rattle.bus_port.specs.Source.{SourceState};
 ghost use Rattle.bus_port.specs.Sink.{SinkState};
 ghost use Rattle.program_edge.specs.Told.{AppendedWell};
 ghost use Rattle.secoc_node.specs.Words.{IsImage};
-ghost use Rattle.secoc_node.specs.State.{NodeState};
 ghost use Rattle.endpoint_commands.specs.Promises.{DoesEndpoint, AnswersAll};
 ghost use Rattle.endpoint_commands.specs.Table.{RunsEndpoint};
 ghost use Rattle.endpoint_commands.specs.Rows.{AsksForm, does_boot};
-ghost use Rattle.endpoint_commands.specs.Running.{LineMoment};
-ghost use Rattle.endpoint_commands.specs.States.{LogBehind};
-ghost use Rattle.endpoint_commands.specs.Steps.{PreparesEndpoint, IsWholeEndpoint, AnswersSoFar, AnswersTurn};
-ghost use Rattle.endpoint_commands.specs.Steps.{EndsOverPorts, IsStop};
+ghost use Rattle.endpoint_commands.specs.States.{IsFreshEndpoint};
+ghost use Rattle.endpoint_commands.specs.Steps.{PreparesEndpoint, IsWholeEndpoint, EndsOverPorts};
 
 use crate::boot::image_from;
-use crate::endpoint::{Endpoint, EndpointStop, Room};
+use crate::endpoint::{Endpoint, Room};
 use crate::inputs::rules_from;
 use crate::laws::endpoints_are_runs;
+use crate::port::EndpointPort;
 use crate::rules::FrameRule;
 use basics::Bytes;
 use bus_config::BusConfig;
@@ -25,14 +23,11 @@ use bus_programs::{bus_from, check_bus, node_routes};
 use bus_world::{Start, close_nodes, open_nodes, start_refusal};
 use cell_store::CutCells;
 use cut_disk::CutDisk;
-use line_stream::PIECE;
+use line_stream::{StreamFault, stream_lines};
 use program_edge::{InputFault, Refusal, WRITE_FAULT, tell_refusal};
 use std::alloc::{AllocError, Global};
 
 const USAGE: &str = "usage: endpoint B MAP LOG DISK [IMAGE]\n";
-
-/// The status if the disk failed at a line of the log.
-pub const DISK_FAULT: u8 = 11;
 
 /// What an endpoint is to do, once all but the log is read.
 #[derive(Drop)]
@@ -222,7 +217,7 @@ fn answer_all<C: CutCells, T: Source, K: Sink, E: Sink>(
     errors: &mut E,
 ) -> u8
     requires image { (bytes : List ℕ) → image ≡ Some bytes → IsImage bytes }
-    requires before { LogBehind endpoint.old endpoint.old.node [] [] }
+    requires before { IsFreshEndpoint endpoint.old }
     ensures { AnswersAll image endpoint.old.rules endpoint.old.node
         (record { before = T.state log.old; after = T.state log.new })
         (record {
@@ -246,7 +241,7 @@ fn boot_and_answer<C: CutCells, T: Source, K: Sink, E: Sink>(
     errors: &mut E,
 ) -> u8
     requires image { IsImage image.now }
-    requires before { LogBehind endpoint.old endpoint.old.node [] [] }
+    requires before { IsFreshEndpoint endpoint.old }
     ensures { AnswersAll (Some image.now) endpoint.old.rules endpoint.old.node
         (record { before = T.state log.old; after = T.state log.new })
         (record {
@@ -268,7 +263,7 @@ fn answer_log<C: CutCells, T: Source, K: Sink, E: Sink>(
     sink: &mut K,
     errors: &mut E,
 ) -> u8
-    requires { LogBehind endpoint.old endpoint.old.node [] [] }
+    requires { IsFreshEndpoint endpoint.old }
     ensures rules { endpoint.new.rules ≡ endpoint.old.rules }
     ensures ends { (opening : List ℕ) (start : SinkState) → AppendedWell start (K.state sink.old) opening
         → EndsOverPorts (record {
@@ -277,70 +272,12 @@ fn answer_log<C: CutCells, T: Source, K: Sink, E: Sink>(
           errors = record { before = E.state errors.old; after = E.state errors.new };
         }) opening endpoint.new endpoint.old.node result }
 {
-    let mut piece = [0u8; PIECE];
-    for _ in 0..u64::MAX {
-        match next_piece(endpoint, log, &mut piece, sink, errors) {
-            Some(status) => return status,
-            None => (),
-        }
-    }
-    tell_refusal(errors, &Refusal::from(InputFault::TooLong))
-}
-
-/// The status of a run that stopped.
-fn stop_status(stop: EndpointStop) -> u8
-    ensures { IsStop stop result }
-{
-    match stop {
-        EndpointStop::SinkFailed => WRITE_FAULT,
-        EndpointStop::DiskFailed => DISK_FAULT,
-    }
-}
-
-/// The status of a run whose log ended.
-fn status_of(ended: Result<u8, EndpointStop>) -> u8
-    ensures { MatchResult ended (λ status. result ≡ status) (λ stop. IsStop stop result) }
-{
-    match ended {
+    let mut port = EndpointPort { endpoint, sink };
+    match stream_lines(log, &mut port) {
         Ok(status) => status,
-        Err(stop) => stop_status(stop),
-    }
-}
-
-/// Takes the next piece of the log. It gives a status if the log ended, or a port or the disk failed.
-fn next_piece<C: CutCells, T: Source, K: Sink, E: Sink>(
-    endpoint: &mut Endpoint<C>,
-    log: &mut T,
-    piece: &mut [u8; PIECE],
-    sink: &mut K,
-    errors: &mut E,
-) -> Option<u8>
-    ensures rules { endpoint.new.rules ≡ endpoint.old.rules }
-    ensures turns { (first : SourceState) (start told : SinkState) (opening : List ℕ) (node : NodeState)
-        (bytes : List ℕ) (moments : List LineMoment)
-        → AnswersSoFar (record {
-          log = record { before = first; after = T.state log.old };
-          output = record { before = start; after = K.state sink.old };
-          errors = record { before = told; after = E.state errors.old };
-        }) opening endpoint.old node bytes moments
-        → AnswersTurn (record {
-          log = record { before = first; after = T.state log.new };
-          output = record { before = start; after = K.state sink.new };
-          errors = record { before = told; after = E.state errors.new };
-        }) opening endpoint.new node bytes moments result }
-{
-    let count = match log.read(piece) {
-        Ok(count) => count,
-        Err(PortFailed) => {
-            return Some(tell_refusal(errors, &Refusal::from(InputFault::ReadFault)));
+        Err(StreamFault::ReadFault) => {
+            tell_refusal(errors, &Refusal::from(InputFault::ReadFault))
         }
-    };
-    if count == 0 {
-        let ended = endpoint.finish(sink);
-        return Some(status_of(ended));
-    }
-    match endpoint.take(&piece[..count], sink) {
-        Ok(()) => None,
-        Err(stop) => Some(stop_status(stop)),
+        Err(StreamFault::TooLong) => tell_refusal(errors, &Refusal::from(InputFault::TooLong)),
     }
 }

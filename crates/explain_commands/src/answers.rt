@@ -6,7 +6,7 @@ ghost use Rattle.explain_commands.specs.Explaining.{answer_by, answer_words};
 use crate::kinds::{Case, Explained};
 use crate::reasons::explain;
 use crate::recent::{Accepted, Recent};
-use can_logs::{WatchMap, log_frame, place_for};
+use can_logs::{WatchMap, log_frame};
 use text_lines::words::Words;
 
 /// What is said of a line of a log.
@@ -36,7 +36,7 @@ pub fn answer_words(
     let Some(frame) = log_frame(words) else {
         return LineAnswer::Silent;
     };
-    let Some(place) = place_for(map.lines(), frame.can.digits(), words.word(2)) else {
+    let Some(place) = map.table().place_for(frame.can.digits(), words.word(2)) else {
         return LineAnswer::Silent;
     };
     let case = Case::of(map, counters, recent, place, frame.bytes.bytes());

@@ -68,8 +68,8 @@ pub fn may_go_on(banks: u8, log: &FoundLog, latest: &[u64; 16]) -> bool
 }
 
 /// Reads all banks, and makes a copy of the log that counts in the next one. If all behind that log is blank for sure,
-/// and the next bank's head is blank or older, it goes on in the log that it found, and erases nothing: `goes_on` says so
-/// of a flash that tells which places are blank. `cells` is then the store's list; `scratch` has anything.
+/// and the next bank's head is blank or older, it goes on in the log that it found, and erases nothing: `goes_on` says
+/// so of a flash that tells which places are blank. `cells` is then the store's list; `scratch` has anything.
 pub fn attach<D: FlashDevice>(
     device: &mut D,
     cells: &mut [[u8; 32]],

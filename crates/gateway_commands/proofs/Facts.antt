@@ -1,7 +1,6 @@
 -- What each row of a gateway's table says of the arguments and of the sources
 use Rattle.std.specs.Prelude.{◌≡◌, ◌⊎◌, ℕ, Some, List, [], ◌∷◌, map, Result, Ok, Err}
-use Rattle.std.proofs.Common.{refl, sym, ap, ◌∙◌, subst, inl, inr}
-use Rattle.program_edge.specs.Input.{input_fault_text}
+use Rattle.std.proofs.Common.{arith, refl, ap, ◌∙◌, subst, inl, inr}
 use Rattle.text_lines.specs.Readings.{Fault}
 use Rattle.program_edge.specs.Rows.{Row}
 use Rattle.program_edge.specs.Inputs.{Reading, Offers}
@@ -33,9 +32,7 @@ some_same (x ∷ xs) (y ∷ ys) same =
 
 -- words give one list of pairs
 pub asks_once : (words : List (List ℕ)) (p q : List (ℕ × ℕ)) → AsksGateway words p → AsksGateway words q → p ≡ q
-asks_once [] p q one other = absurd one
-asks_once (bus ∷ []) p q one other = absurd one
-asks_once (bus ∷ script ∷ given) p q one other = some_same p q (sym one.0 ∙ other.0)
+asks_once words p q one other = grind (arith, some_same)
 
 -- ---- the sources
 
@@ -50,11 +47,7 @@ pub calm_gateway : (i : BusInputs) (bus : NamedBus) (pairs : List (ℕ × ℕ)) 
 calm_gateway i bus pairs events set = (set_calm i bus pairs set.set, calm_whole i.script set.text set.whole)
 
 inputs_tell : (i : BusInputs) (row : Row) → RowOfInputs i row → RowTells row i.config i.script
-inputs_tell i row (no_form none config script) = inr (inr (calm_unread i.config config, calm_unread i.script script))
-inputs_tell i row (no_config fault (pairs, asks, lacks, unread)) = told_first fault (input_fault_text fault) i.config i.script lacks (calm_unread i.script unread)
-inputs_tell i row (config_refused pairs text asks refuses unread) = inr (inr (refused_calm i.config pairs text refuses, calm_unread i.script unread))
-inputs_tell i row (no_script fault (bus, pairs, set, lacks)) = told_second fault (input_fault_text fault) i.config i.script (set_calm i bus pairs set) lacks
-inputs_tell i row (script_refused fault f) = inr (inr (set_calm i f.bus f.pairs f.set, calm_whole i.script f.text f.whole))
+inputs_tell i row comes = grind (arith, calm_unread, told_first, refused_calm, told_second, set_calm, calm_whole)
 
 pub row_tells : (same : Type 0) (i : BusInputs) (d : DiskStates) (row : Row) → RowOfGateway same i d row → RowTells row i.config i.script
 row_tells same i d row (without_disks _ comes as_before) = inputs_tell i row comes
@@ -63,31 +56,20 @@ row_tells same i d row (not_started _ (bus, pairs, events, set, start) nine) = i
 -- ---- words of another form
 
 inputs_ask : (i : BusInputs) (row : Row) → RowOfInputs i row → AsksNoGateway i.words → row.status ≡ 2
-inputs_ask i row (no_form none config script) nothing = refl
-inputs_ask i row (no_config fault (pairs, asks, lacks, unread)) nothing = absurd (nothing pairs asks)
-inputs_ask i row (config_refused pairs text asks refuses unread) nothing = absurd (nothing pairs asks)
-inputs_ask i row (no_script fault (bus, pairs, set, lacks)) nothing = absurd (nothing pairs set.asks)
-inputs_ask i row (script_refused fault f) nothing = absurd (nothing f.pairs f.set.asks)
+inputs_ask i row comes nothing = grind arith
 
 pub row_asks : (same : Type 0) (i : BusInputs) (d : DiskStates) (row : Row) → RowOfGateway same i d row → AsksNoGateway i.words → row.status ≡ 2
-row_asks same i d row (without_disks _ comes as_before) nothing = inputs_ask i row comes nothing
-row_asks same i d row (not_started _ (bus, pairs, events, set, start) nine) nothing = absurd (nothing pairs set.set.asks)
+row_asks same i d row comes nothing = grind (arith, inputs_ask)
 
 -- ---- a bus file that is offered, and has a fault
 
 inputs_refuse : (i : BusInputs) (row : Row) (file : List ℕ) (fault : ConfigFault) (pairs : List (ℕ × ℕ)) → RowOfInputs i row → AsksGateway i.words pairs
     → Offers i.config file → bus_of file ≡ Err fault → (row.status ≡ 3) ⊎ (row.status ≡ 7)
-inputs_refuse i row file fault pairs (no_form none config script) asks offers err = absurd (none pairs asks)
-inputs_refuse i row file fault pairs (no_config other (p, also, lacks, unread)) asks offers err = inr (memory_status i.config file other offers lacks)
-inputs_refuse i row file fault pairs (config_refused p text also refuses unread) asks offers err = inl refl
-inputs_refuse i row file fault pairs (no_script other (bus, p, set, lacks)) asks offers err = absurd (bus_or_fault i.config bus file fault set.of_bus offers err)
-inputs_refuse i row file fault pairs (script_refused other f) asks offers err = absurd (bus_or_fault i.config f.bus file fault f.set.of_bus offers err)
+inputs_refuse i row file fault pairs comes asks offers err = grind (arith, memory_status, bus_or_fault)
 
 pub row_refuses : (same : Type 0) (i : BusInputs) (d : DiskStates) (row : Row) (file : List ℕ) (fault : ConfigFault) (pairs : List (ℕ × ℕ)) → RowOfGateway same i d row
     → AsksGateway i.words pairs → Offers i.config file → bus_of file ≡ Err fault → (row.status ≡ 3) ⊎ (row.status ≡ 7)
-row_refuses same i d row file fault pairs (without_disks _ comes as_before) asks offers err = inputs_refuse i row file fault pairs comes asks offers err
-row_refuses same i d row file fault pairs (not_started _ (bus, p, events, set, start) nine) asks offers err =
-    absurd (bus_or_fault i.config bus file fault set.set.of_bus offers err)
+row_refuses same i d row file fault pairs comes asks offers err = grind (arith, inputs_refuse, bus_or_fault)
 
 -- ---- a bus that is offered, and doesn't take the pairs
 
@@ -104,17 +86,11 @@ set_not_refused i bus over pairs p text set asks offers refuses =
 
 inputs_refuse_pairs : (i : BusInputs) (row : Row) (bus : NamedBus) (pairs : List (ℕ × ℕ)) (text : List ℕ) → RowOfInputs i row → AsksGateway i.words pairs
     → OffersBus i.config bus → RefusesPairs bus pairs text → (row.status ≡ 3) ⊎ (row.status ≡ 7)
-inputs_refuse_pairs i row bus pairs text (no_form none config script) asks offers refuses = absurd (none pairs asks)
-inputs_refuse_pairs i row bus pairs text (no_config other (p, also, lacks, unread)) asks offers refuses = inr (memory_status i.config offers.0 other offers.1 lacks)
-inputs_refuse_pairs i row bus pairs text (config_refused p told also why unread) asks offers refuses = inl refl
-inputs_refuse_pairs i row bus pairs text (no_script other (over, p, set, lacks)) asks offers refuses = absurd (set_not_refused i bus over pairs p text set asks offers refuses)
-inputs_refuse_pairs i row bus pairs text (script_refused other f) asks offers refuses = absurd (set_not_refused i bus f.bus pairs f.pairs text f.set asks offers refuses)
+inputs_refuse_pairs i row bus pairs text comes asks offers refuses = grind (arith, memory_status, set_not_refused)
 
 pub row_refuses_pairs : (same : Type 0) (i : BusInputs) (d : DiskStates) (row : Row) (bus : NamedBus) (pairs : List (ℕ × ℕ)) (text : List ℕ) → RowOfGateway same i d row
     → AsksGateway i.words pairs → OffersBus i.config bus → RefusesPairs bus pairs text → (row.status ≡ 3) ⊎ (row.status ≡ 7)
-row_refuses_pairs same i d row bus pairs text (without_disks _ comes as_before) asks offers refuses = inputs_refuse_pairs i row bus pairs text comes asks offers refuses
-row_refuses_pairs same i d row bus pairs text (not_started _ (over, p, events, set, start) nine) asks offers refuses =
-    absurd (set_not_refused i bus over pairs p text set.set asks offers refuses)
+row_refuses_pairs same i d row bus pairs text comes asks offers refuses = grind (arith, inputs_refuse_pairs, set_not_refused)
 
 -- ---- a gateway that is offered
 

@@ -24,7 +24,7 @@ use Rattle.bus_world.specs.declared.start.Start.TheVariants.{Format}
 use Rattle.bus_world.specs.declared.start.StartFault.{StartFault}
 use Rattle.bus_world.specs.Starts.{HasRoom, FindsRoom}
 use Rattle.bus_world.specs.StartRows.{start_row, StoreCause, LeavesEach}
-use Rattle.bus_world.specs.StartAnswers.{DiskStates, ComesOfStart, disks_refused, store_refused, start_without_memory, BusHasDisks, CountsDiskFault, failed_row}
+use Rattle.bus_world.specs.StartAnswers.{DiskStates, ComesOfStart, store_refused, BusHasDisks, CountsDiskFault, failed_row}
 use Rattle.bus_world.proofs.CallerLemmas.{Comes-leaves, start_status, start_memory, start_without_room, start_complete, none_counted, failure_told}
 use Rattle.run_driver.specs.Statuses.{unwritten_status}
 use Rattle.bus_programs.specs.BusFiles.{OffersBus}
@@ -34,8 +34,8 @@ use Rattle.gateway_commands.specs.Words.{AsksGateway, AsksNoGateway}
 use Rattle.gateway_commands.specs.Texts.{gateway_usage}
 use Rattle.bus_programs.specs.Inputs.{BusInputs}
 use Rattle.gateway_commands.specs.Inputs.{RefusesPairs, RefusesConfig, NoGatewayConfig, NoGatewayScript, OverGateway, OffersGateway}
-use Rattle.gateway_commands.specs.Rows.{ScriptHasFault, RowOfInputs, no_form, no_config, config_refused, no_script, script_refused, RowOfGateway, without_disks, not_started, DoneGateway, EndsGateway, in_row, ran}
-use Rattle.gateway_commands.specs.Promises.{CutShort, EndsEarly, unprepared, unstarted, begun, RunsGateway}
+use Rattle.gateway_commands.specs.Rows.{ScriptHasFault, RowOfInputs, no_config, no_script, RowOfGateway, without_disks, not_started, DoneGateway, EndsGateway, in_row, ran}
+use Rattle.gateway_commands.specs.Promises.{CutShort, EndsEarly, unprepared, unstarted, RunsGateway}
 use Rattle.gateway_commands.proofs.Facts.{calm_gateway, row_tells, row_asks, row_refuses, set_not_refused, row_refuses_pairs, OfOffered, offered_events, row_offered}
 
 Ok_not_Err : (r : Result (List Event) Fault) (events : List Event) (fault : Fault) → r ≡ Ok events → r ≡ Err fault → ⊥
@@ -48,117 +48,69 @@ module _ (same : Type 0) (i : BusInputs) (d : DiskStates) (e : Ending) where
   -- ---- which row a status is that of
 
   fault_is : (fault : InputFault) → (input_fault_status fault ≡ 5) ⊎ ((input_fault_status fault ≡ 8) ⊎ (input_fault_status fault ≡ 7))
-  fault_is input.ReadFault = inl refl
-  fault_is input.TooLong = inr (inl refl)
-  fault_is input.Memory = inr (inr refl)
+  fault_is fault = grind arith
 
   row_2 : (row : Row) → Comes row → row.status ≡ 2 → PrintsWhole e row.text → AsksNoGateway i.words × IsUnread i.config × IsUnread i.script × PrintsWhole e gateway_usage
-  row_2 row (without_disks _ (no_form none config script) as_before) is well = (none, config, script, well)
-  row_2 row (without_disks _ (no_config fault lack) as_before) is well = absurd (let no : ⊥ = omega (arith, fault_is fault, is) in no)
-  row_2 row (without_disks _ (config_refused pairs text asks why unread) as_before) is well = absurd (let no : ⊥ = omega (arith, is) in no)
-  row_2 row (without_disks _ (no_script fault lack) as_before) is well = absurd (let no : ⊥ = omega (arith, fault_is fault, is) in no)
-  row_2 row (without_disks _ (script_refused fault f) as_before) is well = absurd (let no : ⊥ = omega (arith, is) in no)
-  row_2 row (not_started _ (bus, pairs, events, set, start) nine) is well = absurd (let no : ⊥ = omega (arith, start_status Format bus d row start, is) in no)
+  row_2 row comes is well = grind (arith, fault_is, start_status)
 
   abbrev ConfigTold : Type 0
   ConfigTold = IsUnread i.script × ((pairs : List (ℕ × ℕ)) × AsksGateway i.words pairs × ((text : List ℕ) × RefusesConfig i.config pairs text × PrintsWhole e text))
 
   row_3 : (row : Row) → Comes row → row.status ≡ 3 → PrintsWhole e row.text → ConfigTold
-  row_3 row (without_disks _ (no_form none config script) as_before) is well = absurd (let no : ⊥ = omega (arith, is) in no)
-  row_3 row (without_disks _ (no_config fault lack) as_before) is well = absurd (let no : ⊥ = omega (arith, fault_is fault, is) in no)
-  row_3 row (without_disks _ (config_refused pairs text asks why unread) as_before) is well = (unread, (pairs, asks, (text, why, well)))
-  row_3 row (without_disks _ (no_script fault lack) as_before) is well = absurd (let no : ⊥ = omega (arith, fault_is fault, is) in no)
-  row_3 row (without_disks _ (script_refused fault f) as_before) is well = absurd (let no : ⊥ = omega (arith, is) in no)
-  row_3 row (not_started _ (bus, pairs, events, set, start) nine) is well = absurd (let no : ⊥ = omega (arith, start_status Format bus d row start, is) in no)
+  row_3 row comes is well = grind (arith, fault_is, start_status)
 
   row_4 : (row : Row) → Comes row → row.status ≡ 4 → PrintsWhole e row.text → (fault : Fault) × ScriptHasFault i fault × PrintsWhole e (fault_text_of fault)
-  row_4 row (without_disks _ (no_form none config script) as_before) is well = absurd (let no : ⊥ = omega (arith, is) in no)
-  row_4 row (without_disks _ (no_config fault lack) as_before) is well = absurd (let no : ⊥ = omega (arith, fault_is fault, is) in no)
-  row_4 row (without_disks _ (config_refused pairs text asks why unread) as_before) is well = absurd (let no : ⊥ = omega (arith, is) in no)
-  row_4 row (without_disks _ (no_script fault lack) as_before) is well = absurd (let no : ⊥ = omega (arith, fault_is fault, is) in no)
-  row_4 row (without_disks _ (script_refused fault f) as_before) is well = (fault, f, well)
-  row_4 row (not_started _ (bus, pairs, events, set, start) nine) is well = absurd (let no : ⊥ = omega (arith, start_status Format bus d row start, is) in no)
+  row_4 row comes is well = grind (arith, fault_is, start_status)
 
   abbrev NoInput : InputFault → Type 0
   NoInput fault = NoGatewayConfig i fault ⊎ NoGatewayScript i fault
 
   row_5 : (row : Row) → Comes row → row.status ≡ 5 → PrintsWhole e row.text → NoInput input.ReadFault × PrintsWhole e (codes "read fault\n")
-  row_5 row (without_disks _ (no_form none config script) as_before) is well = absurd (let no : ⊥ = omega (arith, is) in no)
   row_5 row (without_disks _ (no_config input.ReadFault lack) as_before) is well = (inl lack, well)
-  row_5 row (without_disks _ (no_config input.TooLong lack) as_before) is well = absurd (let no : ⊥ = omega (arith, is) in no)
-  row_5 row (without_disks _ (no_config input.Memory lack) as_before) is well = absurd (let no : ⊥ = omega (arith, is) in no)
-  row_5 row (without_disks _ (config_refused pairs text asks why unread) as_before) is well = absurd (let no : ⊥ = omega (arith, is) in no)
   row_5 row (without_disks _ (no_script input.ReadFault lack) as_before) is well = (inr lack, well)
-  row_5 row (without_disks _ (no_script input.TooLong lack) as_before) is well = absurd (let no : ⊥ = omega (arith, is) in no)
-  row_5 row (without_disks _ (no_script input.Memory lack) as_before) is well = absurd (let no : ⊥ = omega (arith, is) in no)
-  row_5 row (without_disks _ (script_refused fault f) as_before) is well = absurd (let no : ⊥ = omega (arith, is) in no)
   row_5 row (not_started _ (bus, pairs, events, set, start) nine) is well = absurd (let no : ⊥ = omega (arith, start_status Format bus d row start, is) in no)
+  row_5 row comes is well = absurd (omega (arith, is))
 
   row_8 : (row : Row) → Comes row → row.status ≡ 8 → PrintsWhole e row.text → NoInput input.TooLong × PrintsWhole e (codes "input too long\n")
-  row_8 row (without_disks _ (no_form none config script) as_before) is well = absurd (let no : ⊥ = omega (arith, is) in no)
-  row_8 row (without_disks _ (no_config input.ReadFault lack) as_before) is well = absurd (let no : ⊥ = omega (arith, is) in no)
   row_8 row (without_disks _ (no_config input.TooLong lack) as_before) is well = (inl lack, well)
-  row_8 row (without_disks _ (no_config input.Memory lack) as_before) is well = absurd (let no : ⊥ = omega (arith, is) in no)
-  row_8 row (without_disks _ (config_refused pairs text asks why unread) as_before) is well = absurd (let no : ⊥ = omega (arith, is) in no)
-  row_8 row (without_disks _ (no_script input.ReadFault lack) as_before) is well = absurd (let no : ⊥ = omega (arith, is) in no)
   row_8 row (without_disks _ (no_script input.TooLong lack) as_before) is well = (inr lack, well)
-  row_8 row (without_disks _ (no_script input.Memory lack) as_before) is well = absurd (let no : ⊥ = omega (arith, is) in no)
-  row_8 row (without_disks _ (script_refused fault f) as_before) is well = absurd (let no : ⊥ = omega (arith, is) in no)
   row_8 row (not_started _ (bus, pairs, events, set, start) nine) is well = absurd (let no : ⊥ = omega (arith, start_status Format bus d row start, is) in no)
+  row_8 row comes is well = absurd (omega (arith, is))
 
   -- ---- a start that is refused
 
   inputs_low : (row : Row) → RowOfInputs i row → (row.status ≡ 2) ⊎ ((row.status ≡ 3) ⊎ ((row.status ≡ 4) ⊎ ((row.status ≡ 5) ⊎ ((row.status ≡ 8) ⊎ (row.status ≡ 7)))))
-  inputs_low row (no_form none config script) = inl refl
-  inputs_low row (no_config fault lack) = inr (inr (inr (fault_is fault)))
-  inputs_low row (config_refused pairs text asks why unread) = inr (inl refl)
-  inputs_low row (no_script fault lack) = inr (inr (inr (fault_is fault)))
-  inputs_low row (script_refused fault f) = inr (inr (inl refl))
+  inputs_low row comes = grind (arith, fault_is)
 
   abbrev DisksTold : NamedBus → Type 0
   DisksTold bus = (d.after ≡ d.before) × ((fault : StartFault) × FindsRoom bus d.before fault × PrintsWhole e (start_row fault).text)
 
   start_9 : (bus : NamedBus) (row : Row) → ComesOfStart Format bus d row → row.status ≡ 9 → PrintsWhole e row.text → DisksTold bus
-  start_9 bus row (disks_refused fault finds as_before) is well = (as_before, (fault, finds, well))
-  start_9 bus row (store_refused fault room cause left) is well = absurd (let no : ⊥ = omega (arith, is) in no)
-  start_9 bus row (start_without_memory fault may refused calm) is well = absurd (let no : ⊥ = omega (arith, is) in no)
+  start_9 bus row comes is well = grind arith
 
   row_9 : (row : Row) → Comes row → row.status ≡ 9 → PrintsWhole e row.text → OverGateway i (λ bus pairs events. DisksTold bus)
-  row_9 row (without_disks _ comes as_before) is well = absurd (let no : ⊥ = omega (arith, inputs_low row comes, is) in no)
-  row_9 row (not_started _ (bus, pairs, events, set, start) nine) is well = (bus, pairs, events, set, start_9 bus row start is well)
+  row_9 row comes is well = grind (arith, inputs_low, start_9)
 
   abbrev StoreTold : NamedBus → Type 0
   StoreTold bus = LeavesEach Format bus d.before d.after × ((fault : StartFault) × StoreCause Format bus d.before d.after fault × PrintsWhole e (start_row fault).text)
 
   start_10 : (bus : NamedBus) (row : Row) → ComesOfStart Format bus d row → row.status ≡ 10 → PrintsWhole e row.text → StoreTold bus
-  start_10 bus row (disks_refused fault finds as_before) is well = absurd (let no : ⊥ = omega (arith, is) in no)
   start_10 bus row (store_refused fault room cause left) is well = (left, (fault, cause, well))
-  start_10 bus row (start_without_memory fault may refused calm) is well = absurd (let no : ⊥ = omega (arith, is) in no)
+  start_10 bus row comes is well = absurd (omega arith)
 
   row_10 : (row : Row) → Comes row → row.status ≡ 10 → PrintsWhole e row.text → OverGateway i (λ bus pairs events. StoreTold bus)
-  row_10 row (without_disks _ comes as_before) is well = absurd (let no : ⊥ = omega (arith, inputs_low row comes, is) in no)
-  row_10 row (not_started _ (bus, pairs, events, set, start) nine) is well = (bus, pairs, events, set, start_10 bus row start is well)
+  row_10 row comes is well = grind (arith, inputs_low, start_10)
 
   row_not_0 : (row : Row) → Comes row → row.status ≢ 0
-  row_not_0 row (without_disks _ comes as_before) = λ is. omega (arith, inputs_low row comes, is)
-  row_not_0 row (not_started _ (bus, pairs, events, set, start) nine) = λ is. omega (arith, start_status Format bus d row start, is)
+  row_not_0 row comes = grind (arith, inputs_low, start_status)
 
   row_not_6 : (row : Row) → Comes row → row.status ≢ 6
-  row_not_6 row (without_disks _ comes as_before) = λ is. omega (arith, inputs_low row comes, is)
-  row_not_6 row (not_started _ (bus, pairs, events, set, start) nine) = λ is. omega (arith, start_status Format bus d row start, is)
+  row_not_6 row comes = grind (arith, inputs_low, start_status)
 
   -- ---- 6 and 7
 
   inputs_memory : (row : Row) → RowOfInputs i row → row.status ≡ 7 → row ≡ memory_row
-  inputs_memory row (no_form none config script) is = absurd (let no : ⊥ = omega (arith, is) in no)
-  inputs_memory row (no_config input.ReadFault lack) is = absurd (let no : ⊥ = omega (arith, is) in no)
-  inputs_memory row (no_config input.TooLong lack) is = absurd (let no : ⊥ = omega (arith, is) in no)
-  inputs_memory row (no_config input.Memory lack) is = refl
-  inputs_memory row (config_refused pairs text asks why unread) is = absurd (let no : ⊥ = omega (arith, is) in no)
-  inputs_memory row (no_script input.ReadFault lack) is = absurd (let no : ⊥ = omega (arith, is) in no)
-  inputs_memory row (no_script input.TooLong lack) is = absurd (let no : ⊥ = omega (arith, is) in no)
-  inputs_memory row (no_script input.Memory lack) is = refl
-  inputs_memory row (script_refused fault f) is = absurd (let no : ⊥ = omega (arith, is) in no)
+  inputs_memory row comes is = grind arith
 
   cut_to : (P : Row → Type 0) (row : Row) → P row → row ≡ memory_row → PrintsWhole e row.text → CutShort P e unwritten.Memory
   cut_to P row comes is well = (subst P is comes, subst (λ (r : Row). PrintsWhole e r.text) is well)
@@ -175,35 +127,24 @@ module _ (same : Type 0) (i : BusInputs) (d : DiskStates) (e : Ending) where
   -- ---- what makes a row come
 
   refused_of : (row : Row) (bus : NamedBus) (text : List ℕ) (fault : Fault) → own_events_of bus.nodes text ≡ Err fault → OfOffered d row bus text → (row.status ≡ 4) ⊎ (row.status ≡ 7)
-  refused_of row bus text fault is (inl seven) = inr seven
-  refused_of row bus text fault is (inr (inl (other, four, also))) = inl four
-  refused_of row bus text fault is (inr (inr (events, ok, start))) = absurd (Ok_not_Err (own_events_of bus.nodes text) events fault ok is)
+  refused_of row bus text fault is comes = grind (arith, Ok_not_Err)
 
   without_room_of : (row : Row) (bus : NamedBus) (text : List ℕ) (events : List Event) → own_events_of bus.nodes text ≡ Ok events → ¬ HasRoom bus d.before → OfOffered d row bus text
       → (row.status ≡ 9) ⊎ (row.status ≡ 7)
-  without_room_of row bus text events is lacks (inl seven) = inr seven
-  without_room_of row bus text events is lacks (inr (inl (fault, four, err))) = absurd (Ok_not_Err (own_events_of bus.nodes text) events fault is err)
-  without_room_of row bus text events is lacks (inr (inr (also, ok, start))) = start_without_room Format bus d row start lacks
+  without_room_of row bus text events is lacks comes = grind (arith, Ok_not_Err, start_without_room)
 
   complete_of : (row : Row) (bus : NamedBus) (text : List ℕ) (events : List Event) → own_events_of bus.nodes text ≡ Ok events
       → BusHasDisks Format bus d → OfOffered d row bus text → (row.status ≡ 0) ⊎ (row.status ≡ 7)
-  complete_of row bus text events is able (inl seven) = inr seven
-  complete_of row bus text events is able (inr (inl (fault, four, err))) = absurd (Ok_not_Err (own_events_of bus.nodes text) events fault is err)
-  complete_of row bus text events is able (inr (inr (also, ok, start))) = inr (start_complete Format bus d row start able)
+  complete_of row bus text events is able comes = grind (arith, Ok_not_Err, start_complete)
 
   -- ---- a row that comes
 
   row_low : (row : Row) → Comes row
       → (row.status ≡ 2) ⊎ (row.status ≡ 3) ⊎ (row.status ≡ 4) ⊎ (row.status ≡ 5) ⊎ (row.status ≡ 8) ⊎ (row.status ≡ 9) → same
-  row_low row (without_disks _ comes as_before) low = as_before
-  row_low row (not_started _ (bus, pairs, events, set, start) nine) low =
-      nine (let is : row.status ≡ 9 = omega (arith, start_status Format bus d row start, low) in is)
+  row_low row comes low = grind (arith, start_status)
 
   unused : EndsInRow Comes e → (e.status ≡ 2) ⊎ (e.status ≡ 3) ⊎ (e.status ≡ 4) ⊎ (e.status ≡ 5) ⊎ (e.status ≡ 8) ⊎ (e.status ≡ 9) → same
-  unused ends low = elim ends.told [
-    | inl (status_is, well) ↦ row_low ends.row ends.comes (subst (λ (n : ℕ). (n ≡ 2) ⊎ (n ≡ 3) ⊎ (n ≡ 4) ⊎ (n ≡ 5) ⊎ (n ≡ 8) ⊎ (n ≡ 9)) status_is low)
-    | inr (is, rose, part) ↦ absurd (let no : ⊥ = omega (arith, is, low) in no)
-  ]
+  unused ends low = grind (arith, row_low)
 
   abbrev Ended : Result (Unit {0}) Unwritten → Type 0
   Ended result = OverGateway i (λ bus pairs events. DoneGateway bus pairs events d e result)
@@ -272,45 +213,32 @@ module _ (same : Type 0) (i : BusInputs) (d : DiskStates) (e : Ending) where
   -- ---- if the first events were done
 
   done_status : (result : Result (Unit {0}) Unwritten) → e.status ≡ unwritten_status result → (e.status ≡ 0) ⊎ ((e.status ≡ 6) ⊎ (e.status ≡ 7))
-  done_status (Ok _) is = inl is
-  done_status (Err unwritten.SinkFailed) is = inr (inl is)
-  done_status (Err unwritten.Memory) is = inr (inr is)
+  done_status result is = grind arith
 
   status_of : (result : Result (Unit {0}) Unwritten) → Ended result → (e.status ≡ 0) ⊎ ((e.status ≡ 6) ⊎ (e.status ≡ 7))
-  status_of result (bus, pairs, events, set, done) = done_status result done.status_is
+  status_of result over = grind (arith, done_status)
 
   done_0 : (result : Result (Unit {0}) Unwritten) → Ended result → e.status ≡ 0 → Ended (Ok tt)
   done_0 (Ok tt) over is = over
-  done_0 (Err unwritten.SinkFailed) (bus, pairs, events, set, done) is = absurd (let no : ⊥ = omega (arith, done.status_is, is) in no)
-  done_0 (Err unwritten.Memory) (bus, pairs, events, set, done) is = absurd (let no : ⊥ = omega (arith, done.status_is, is) in no)
+  done_0 result ended is = absurd (grind arith)
 
   done_6 : (result : Result (Unit {0}) Unwritten) → Ended result → e.status ≡ 6 → SinkFailed e × EndsEarly same i d e unwritten.SinkFailed
-  done_6 (Ok _) (bus, pairs, events, set, done) is = absurd (let no : ⊥ = omega (arith, done.status_is, is) in no)
-  done_6 (Err unwritten.SinkFailed) (bus, pairs, events, set, done) is = (done.ran.printed.holds.written.0, begun (bus, pairs, events, set, done))
-  done_6 (Err unwritten.Memory) (bus, pairs, events, set, done) is = absurd (let no : ⊥ = omega (arith, done.status_is, is) in no)
+  done_6 result over is = grind arith
 
   done_7 : (result : Result (Unit {0}) Unwritten) → Ended result → e.status ≡ 7 → EndsEarly same i d e unwritten.Memory
-  done_7 (Ok _) (bus, pairs, events, set, done) is = absurd (let no : ⊥ = omega (arith, done.status_is, is) in no)
-  done_7 (Err unwritten.SinkFailed) (bus, pairs, events, set, done) is = absurd (let no : ⊥ = omega (arith, done.status_is, is) in no)
-  done_7 (Err unwritten.Memory) over is = begun over
+  done_7 result over is = grind arith
 
   done_writes : (result : Result (Unit {0}) Unwritten) → Ended result → CountsWriteFault e → e.status ≡ 6
-  done_writes (Ok _) (bus, pairs, events, set, done) rose = absurd (let no : ⊥ = omega (arith, done.ran.printed.holds.1.0, rose) in no)
-  done_writes (Err unwritten.SinkFailed) (bus, pairs, events, set, done) rose = done.status_is
-  done_writes (Err unwritten.Memory) (bus, pairs, events, set, done) rose = absurd (let no : ⊥ = omega (arith, done.ran.printed.holds.written.0, rose) in no)
+  done_writes result over rose = grind arith
 
   done_well : (result : Result (Unit {0}) Unwritten) → Ended result → ¬ SinkFailed e → (e.status ≡ 0) ⊎ (e.status ≡ 7)
-  done_well (Ok _) (bus, pairs, events, set, done) well = inl done.status_is
-  done_well (Err unwritten.SinkFailed) (bus, pairs, events, set, done) well = absurd (well done.ran.printed.holds.written.0)
-  done_well (Err unwritten.Memory) (bus, pairs, events, set, done) well = inr done.status_is
+  done_well result over well = grind arith
 
   ran_calm : (result : Result (Unit {0}) Unwritten) → Ended result → CountsFault i.config ⊎ CountsFault i.script → ⊥
-  ran_calm result (bus, pairs, events, set, done) (inl rose) = let calm = calm_gateway i bus pairs events set in omega (arith, calm.0.0, rose)
-  ran_calm result (bus, pairs, events, set, done) (inr rose) = let calm = calm_gateway i bus pairs events set in omega (arith, calm.1.0, rose)
+  ran_calm result over counts = grind (arith, calm_gateway)
 
   ran_within : (result : Result (Unit {0}) Unwritten) → Ended result → CountsTooMuch i.config ⊎ CountsTooMuch i.script → ⊥
-  ran_within result (bus, pairs, events, set, done) (inl more) = let calm = calm_gateway i bus pairs events set in omega (arith, calm.0.1 more.0, more.1)
-  ran_within result (bus, pairs, events, set, done) (inr more) = let calm = calm_gateway i bus pairs events set in omega (arith, calm.1.1 more.0, more.1)
+  ran_within result over counts = grind (arith, calm_gateway)
 
   ran_refused : (result : Result (Unit {0}) Unwritten) → Ended result → (bus : NamedBus) (pairs : List (ℕ × ℕ)) (text : List ℕ) (fault : Fault) → OffersGateway i bus pairs
       → Offers i.script text → own_events_of bus.nodes text ≡ Err fault → ⊥

@@ -1,5 +1,5 @@
 -- A log that is cut into lines piece by piece
-use Rattle.std.proofs.Common.{◌≡◌, ℕ, ◌+◌, ◌-◌, ◌<◌, ◌≤◌, Bool, true, false, cond, min, List, [], ◌∷◌, ◌++◌, length, get_or, take, refl, sym, ◌∙◌, ap, subst, arith, append-nil, inl, inr, ⊎_elim}
+use Rattle.std.proofs.Common.{◌≡◌, ℕ, ◌+◌, ◌-◌, ◌<◌, ◌≤◌, Bool, true, false, cond, min, List, [], ◌∷◌, ◌++◌, length, get_or, take, refl, sym, ◌∙◌, ap, subst, arith, inl, inr, ⊎_elim}
 use Rattle.std.specs.List.{slice_split, onto_first, position_or_len}
 use Rattle.std.proofs.lemmas.Bool.{cases_lt}
 use Rattle.std.proofs.lemmas.Bool.Decides.{nat_tests}
@@ -53,16 +53,6 @@ pub cut_more : (bytes piece : List ℕ) (lines : List (List ℕ)) (rest first : 
 cut_more bytes piece lines rest first more cut here =
     split_joined is_line_feed bytes piece ∙ ap (λ (parts : List (List ℕ)). joined parts (log_lines piece)) cut
     ∙ ap (joined (lines ++ rest ∷ [])) here ∙ joined_at lines rest first more
-
-joined_feed : (parts : List (List ℕ)) → 0 < length parts → joined parts ([] ∷ [] ∷ []) ≡ parts ++ [] ∷ []
-unfolding joined
-joined_feed [] some = absurd (omega (arith, some))
-joined_feed (a ∷ []) some = ap (λ (l : List ℕ). l ∷ [] ∷ []) (append-nil a)
-joined_feed (a ∷ b ∷ parts) some = ap (λ (l : List (List ℕ)). a ∷ l) (joined_feed (b ∷ parts) (omega arith))
-
--- one more line feed adds a line, which is empty
-pub one_more_line : (bytes : List ℕ) → log_lines (bytes ++ 10 ∷ []) ≡ log_lines bytes ++ [] ∷ []
-one_more_line bytes = split_joined is_line_feed bytes (10 ∷ []) ∙ joined_feed (log_lines bytes) (has_part is_line_feed bytes)
 
 -- ---- bytes without a line feed
 

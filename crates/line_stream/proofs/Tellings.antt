@@ -1,20 +1,15 @@
 -- What is printed after what was printed well, and what is counted
-use Rattle.std.proofs.Common.{◌≡◌, ℕ, ◌+◌, ◌<◌, List, ◌++◌, length, sym, subst, inl, inr, arith, length-append}
+use Rattle.std.proofs.Common.{◌≡◌, ℕ, ◌+◌, List, ◌++◌, length, sym, subst, inl, inr, arith, length-append}
 use Rattle.std.specs.Prelude.{Result, Ok, Err, OnOk, OnErr}
 use Rattle.std.proofs.Math.Seq.{take-append-add}
 use Rattle.bus_port.specs.Fault.{Rose}
 use Rattle.basics.proofs.CallerLemmas.{rose_after}
-use Rattle.bus_port.specs.Source.{SourceState}
 use Rattle.bus_port.specs.Sink.{SinkState, Appended}
 use Rattle.bus_port.proofs.CallerLemmas.{Appended-more}
 use Rattle.bus_port.specs.Whole.{AppendedPart}
 use Rattle.program_edge.specs.Told.{AppendedWell, EndingTold}
 use Rattle.program_edge.proofs.CallerLemmas.{AppendedWell-more}
 use Rattle.line_stream.specs.Pieces.{PutsPiece}
-
--- if no fault of the log was counted, its count didn't rise
-pub never_counted : {A : Type 0} (first later : SourceState) → later.faults ≡ first.faults → first.faults < later.faults → A
-never_counted first later still counts = absurd (omega (arith, still, counts))
 
 part_more : (first before after : SinkState) (some more : List ℕ) → Appended first before some → AppendedPart before after more
     → AppendedPart first after (some ++ more)

@@ -1,14 +1,13 @@
 -- What a run that ends so promises
 use Rattle.std.proofs.Common.{◌≡◌, ◌⊎◌, ℕ, ◌<◌, ◌≤◌, Bool, true, false, List, [], inl, inr, refl, sym, ◌∙◌, ap, subst, arith}
 use Rattle.std.specs.Prelude.{None, Some, Ok, Err, if◌then◌else◌, ◌==◌}
-use Rattle.bus_port.specs.Source.{SourceState}
 use Rattle.bus_port.specs.Sink.{SinkState}
 use Rattle.text_lines.specs.Readings.{Fault}
-use Rattle.program_edge.specs.Input.{input_fault_status}
+use Rattle.program_edge.specs.Input.{input_limit}
 use Rattle.program_edge.specs.declared.input.InputFault.TheVariants as input
 use Rattle.program_edge.specs.Rows.{Row}
-use Rattle.program_edge.specs.Inputs.{Reading, IsUnread, ReadsWhole, Lacks, SourceFailed, CountsFault, GivesTooMuch, CountsTooMuch, Offers}
-use Rattle.program_edge.proofs.CallerLemmas.{Lacks-whole, CountsFault-is, CountsTooMuch-is, Offers-is, Offers-whole, EndsInRow-at, EndsInRow-front, EndsInRow-rose, EndsInRow-only, EndsInRow-may, EndsInRow-well}
+use Rattle.program_edge.specs.Inputs.{IsUnread, Lacks, SourceFailed, CountsFault, GivesTooMuch, CountsTooMuch, Offers}
+use Rattle.program_edge.proofs.CallerLemmas.{Lacks-whole, Offers-is, Offers-whole, SourceTells, SourceTells-unread, SourceTells-lacks, SourceTells-whole, SourceTells-fault, SourceTells-long, EndsInRow-at, EndsInRow-front, EndsInRow-rose, EndsInRow-only, EndsInRow-may, EndsInRow-well}
 use Rattle.program_edge.specs.Endings.{EndsInRow, EndsIn, MayEndIn, PrintsFront, SinkFailed, CountsWriteFault}
 use Rattle.can_logs.specs.declared.map_lines.MapLine.{MapLine}
 use Rattle.line_stream.specs.Pieces.{log_lines}
@@ -17,7 +16,7 @@ use Rattle.can_logs.specs.MapFaults.{map_fault_text, map_input_text}
 use Rattle.can_logs.specs.WatchMaps.{NumberedMap, watch_map_of}
 use Rattle.locate_commands.specs.LocateOptions.{locate_asked}
 use Rattle.locate_commands.specs.Locating.{zeroed, FoundIn, fresh_of, are_settled, located_text, locate_status}
-use Rattle.locate_commands.specs.LocateRows.{locate_usage, log_input_text, ReadsAskingMap, IsAskingMapFault, AsksLocate, OverLocate, LocateOnOutput, done, LocateOnErrors, no_form, no_map, map_fault, no_log, no_memory, EndsLocate}
+use Rattle.locate_commands.specs.LocateRows.{locate_usage, log_input_text, ReadsAskingMap, IsAskingMapFault, AsksLocate, OverLocate, LocateOnOutput, done, LocateOnErrors, no_map, map_fault, no_log, no_memory, EndsLocate}
 use Rattle.locate_commands.specs.Locates.{IsMapPrinted, Locates}
 
 -- ---- statuses
@@ -46,57 +45,24 @@ module _ (i : LogInputs) (e : WatchEnding) where
   output_never_6 row comes = λ six. omega (arith, six, found_few row.status (output_status row comes))
 
   errors_above_1 : (row : Row) → LocateOnErrors i row → 1 < row.status
-  errors_above_1 row (no_form other map log) = omega arith
-  errors_above_1 row (no_map input.ReadFault asks lacks unread) = omega arith
-  errors_above_1 row (no_map input.TooLong asks lacks unread) = omega arith
-  errors_above_1 row (no_map input.Memory asks lacks unread) = omega arith
-  errors_above_1 row (map_fault fault asks is unread) = omega arith
-  errors_above_1 row (no_log input.ReadFault text mapping asks reads lacks) = omega arith
-  errors_above_1 row (no_log input.TooLong text mapping asks reads lacks) = omega arith
-  errors_above_1 row (no_log input.Memory text mapping asks reads lacks) = omega arith
-  errors_above_1 row (no_memory asks map log) = omega arith
+  errors_above_1 row comes = grind arith
 
   errors_never_6 : (row : Row) → LocateOnErrors i row → ¬ (row.status ≡ 6)
-  errors_never_6 row (no_form other map log) = λ six. omega (arith, six)
-  errors_never_6 row (no_map input.ReadFault asks lacks unread) = λ six. omega (arith, six)
-  errors_never_6 row (no_map input.TooLong asks lacks unread) = λ six. omega (arith, six)
-  errors_never_6 row (no_map input.Memory asks lacks unread) = λ six. omega (arith, six)
-  errors_never_6 row (map_fault fault asks is unread) = λ six. omega (arith, six)
-  errors_never_6 row (no_log input.ReadFault text mapping asks reads lacks) = λ six. omega (arith, six)
-  errors_never_6 row (no_log input.TooLong text mapping asks reads lacks) = λ six. omega (arith, six)
-  errors_never_6 row (no_log input.Memory text mapping asks reads lacks) = λ six. omega (arith, six)
-  errors_never_6 row (no_memory asks map log) = λ six. omega (arith, six)
+  errors_never_6 row comes = λ six. grind arith
 
   -- what is printed at the status of a fault
   fault_at : EndsLocate i e → (n : ℕ) → (n == 6) ≡ false → 1 < n → {A : Type 0}
       → ((row : Row) → LocateOnErrors i row → row.status ≡ n → IsUnwritten e.output → WritesWhole e.errors row.text → A) → e.status ≡ n → A
-  fault_at (inl (ends, unwritten)) n other above each is =
-      absurd (EndsInRow-at ends n other (λ row comes at prints. above_1 n above (subst IsMapPrinted at (output_status row comes))) is)
-  fault_at (inr (ends, unwritten)) n other above each is = EndsInRow-at ends n other (λ row comes at prints. each row comes at unwritten prints) is
+  fault_at ends n other above each is = grind (arith, EndsInRow-at, above_1, output_status)
 
   at_2 : (row : Row) → LocateOnErrors i row → row.status ≡ 2 → IsUnwritten e.output → WritesWhole e.errors row.text
       → (locate_asked i.words ≡ None) × IsUnread i.map × IsUnread i.log × IsUnwritten e.output × WritesWhole e.errors locate_usage
-  at_2 row (no_form other map log) two unwritten prints = (other, map, log, unwritten, prints)
-  at_2 row (no_map input.ReadFault asks lacks unread) two unwritten prints = absurd (omega (arith, two))
-  at_2 row (no_map input.TooLong asks lacks unread) two unwritten prints = absurd (omega (arith, two))
-  at_2 row (no_map input.Memory asks lacks unread) two unwritten prints = absurd (omega (arith, two))
-  at_2 row (map_fault fault asks is unread) two unwritten prints = absurd (omega (arith, two))
-  at_2 row (no_log input.ReadFault text mapping asks reads lacks) two unwritten prints = absurd (omega (arith, two))
-  at_2 row (no_log input.TooLong text mapping asks reads lacks) two unwritten prints = absurd (omega (arith, two))
-  at_2 row (no_log input.Memory text mapping asks reads lacks) two unwritten prints = absurd (omega (arith, two))
-  at_2 row (no_memory asks map log) two unwritten prints = absurd (omega (arith, two))
+  at_2 row comes two unwritten prints = grind arith
 
   at_4 : (row : Row) → LocateOnErrors i row → row.status ≡ 4 → IsUnwritten e.output → WritesWhole e.errors row.text
       → AsksLocate i.words × IsUnread i.log × IsUnwritten e.output × ((fault : Fault) × IsAskingMapFault i.map fault × WritesWhole e.errors (map_fault_text fault))
-  at_4 row (no_form other map log) four unwritten prints = absurd (omega (arith, four))
-  at_4 row (no_map input.ReadFault asks lacks unread) four unwritten prints = absurd (omega (arith, four))
-  at_4 row (no_map input.TooLong asks lacks unread) four unwritten prints = absurd (omega (arith, four))
-  at_4 row (no_map input.Memory asks lacks unread) four unwritten prints = absurd (omega (arith, four))
   at_4 row (map_fault fault asks is unread) four unwritten prints = (asks, unread, unwritten, (fault, is, prints))
-  at_4 row (no_log input.ReadFault text mapping asks reads lacks) four unwritten prints = absurd (omega (arith, four))
-  at_4 row (no_log input.TooLong text mapping asks reads lacks) four unwritten prints = absurd (omega (arith, four))
-  at_4 row (no_log input.Memory text mapping asks reads lacks) four unwritten prints = absurd (omega (arith, four))
-  at_4 row (no_memory asks map log) four unwritten prints = absurd (omega (arith, four))
+  at_4 row comes four unwritten prints = absurd (grind arith)
 
   abbrev AtFive : Type 0
   AtFive = AsksLocate i.words × IsUnwritten e.output
@@ -104,27 +70,14 @@ module _ (i : LogInputs) (e : WatchEnding) where
       ⊎ (SourceFailed i.log × WritesWhole e.errors (log_input_text input.ReadFault)))
 
   at_5 : (row : Row) → LocateOnErrors i row → row.status ≡ 5 → IsUnwritten e.output → WritesWhole e.errors row.text → AtFive
-  at_5 row (no_form other map log) five unwritten prints = absurd (omega (arith, five))
-  at_5 row (no_map input.ReadFault asks lacks unread) five unwritten prints = (asks, unwritten, inl (lacks.0, unread, prints))
-  at_5 row (no_map input.TooLong asks lacks unread) five unwritten prints = absurd (omega (arith, five))
-  at_5 row (no_map input.Memory asks lacks unread) five unwritten prints = absurd (omega (arith, five))
-  at_5 row (map_fault fault asks is unread) five unwritten prints = absurd (omega (arith, five))
-  at_5 row (no_log input.ReadFault text mapping asks reads lacks) five unwritten prints = (asks, unwritten, inr (lacks.0, prints))
-  at_5 row (no_log input.TooLong text mapping asks reads lacks) five unwritten prints = absurd (omega (arith, five))
-  at_5 row (no_log input.Memory text mapping asks reads lacks) five unwritten prints = absurd (omega (arith, five))
-  at_5 row (no_memory asks map log) five unwritten prints = absurd (omega (arith, five))
+  at_5 row comes five unwritten prints = grind arith
 
   at_7 : (row : Row) → LocateOnErrors i row → row.status ≡ 7 → IsUnwritten e.output → WritesWhole e.errors row.text
       → AsksLocate i.words × Lacks i.map input.Memory × IsUnwritten e.output × WritesWhole e.errors []
-  at_7 row (no_form other map log) seven unwritten prints = absurd (omega (arith, seven))
-  at_7 row (no_map input.ReadFault asks lacks unread) seven unwritten prints = absurd (omega (arith, seven))
-  at_7 row (no_map input.TooLong asks lacks unread) seven unwritten prints = absurd (omega (arith, seven))
   at_7 row (no_map input.Memory asks lacks unread) seven unwritten prints = (asks, lacks, unwritten, prints)
-  at_7 row (map_fault fault asks is unread) seven unwritten prints = absurd (omega (arith, seven))
-  at_7 row (no_log input.ReadFault text mapping asks reads lacks) seven unwritten prints = absurd (omega (arith, seven))
-  at_7 row (no_log input.TooLong text mapping asks reads lacks) seven unwritten prints = absurd (omega (arith, seven))
   at_7 row (no_log input.Memory text mapping asks reads lacks) seven unwritten prints = (asks, Lacks-whole i.map text reads.0, unwritten, prints)
   at_7 row (no_memory asks map log) seven unwritten prints = (asks, map, unwritten, prints)
+  at_7 row comes seven unwritten prints = absurd (omega arith)
 
   abbrev AtEight : Type 0
   AtEight = AsksLocate i.words × IsUnwritten e.output
@@ -132,30 +85,14 @@ module _ (i : LogInputs) (e : WatchEnding) where
       ⊎ (GivesTooMuch i.log × WritesWhole e.errors (log_input_text input.TooLong)))
 
   at_8 : (row : Row) → LocateOnErrors i row → row.status ≡ 8 → IsUnwritten e.output → WritesWhole e.errors row.text → AtEight
-  at_8 row (no_form other map log) eight unwritten prints = absurd (omega (arith, eight))
-  at_8 row (no_map input.ReadFault asks lacks unread) eight unwritten prints = absurd (omega (arith, eight))
   at_8 row (no_map input.TooLong asks lacks unread) eight unwritten prints = (asks, unwritten, inl (lacks.1, unread, prints))
-  at_8 row (no_map input.Memory asks lacks unread) eight unwritten prints = absurd (omega (arith, eight))
-  at_8 row (map_fault fault asks is unread) eight unwritten prints = absurd (omega (arith, eight))
-  at_8 row (no_log input.ReadFault text mapping asks reads lacks) eight unwritten prints = absurd (omega (arith, eight))
   at_8 row (no_log input.TooLong text mapping asks reads lacks) eight unwritten prints = (asks, unwritten, inr (lacks.1, prints))
-  at_8 row (no_log input.Memory text mapping asks reads lacks) eight unwritten prints = absurd (omega (arith, eight))
-  at_8 row (no_memory asks map log) eight unwritten prints = absurd (omega (arith, eight))
+  at_8 row comes eight unwritten prints = absurd (omega arith)
 
   -- ---- which rows come
 
   asks_clash : locate_asked i.words ≡ None → AsksLocate i.words → ⊥
   asks_clash other (asked, is) = let clash : None ≡ Some asked = sym other ∙ is in cc
-
-  unread_faults : (r : Reading) → IsUnread r → r.before.faults < r.after.faults → ⊥
-  unread_faults r unread counts = omega (arith, counts, ap (λ (s : SourceState). s.faults) unread)
-
-  unread_not_long : (r : Reading) → CountsTooMuch r → IsUnread r → ⊥
-  unread_not_long r counts unread = omega (arith, counts.1, ap (λ (s : SourceState). s.taken) unread)
-
-  whole_not_long : (r : Reading) (text : List ℕ) → CountsTooMuch r → ReadsWhole r text → ⊥
-  whole_not_long r text counts whole =
-      let clash : input.Memory ≡ input.TooLong = CountsTooMuch-is r input.Memory counts (Lacks-whole r text whole) in cc
 
   unwritten_faults : (before after : SinkState) → after ≡ before → before.faults < after.faults → ⊥
   unwritten_faults before after unwritten counts = omega (arith, counts, ap (λ (s : SinkState). s.faults) unwritten)
@@ -169,60 +106,29 @@ module _ (i : LogInputs) (e : WatchEnding) where
       ok_is_err mapping.lines fault read text (Offers-whole i.map text read offers whole) read_is.0 is
 
   only_2 : locate_asked i.words ≡ None → (row : Row) → LocateOnErrors i row → row.status ≡ 2
-  only_2 other row (no_form free map log) = refl
-  only_2 other row (no_map fault asks lacks unread) = absurd (asks_clash other asks)
-  only_2 other row (map_fault fault asks is unread) = absurd (asks_clash other asks)
-  only_2 other row (no_log fault text mapping asks reads lacks) = absurd (asks_clash other asks)
-  only_2 other row (no_memory asks map log) = absurd (asks_clash other asks)
+  only_2 other row comes = grind (arith, asks_clash)
 
   only_4 : (text : List ℕ) (fault : Fault) → AsksLocate i.words → Offers i.map text → watch_map_of (zeroed text) ≡ Err fault → (row : Row) → LocateOnErrors i row
       → (row.status ≡ 4) ⊎ (row.status ≡ 7)
-  only_4 text fault names offers is row (no_form other map log) = absurd (asks_clash other names)
-  only_4 text fault names offers is row (no_map lack asks lacks unread) = inr (ap input_fault_status (Offers-is i.map text lack offers lacks))
-  only_4 text fault names offers is row (map_fault first asks first_is unread) = inl refl
-  only_4 text fault names offers is row (no_log lack read mapping asks reads lacks) = absurd (map_is_err text fault offers is read mapping reads)
-  only_4 text fault names offers is row (no_memory asks map log) = inr refl
+  only_4 text fault names offers is row comes = grind (arith, asks_clash, Offers-is, map_is_err)
 
-  map_faults : CountsFault i.map → (row : Row) → LocateOnErrors i row → row.status ≡ 5
-  map_faults counts row (no_form other map log) = absurd (unread_faults i.map map counts)
-  map_faults counts row (no_map fault asks lacks unread) = ap input_fault_status (CountsFault-is i.map fault counts lacks)
-  map_faults counts row (map_fault fault asks (text, whole, is) unread) = absurd (omega (arith, counts, whole.no_fault))
-  map_faults counts row (no_log fault text mapping asks (whole, is) lacks) = absurd (omega (arith, counts, whole.no_fault))
-  map_faults counts row (no_memory asks map log) = ap input_fault_status (CountsFault-is i.map input.Memory counts map)
+  -- what a status says of both sources
+  abbrev TellsBoth : ℕ → Type 0
+  TellsBoth status = SourceTells input_limit i.map status × SourceTells input_limit i.log status
 
-  log_faults : CountsFault i.log → (row : Row) → LocateOnErrors i row → row.status ≡ 5
-  log_faults counts row (no_form other map log) = absurd (unread_faults i.log log counts)
-  log_faults counts row (no_map fault asks lacks unread) = absurd (unread_faults i.log unread counts)
-  log_faults counts row (map_fault fault asks is unread) = absurd (unread_faults i.log unread counts)
-  log_faults counts row (no_log fault text mapping asks reads lacks) = ap input_fault_status (CountsFault-is i.log fault counts lacks)
-  log_faults counts row (no_memory asks map log) = ap input_fault_status (CountsFault-is i.log input.Memory counts log)
+  errors_tell : (row : Row) → LocateOnErrors i row → TellsBoth row.status
+  errors_tell row comes = grind (arith, SourceTells-unread, SourceTells-lacks, SourceTells-whole)
 
-  map_long : CountsTooMuch i.map → (row : Row) → LocateOnErrors i row → row.status ≡ 8
-  map_long counts row (no_form other map log) = absurd (unread_not_long i.map counts map)
-  map_long counts row (no_map fault asks lacks unread) = ap input_fault_status (CountsTooMuch-is i.map fault counts lacks)
-  map_long counts row (map_fault fault asks (text, whole, is) unread) = absurd (whole_not_long i.map text counts whole)
-  map_long counts row (no_log fault text mapping asks (whole, is) lacks) = absurd (whole_not_long i.map text counts whole)
-  map_long counts row (no_memory asks map log) = ap input_fault_status (CountsTooMuch-is i.map input.Memory counts map)
+  output_tells : (status : ℕ) (row : Row) → LocateOnOutput i row → TellsBoth status
+  output_tells status row (done _ (asked, text, f, names, same, reads, log, is)) =
+      (SourceTells-whole input_limit i.map status text reads.0, SourceTells-whole input_limit i.log status f.log log)
 
-  log_long : CountsTooMuch i.log → (row : Row) → LocateOnErrors i row → row.status ≡ 8
-  log_long counts row (no_form other map log) = absurd (unread_not_long i.log counts log)
-  log_long counts row (no_map fault asks lacks unread) = absurd (unread_not_long i.log counts unread)
-  log_long counts row (map_fault fault asks is unread) = absurd (unread_not_long i.log counts unread)
-  log_long counts row (no_log fault text mapping asks reads lacks) = ap input_fault_status (CountsTooMuch-is i.log fault counts lacks)
-  log_long counts row (no_memory asks map log) = ap input_fault_status (CountsTooMuch-is i.log input.Memory counts log)
-
-  -- nothing on standard output is told beside a source's fault, or too long an input
-  output_map_calm : CountsFault i.map → (row : Row) → LocateOnOutput i row → ⊥
-  output_map_calm counts row (done _ (asked, text, f, names, same, (whole, map_is), log, is)) = omega (arith, counts, whole.no_fault)
-
-  output_log_calm : CountsFault i.log → (row : Row) → LocateOnOutput i row → ⊥
-  output_log_calm counts row (done _ (asked, text, f, names, same, reads, log, is)) = omega (arith, counts, log.no_fault)
-
-  output_map_short : CountsTooMuch i.map → (row : Row) → LocateOnOutput i row → ⊥
-  output_map_short counts row (done _ (asked, text, f, names, same, (whole, map_is), log, is)) = whole_not_long i.map text counts whole
-
-  output_log_short : CountsTooMuch i.log → (row : Row) → LocateOnOutput i row → ⊥
-  output_log_short counts row (done _ (asked, text, f, names, same, reads, log, is)) = whole_not_long i.log f.log counts log
+  both_tell : EndsLocate i e → (e.status ≡ 6) ⊎ TellsBoth e.status
+  both_tell (inl (ends, unwritten)) = inr (output_tells e.status ends.row ends.comes)
+  both_tell (inr (ends, unwritten)) = elim ends.told [
+    | inl whole ↦ inr (subst TellsBoth (sym whole.0) (errors_tell ends.row ends.comes))
+    | inr failed ↦ inl failed.0
+  ]
 
   output_asks : locate_asked i.words ≡ None → (row : Row) → LocateOnOutput i row → ⊥
   output_asks other row (done _ (asked, text, f, names, same, reads, log, is)) = asks_clash other (asked, names)
@@ -232,12 +138,7 @@ module _ (i : LogInputs) (e : WatchEnding) where
 
   completes : (text log : List ℕ) (mapping : List MapLine) → AsksLocate i.words → Offers i.map text → watch_map_of (zeroed text) ≡ Ok mapping → Offers i.log log
       → (row : Row) → LocateOnErrors i row → row.status ≡ 7
-  completes text log mapping names offers is log_offers row (no_form other map unread) = absurd (asks_clash other names)
-  completes text log mapping names offers is log_offers row (no_map lack asks lacks unread) = ap input_fault_status (Offers-is i.map text lack offers lacks)
-  completes text log mapping names offers is log_offers row (map_fault fault asks (read, whole, read_is) unread) =
-      absurd (ok_is_err mapping fault text read (sym (Offers-whole i.map text read offers whole)) is read_is)
-  completes text log mapping names offers is log_offers row (no_log lack read m asks reads lacks) = ap input_fault_status (Offers-is i.log log lack log_offers lacks)
-  completes text log mapping names offers is log_offers row (no_memory asks map lacks) = refl
+  completes text log mapping names offers is log_offers row comes = grind (arith, asks_clash, Offers-is, ok_is_err, Offers-whole)
 
   -- ---- the promises
 
@@ -267,30 +168,19 @@ module _ (i : LogInputs) (e : WatchEnding) where
   errors_found ends n other few is = EndsInRow-at ends n other (λ row comes at prints. omega (arith, at, few, errors_above_1 row comes)) is
 
   ends_found : EndsLocate i e → IsMapPrinted e.status → Found
-  ends_found (inl (ends, unwritten)) (inl zero) = found_at unwritten ends 0 refl zero
-  ends_found (inl (ends, unwritten)) (inr one) = found_at unwritten ends 1 refl one
-  ends_found (inr (ends, unwritten)) (inl zero) = absurd (errors_found ends 0 refl (omega arith) zero)
-  ends_found (inr (ends, unwritten)) (inr one) = absurd (errors_found ends 1 refl (omega arith) one)
+  ends_found ends it = grind (arith, found_at, errors_found)
 
   ends_usage : EndsLocate i e → locate_asked i.words ≡ None → EndsIn 2 (on_errors e)
-  ends_usage (inl (ends, unwritten)) other = absurd (output_asks other ends.row ends.comes)
-  ends_usage (inr (ends, unwritten)) other = EndsInRow-only ends 2 (only_2 other)
+  ends_usage ends other = grind (arith, output_asks, EndsInRow-only, only_2)
 
   ends_refused : EndsLocate i e → (text : List ℕ) (fault : Fault) → AsksLocate i.words → Offers i.map text → watch_map_of (zeroed text) ≡ Err fault → MayEndIn 4 (on_errors e)
-  ends_refused (inl (ends, unwritten)) text fault names offers is = absurd (output_refuses text fault offers is ends.row ends.comes)
-  ends_refused (inr (ends, unwritten)) text fault names offers is = EndsInRow-may ends 4 (only_4 text fault names offers is)
+  ends_refused ends text fault names offers is = grind (arith, output_refuses, EndsInRow-may, only_4)
 
   ends_read_fault : EndsLocate i e → CountsFault i.map ⊎ CountsFault i.log → EndsIn 5 (on_errors e)
-  ends_read_fault (inl (ends, unwritten)) (inl map) = absurd (output_map_calm map ends.row ends.comes)
-  ends_read_fault (inl (ends, unwritten)) (inr log) = absurd (output_log_calm log ends.row ends.comes)
-  ends_read_fault (inr (ends, unwritten)) (inl map) = EndsInRow-only ends 5 (map_faults map)
-  ends_read_fault (inr (ends, unwritten)) (inr log) = EndsInRow-only ends 5 (log_faults log)
+  ends_read_fault ends counts = let tells : (e.status ≡ 6) ⊎ TellsBoth e.status = both_tell ends in grind (arith, SourceTells-fault)
 
   ends_too_long : EndsLocate i e → CountsTooMuch i.map ⊎ CountsTooMuch i.log → EndsIn 8 (on_errors e)
-  ends_too_long (inl (ends, unwritten)) (inl map) = absurd (output_map_short map ends.row ends.comes)
-  ends_too_long (inl (ends, unwritten)) (inr log) = absurd (output_log_short log ends.row ends.comes)
-  ends_too_long (inr (ends, unwritten)) (inl map) = EndsInRow-only ends 8 (map_long map)
-  ends_too_long (inr (ends, unwritten)) (inr log) = EndsInRow-only ends 8 (log_long log)
+  ends_too_long ends counts = let tells : (e.status ≡ 6) ⊎ TellsBoth e.status = both_tell ends in grind (arith, SourceTells-long)
 
   ends_write_fault : EndsLocate i e → e.status ≡ 6
       → (SinkFailed (on_output e) × PrintsFront (LocateOnOutput i) (on_output e)) ⊎ (SinkFailed (on_errors e) × PrintsFront (LocateOnErrors i) (on_errors e))
@@ -298,10 +188,7 @@ module _ (i : LogInputs) (e : WatchEnding) where
   ends_write_fault (inr (ends, unwritten)) six = inr (EndsInRow-front ends errors_never_6 six)
 
   ends_counts : EndsLocate i e → CountsWriteFault (on_output e) ⊎ CountsWriteFault (on_errors e) → e.status ≡ 6
-  ends_counts (inl (ends, unwritten)) (inl output) = EndsInRow-rose ends output
-  ends_counts (inl (ends, unwritten)) (inr errors) = absurd (unwritten_faults e.errors.before e.errors.after unwritten errors)
-  ends_counts (inr (ends, unwritten)) (inl output) = absurd (unwritten_faults e.output.before e.output.after unwritten output)
-  ends_counts (inr (ends, unwritten)) (inr errors) = EndsInRow-rose ends errors
+  ends_counts ends counts = grind (arith, EndsInRow-rose, unwritten_faults)
 
   ends_complete : EndsLocate i e → (text log : List ℕ) (mapping : List MapLine) → AsksLocate i.words → Offers i.map text → watch_map_of (zeroed text) ≡ Ok mapping
       → Offers i.log log → ¬ SinkFailed (on_output e) → ¬ SinkFailed (on_errors e) → IsMapPrinted e.status ⊎ (e.status ≡ 7)

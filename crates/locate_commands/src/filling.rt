@@ -11,7 +11,7 @@ ghost use Rattle.locate_commands.specs.Locating.{fresh_by, fresh_of, fresh_at, b
 use crate::frames::FirstFrames;
 use crate::options::Candidates;
 use crate::searching::located;
-use can_logs::{MapLine, WatchMap};
+use can_logs::{MapTable, WatchMap};
 use explain_commands::receiver_of;
 use line_stream::until_feed;
 use std::alloc::Global;
@@ -74,7 +74,7 @@ fn find_fresh(
         ≡ fresh_of (record { mapping = map.now; log = log.now; candidates = candidates }) number) }
 {
     match place_of_number(map.numbers(), number) {
-        Some(place) => fresh_at(alloc, map.lines(), log, candidates, place),
+        Some(place) => fresh_at(alloc, map.table(), log, candidates, place),
         None => Ok(None),
     }
 }
@@ -90,17 +90,18 @@ fn place_of_number(numbers: &[u64], number: u64) -> Option<usize>
 /// FRESH of the line at a place.
 fn fresh_at(
     alloc: Global,
-    lines: &[MapLine],
+    map: &MapTable,
     log: &[u8],
     candidates: Candidates,
     place: usize,
 ) -> Result<Option<u64>, Memory>
     requires short { length log.now < 2 ^ 32 }
-    requires place { place < length lines.now }
+    requires place { place < length map.now }
     ensures { IfOk result (λ fresh. fresh
-        ≡ option_and_then (fresh_at lines.now log.now candidates place) (slice_get lines.now place)) }
+        ≡ option_and_then (fresh_at map.now log.now candidates place) (slice_get map.now place)) }
 {
-    let frames = FirstFrames::of(alloc, lines, place, log)?;
+    let frames = FirstFrames::of(alloc, map, place, log)?;
+    let lines = map.lines();
     let receiver = receiver_of(&lines[place], 0);
     Ok(before_first(located(&receiver, frames.as_slice(), candidates)))
 }

@@ -5,7 +5,7 @@ ghost use Rattle.text_lines.specs.Lines.{is_line_feed};
 ghost use Rattle.can_logs.specs.Frames.{log_frame_of};
 ghost use Rattle.locate_commands.specs.Locating.{data_heard, heard_in, as_list, first_frames};
 
-use can_logs::{FrameBytes, MapLine, log_frame, place_for};
+use can_logs::{FrameBytes, MapTable, log_frame};
 use line_stream::until_feed;
 use std::alloc::Global;
 use std::marker::Model;
@@ -39,7 +39,7 @@ impl FirstFrames {
     /// The first sixteen that the line of a map at a place hears in a log.
     pub fn of(
         alloc: Global,
-        map: &[MapLine],
+        map: &MapTable,
         place: usize,
         log: &[u8],
     ) -> Result<FirstFrames, Memory>
@@ -79,7 +79,7 @@ fn note(frames: &mut Vec<FrameBytes>, heard: Option<FrameBytes>) -> Result<(), M
 
 /// The data of the frame in a line of a log, if the line of the map at a place hears it.
 fn frame_heard(
-    map: &[MapLine],
+    map: &MapTable,
     place: usize,
     line: &[u8],
     spans: &mut Vec<Span>,
@@ -98,12 +98,12 @@ fn frame_heard(
 }
 
 /// The data of the frame that words have, if the line of the map at a place hears it.
-fn data_heard(map: &[MapLine], place: usize, words: &Words<'_>) -> Option<FrameBytes>
+fn data_heard(map: &MapTable, place: usize, words: &Words<'_>) -> Option<FrameBytes>
     requires { place < length map.now }
     ensures { result ≡ data_heard map.now place words.now (log_frame_of words.now) }
 {
     let frame = log_frame(words)?;
-    let heard = place_for(map, frame.can.digits(), words.word(2))?;
+    let heard = map.place_for(frame.can.digits(), words.word(2))?;
     if heard != place {
         return None;
     }

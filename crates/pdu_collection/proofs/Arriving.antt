@@ -1,5 +1,5 @@
 -- An arrival that is given to a joiner.
-use Rattle.std.proofs.Common.{◌≡◌, ◌⊎◌, ℕ, List, [], ◌∷◌, ◌++◌, length, refl, sym, ap, ◌∙◌, subst, ⊎_elim}
+use Rattle.std.proofs.Common.{◌≡◌, ℕ, List, [], ◌∷◌, ◌++◌, length, refl, sym, ap, ◌∙◌, subst, ⊎_elim}
 use Rattle.std.specs.Prelude.{Option, None, Some, IsNone, IfSome}
 use Rattle.pdu_collection.specs.Collection.{Place}
 use Rattle.pdu_collection.specs.Joining.{Kind, authentic, cryptographic, other_kind, Arrival, link_in, link, arrival_at, partner_at, IsLatestOfKind, IsSingle, Joining}

@@ -10,7 +10,7 @@ use Rattle.program_edge.proofs.CallerLemmas.{EndsInRow-at}
 use Rattle.pdu_collection.specs.declared.pair_lines.PairLine.{PairLine}
 use Rattle.pdu_collection.specs.PairLines.{pairs_of}
 use Rattle.pdu_collection.specs.Answering.{TellsPairs, TellsRising}
-use Rattle.pdu_collection.specs.Rows.{PairingInputs, NamesInput, OverPairs, ComesInPairing, no_form, no_input, line_fault, done}
+use Rattle.pdu_collection.specs.Rows.{PairingInputs, NamesInput, OverPairs, ComesInPairing, done}
 use Rattle.pdu_collection.specs.Pairs.{RunsPairs}
 use Rattle.pdu_collection.proofs.Rising.{all_rise}
 
@@ -27,12 +27,7 @@ rising_0 i e row _ zero prints = search rules
 
 at_7 : (i : PairingInputs) (e : Ending) (row : Row) → ComesInPairing i row → row.status ≡ 7 → PrintsWhole e row.text
     → NamesInput i.words × Lacks i.script input.Memory × PrintsWhole e []
-at_7 i e row (no_input input.Memory names lacks) seven prints = (names, lacks, prints)
-at_7 i e row (no_input input.ReadFault names lacks) seven prints = absurd (omega (arith, seven))
-at_7 i e row (no_input input.TooLong names lacks) seven prints = absurd (omega (arith, seven))
-at_7 i e row (no_form other unread) seven prints = absurd (omega (arith, seven))
-at_7 i e row (line_fault fault over) seven prints = absurd (omega (arith, seven))
-at_7 i e row (done text over) seven prints = absurd (omega (arith, seven))
+at_7 i e row comes seven prints = grind arith
 
 pub RunsPairs-row : (i : PairingInputs) (e : Ending) → EndsInRow (ComesInPairing i) e → RunsPairs i e
 RunsPairs-row i e ends = record {

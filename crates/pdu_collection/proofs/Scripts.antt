@@ -6,8 +6,6 @@ use Rattle.text_lines.specs.declared.fault.Cause.{Cause}
 use Rattle.text_lines.specs.declared.fault.Cause.TheVariants.{TooMany}
 use Rattle.text_lines.specs.Lines.{TextLine, lines_of}
 use Rattle.text_lines.specs.Readings.{◌>>=◌, at_line, limited, read_from, most_lines}
-use Rattle.pdu_collection.specs.declared.pair_lines.Head.{Head}
-use Rattle.pdu_collection.specs.declared.pair_lines.Entry.{Entry}
 use Rattle.pdu_collection.specs.declared.pair_lines.PairLine.{PairLine}
 use Rattle.pdu_collection.specs.declared.pair_lines.PairLine.TheVariants as line
 use Rattle.pdu_collection.specs.PairLines.{head_of, pair_entry_of, pair_line_of, pairs_of}

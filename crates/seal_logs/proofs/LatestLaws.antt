@@ -1,6 +1,6 @@
 -- The latest deed of some places, and of one place more.
-use Rattle.std.proofs.Common.{◌≡◌, ◌≢◌, ◌⊎◌, inl, inr, ℕ, zero, suc, ◌+◌, ◌*◌, ◌<◌, ◌≤◌, Bool, true, false, nat_lt, nat_eq, if◌then◌else◌, Option, Some, None, List, [], ◌∷◌, length, get_or, refl, sym, ap, subst, ◌∙◌, arith}
-use Rattle.std.proofs.lemmas.Bool.{cases_lt, cases_eq, ltb-true, ltb-false, eqb-true, eqb-false}
+use Rattle.std.proofs.Common.{◌≡◌, ◌⊎◌, inl, inr, ℕ, zero, suc, ◌+◌, ◌*◌, ◌<◌, ◌≤◌, Bool, true, false, nat_lt, nat_eq, if◌then◌else◌, List, [], ◌∷◌, length, get_or, refl, sym, ap, subst, ◌∙◌, arith}
+use Rattle.std.proofs.lemmas.Bool.{cases_lt, ltb-true, ltb-false, eqb-true, eqb-false}
 use Rattle.std.proofs.lemmas.Option.{same_Some}
 use Rattle.std.proofs.Math.Nat.{mul-le-mul_right}
 use Rattle.seal_parts.specs.declared.SealLine.{SealLine}
@@ -10,7 +10,7 @@ use Rattle.seal_logs.specs.declared.LogSizes.{LogSizes}
 use Rattle.seal_logs.specs.declared.finding.FoundDeed.{FoundDeed}
 use Rattle.seal_logs.specs.declared.finding.Latest.{Latest}
 use Rattle.seal_logs.specs.declared.finding.Latest.TheVariants.{NoDeed, One, Tie}
-use Rattle.seal_logs.specs.Reads.{LogReads, reads_in, no_read, IsDeedPlace, ReadsDeed, IsLatestIn, HasNoDeedIn, HasDeedIn, HasTwoLatestIn}
+use Rattle.seal_logs.specs.Reads.{LogReads, reads_in, no_read, IsDeedPlace, ReadsDeed}
 use Rattle.seal_logs.specs.Found.{LatestIn, LatestIs, IsSeen, LatestSeen, later_deed}
 
 -- a place is read as one deed of one generation

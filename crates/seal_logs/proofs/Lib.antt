@@ -1,1 +1,2 @@
 pub mod LatestLaws
+pub mod ChainLaws

@@ -1,10 +1,10 @@
 -- What a start has read of the log, and what it makes of it.
-use Rattle.std.specs.Prelude.{◌≡◌, ◌≢◌, ◌⊎◌, ◌+◌, ◌*◌, ◌<◌, ◌≤◌, ℕ, suc, true, false, Option, Some, None, List, [], ◌∷◌, get_or, length, set}
-use Rattle.seal_parts.specs.declared.SealLine.{SealLine}
+use Rattle.std.specs.Prelude.{◌≡◌, ◌≢◌, ◌⊎◌, ◌+◌, ◌*◌, ◌<◌, ◌≤◌, ℕ, suc, true, false, Option, Some, None, List, []}
+use Rattle.std.specs.Prelude.{◌∷◌, get_or, length, set}
 use Rattle.seal_parts.specs.declared.LogDeed.{LogDeed}
 use Rattle.seal_parts.specs.declared.LineBody.TheVariants.{Copies, Does}
 use Rattle.seal_parts.specs.declared.DeedBody.{DeedBody}
-use Rattle.seal_parts.specs.declared.DeedBody.TheVariants.{Opens, Puts, Moves, IsNew}
+use Rattle.seal_parts.specs.declared.DeedBody.TheVariants.{Puts}
 use Rattle.seal_logs.specs.declared.PlaceRead.{PlaceRead}
 use Rattle.seal_logs.specs.declared.LogSizes.{LogSizes}
 
@@ -28,8 +28,8 @@ IsDeedPlace s bank k = (bank < s.banks) × ((s.cells ≤ k) × (k < s.places))
 abbrev pub ReadsDeed : PlaceRead → ℕ → LogDeed → Type 0
 ReadsDeed p generation deed = p.line ≡ Some (record { generation = generation; body = Does deed })
 
--- The latest deed of these places is the last one of its bank under the highest generation, and no other bank has a deed
--- of that generation.
+-- The latest deed of these places is the last one of its bank under the highest generation, and no other bank has a
+-- deed of that generation.
 pub record IsLatestIn (In : ℕ → ℕ → Type 0) (r : LogReads) (bank place generation : ℕ) (deed : LogDeed) : Type 0 where
   pub inside : In bank place
   pub is : ReadsDeed (r bank place) generation deed
@@ -76,19 +76,26 @@ pub record LacksLine (s : LogSizes) (places : ℕ → PlaceRead) (generation : �
   pub lacks : (deed : LogDeed) → ReadsDeed (places place) generation deed → ⊥
 
 -- a copy of these cells under this generation is read
-abbrev pub ReadsCopy : (ℕ → PlaceRead) → ℕ → List (List ℕ) → Type 0
-ReadsCopy places generation cells = (i : ℕ) → i < length cells
+abbrev pub IsCopyRead : (ℕ → PlaceRead) → ℕ → List (List ℕ) → Type 0
+IsCopyRead places generation cells = (i : ℕ) → i < length cells
     → (places i).line ≡ Some (record { generation = generation; body = Copies i (get_or cells i []) })
 
--- From this deed back to the copy each deed that is followed is read: these are their places, the last one first.
-abbrev pub IsChain : LogSizes → (ℕ → PlaceRead) → ℕ → Option ℕ → List ℕ → Type 0
-IsChain s places generation None [] = Unit {0}
-IsChain s places generation None (k ∷ ks) = ⊥
-IsChain s places generation (Some at) [] = ⊥
-IsChain s places generation (Some at) (k ∷ ks) = (k ≡ at) × ((s.cells ≤ at) × ((at < s.places)
-    × ((deed : LogDeed) × (ReadsDeed (places at) generation deed × IsChain s places generation deed.prev ks))))
+-- From this deed back to the copy each deed that is followed is read, and stands before the one that follows it: these
+-- are their places, the last one first. The first of them stands before `limit`.
+abbrev pub IsChain : LogSizes → (ℕ → PlaceRead) → ℕ → ℕ → Option ℕ → List ℕ → Type 0
+IsChain s places generation limit None [] = Unit {0}
+IsChain s places generation limit None (k ∷ ks) = ⊥
+IsChain s places generation limit (Some at) [] = ⊥
+IsChain s places generation limit (Some at) (k ∷ ks) = (k ≡ at) × ((s.cells ≤ at) × ((at < limit)
+    × ((deed : LogDeed) × (ReadsDeed (places at) generation deed × IsChain s places generation at deed.prev ks))))
 
 -- what a deed makes of the cells
 abbrev pub after_body : DeedBody → List (List ℕ) → List (List ℕ)
 after_body (Puts cell payload) cells = set cells cell payload
 after_body body cells = cells
+
+-- these deeds, the last one first, make these cells of those of the copy
+abbrev pub MakesOf : (ℕ → PlaceRead) → ℕ → List ℕ → List (List ℕ) → List (List ℕ) → Type 0
+MakesOf places generation [] cells now = now ≡ cells
+MakesOf places generation (k ∷ ks) cells now = (deed : LogDeed) × (ReadsDeed (places k) generation deed
+    × ((between : List (List ℕ)) × (MakesOf places generation ks cells between × (now ≡ after_body deed.body between))))

@@ -25,8 +25,9 @@ pub enum Latest {
 }
 
 /// The deed of a place, if one is read.
-fn deed_in(read: &PlaceRead) -> Option<(u64, LogDeed)>
-    ensures some { (generation : ℕ) (deed : LogDeed) → result ≡ Some (generation, deed) → ReadsDeed read.now generation deed }
+pub(crate) fn deed_in(read: &PlaceRead) -> Option<(u64, LogDeed)>
+    ensures some { (generation : ℕ) (deed : LogDeed) → result ≡ Some (generation, deed)
+        → ReadsDeed read.now generation deed }
     ensures none { result ≡ None → (generation : ℕ) (deed : LogDeed) → ReadsDeed read.now generation deed → ⊥ }
 {
     match read.line {
@@ -80,7 +81,8 @@ fn later(best: Latest, found: FoundDeed) -> Latest
 fn latest_to(reads: &[PlaceRead], sizes: LogSizes, bank: u8, best: Latest) -> Latest
     requires inside { bank < sizes.banks }
     requires fits { length reads.now ≡ sizes.banks * sizes.places }
-    ensures { LatestSeen sizes (reads_in sizes reads.now) bank 0 best → LatestSeen sizes (reads_in sizes reads.now) (suc bank) 0 result }
+    ensures { LatestSeen sizes (reads_in sizes reads.now) bank 0 best
+        → LatestSeen sizes (reads_in sizes reads.now) (suc bank) 0 result }
 {
     let start = bank as usize * sizes.places as usize;
     let mut best = best;

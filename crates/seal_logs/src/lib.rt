@@ -1,14 +1,16 @@
 //! The log of a store on a part of `seal_parts`: what a start makes of what it read.
 //!
-//! A bank holds a copy of the cells, and then **deeds**: each has a guard, a line and a confirm, and names the deed that
-//! it follows. A start reads each unit once, into a list of [`PlaceRead`], and decides on that alone.
+//! A bank holds a copy of the cells, and then **deeds**: each has a guard, a line and a confirm, and names the deed
+//! that it follows. A start reads each unit once, into a list of [`PlaceRead`], and decides on that alone.
 #![tactic(auto)]
 
 ghost use Rattle.std.specs.Prelude.{◌≡◌, ◌*◌, length};
 
 mod finding;
+mod following;
 
 pub use finding::{FoundDeed, Latest, find_latest, lacks_line, next_free};
+pub use following::{follow, make_cells, read_copy};
 use seal_parts::SealLine;
 
 /// How many banks a log goes round, how many places a bank has, and how many cells the store has.

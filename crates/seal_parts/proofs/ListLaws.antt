@@ -1,5 +1,5 @@
 -- What the operations of a part in memory make of its list, they make of its banks.
-use Rattle.std.proofs.Common.{◌≡◌, ◌≢◌, ◌⊎◌, inl, inr, ℕ, zero, suc, ◌+◌, ◌*◌, ◌%◌, ◌<◌, ◌≤◌, Bool, true, false, not, nat_lt, Option, Some, None, List, [], ◌∷◌, replicate, set, get_or, length, refl, sym, ap, subst, ◌∙◌, if◌then◌else◌, arith}
+use Rattle.std.proofs.Common.{◌≡◌, ◌≢◌, ◌⊎◌, inl, inr, ℕ, zero, suc, ◌+◌, ◌*◌, ◌%◌, ◌<◌, ◌≤◌, Bool, true, false, not, Some, List, [], ◌∷◌, replicate, set, get_or, length, refl, sym, ap, subst, ◌∙◌, if◌then◌else◌, arith}
 use Rattle.std.proofs.lemmas.Bool.{cases_lt, cases_eq, lt-ltb, le-ltb}
 use Rattle.std.proofs.Math.Nat.{mul-le-mul_right}
 use Rattle.seal_parts.specs.declared.PartClass.{PartClass}
@@ -9,7 +9,7 @@ use Rattle.seal_parts.specs.declared.UnitContent.{UnitContent}
 use Rattle.seal_parts.specs.declared.UnitContent.TheVariants.{Mark}
 use Rattle.seal_parts.specs.declared.UnitAnswer.{UnitAnswer}
 use Rattle.seal_parts.specs.declared.mem_part.MemUnit.{MemUnit}
-use Rattle.seal_parts.specs.Parts.{PartUnit, PartFlash, FitsUnit, MayProgram, SameBanks, ErasesBank, MayBeLeft, stays, shows, CutsBankErase, SameButUnit, ProgramsUnit, CutsProgramming, MayAnswer, ReadsUnit, unit_after, blank_unit, whole_unit}
+use Rattle.seal_parts.specs.Parts.{PartUnit, FitsUnit, MayProgram, SameBanks, ErasesBank, MayBeLeft, stays, shows, CutsBankErase, SameButUnit, ProgramsUnit, CutsProgramming, MayAnswer, ReadsUnit, unit_after, blank_unit, whole_unit}
 use Rattle.seal_parts.specs.Memory.{unit_number, unit_of, unit_in, part_in}
 use Rattle.seal_parts.proofs.Units.{same_number, IsOther}
 

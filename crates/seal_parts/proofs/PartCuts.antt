@@ -1,5 +1,5 @@
 -- A life whose first write is a program, and a put that is one program.
-use Rattle.std.proofs.Common.{◌≡◌, ◌⊎◌, inl, inr, ℕ, Bool, true, false, Some, None, List, [], ◌∷◌, ◌++◌, refl, sym, ap, subst, ◌∙◌}
+use Rattle.std.proofs.Common.{◌≡◌, ◌⊎◌, inl, inr, ℕ, Bool, false, Some, None, List, [], ◌∷◌, ◌++◌, refl, sym, ap, subst, ◌∙◌}
 use Rattle.std.proofs.lemmas.Bool.{true≢false}
 use Rattle.seal_parts.specs.declared.PartClass.{PartClass}
 use Rattle.seal_parts.specs.declared.PartClass.TheVariants.{Guards, Blanks, Settled}
@@ -7,9 +7,9 @@ use Rattle.seal_parts.specs.declared.UnitKind.{UnitKind}
 use Rattle.seal_parts.specs.declared.UnitContent.{UnitContent}
 use Rattle.seal_parts.specs.declared.UnitAnswer.{UnitAnswer}
 use Rattle.seal_parts.specs.declared.UnitAnswer.TheVariants.{Whole, Blank, Nothing}
-use Rattle.seal_parts.specs.Parts.{PartUnit, PartFlash, PartView, IsGuard, MayProgram, is_blank, is_open, FitsUnit, ProgramsUnit, CutsProgramming, MayAnswer, is_whole, is_told, is_nothing, unit_after, ReadsPart, blank_unit, whole_unit}
+use Rattle.seal_parts.specs.Parts.{PartUnit, PartFlash, PartView, IsGuard, MayProgram, is_blank, is_open, FitsUnit, ProgramsUnit, CutsProgramming, MayAnswer, is_whole, is_told, is_nothing, unit_after, ReadsUnits, blank_unit}
 use Rattle.seal_parts.specs.Designs.{PartWrite, programs_unit, PartDesign, PartLife, cut_life, LivesOnPart, PartLives, DoesPartWrites, CutsPartWrites, MayDoPartWrites, KeepsDuties, NoFalseAlarm, LosesUnit}
-use Rattle.seal_parts.proofs.Units.{IsUnit, IsOther, at_tells, set_unit, set_here, set_there}
+use Rattle.seal_parts.proofs.Units.{IsUnit, at_tells, set_unit, set_here, set_there}
 
 lives_then : (class : PartClass) (d : PartDesign) (lives : List PartLife) (life : PartLife) (start f g : PartFlash) → PartLives class d lives start f → LivesOnPart class d life f g
     → PartLives class d (lives ++ life ∷ []) start g
@@ -46,7 +46,7 @@ abbrev pub loose_unit : UnitContent → PartUnit
 loose_unit content = record { content = Some content; firm = false }
 
 module _ (class : PartClass) (other : class ≡ Blanks → ⊥) (d : PartDesign) (start f g : PartFlash) (lives : List PartLife) (view : PartView) (value bank place : ℕ) (kind : UnitKind)
-    (content : UnitContent) (rest : List PartWrite) (keeps : KeepsDuties class d start) (run : PartLives class d lives start f) (reads : ReadsPart class f view g)
+    (content : UnitContent) (rest : List PartWrite) (keeps : KeepsDuties class d start) (run : PartLives class d lives start f) (reads : ReadsUnits class f view g)
     (is : d.writes view value ≡ programs_unit bank place kind content ∷ rest) where
   abbrev c : PartFlash
   c = set_unit bank place kind (loose_unit content) g
@@ -111,7 +111,7 @@ module _ (class : PartClass) (other : class ≡ Blanks → ⊥) (d : PartDesign)
   ]
 
 pub first_program : (class : PartClass) (d : PartDesign) (start f g : PartFlash) (lives : List PartLife) (view : PartView) (value bank place : ℕ) (kind : UnitKind)
-    (content : UnitContent) (rest : List PartWrite) → KeepsDuties class d start → PartLives class d lives start f → ReadsPart class f view g
+    (content : UnitContent) (rest : List PartWrite) → KeepsDuties class d start → PartLives class d lives start f → ReadsUnits class f view g
     → d.writes view value ≡ programs_unit bank place kind content ∷ rest → (class ≡ Blanks) ⊎ ((class ≡ Guards) × IsGuard kind)
 first_program Guards d start f g lives view value bank place kind content rest keeps run reads is =
     inr (guard_or_told Guards (λ e. absurd (cc)) d start f g lives view value bank place kind content rest keeps run reads is)
@@ -131,8 +131,8 @@ lost_is_cut class bank place kind content g h lost p loses = record {
 }
 
 pub loss_not_told : (class : PartClass) (d : PartDesign) (start f g h lost after : PartFlash) (lives : List PartLife) (view now : PartView) (value bank place : ℕ) (kind : UnitKind)
-    (content : UnitContent) → NoFalseAlarm class d start → PartLives class d lives start f → ReadsPart class f view g → d.writes view value ≡ programs_unit bank place kind content ∷ []
-    → DoesPartWrites class (d.writes view value) g h → LosesUnit bank place kind h lost → ReadsPart class lost now after → d.tells_loss now ≡ false
+    (content : UnitContent) → NoFalseAlarm class d start → PartLives class d lives start f → ReadsUnits class f view g → d.writes view value ≡ programs_unit bank place kind content ∷ []
+    → DoesPartWrites class (d.writes view value) g h → LosesUnit bank place kind h lost → ReadsUnits class lost now after → d.tells_loss now ≡ false
 loss_not_told class d start f g h lost after lives view now value bank place kind content alarm run reads is does loses again =
     let done : DoesPartWrites class (programs_unit bank place kind content ∷ []) g h = subst (λ (ws : List PartWrite). DoesPartWrites class ws g h) is does in
     let p : ProgramsUnit class bank place kind content g h = subst (λ (z : PartFlash). ProgramsUnit class bank place kind content g z) (sym done.1.1) done.1.0 in

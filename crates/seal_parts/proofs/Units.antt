@@ -1,10 +1,9 @@
 -- One unit of a flash is another.
 use Rattle.std.specs.Prelude.{◌&&◌}
-use Rattle.std.proofs.Common.{◌≡◌, ◌≢◌, ◌⊎◌, inl, inr, ℕ, Bool, true, false, nat_eq, if◌then◌else◌, Some, refl, sym, ap, ◌∙◌}
+use Rattle.std.proofs.Common.{◌≡◌, ◌≢◌, ◌⊎◌, inl, inr, ℕ, Bool, true, false, nat_eq, if◌then◌else◌, refl, ap}
 use Rattle.std.proofs.lemmas.Bool.Decides.{eqb_tells}
 use Rattle.seal_parts.specs.declared.UnitKind.{UnitKind}
 use Rattle.seal_parts.specs.declared.UnitKind.TheVariants.{Guard, SecondGuard, Line, Confirm, SecondConfirm}
-use Rattle.seal_parts.specs.declared.UnitContent.{UnitContent}
 use Rattle.seal_parts.specs.Parts.{PartUnit, PartFlash}
 use Rattle.seal_parts.specs.Memory.{unit_number}
 

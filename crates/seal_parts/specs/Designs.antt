@@ -3,7 +3,8 @@ use Rattle.std.specs.Prelude.{◌≡◌, ◌⊎◌, ℕ, Bool, false, None, List
 use Rattle.seal_parts.specs.declared.PartClass.{PartClass}
 use Rattle.seal_parts.specs.declared.UnitKind.{UnitKind}
 use Rattle.seal_parts.specs.declared.UnitContent.{UnitContent}
-use Rattle.seal_parts.specs.Parts.{PartFlash, PartView, SameButUnit, MayProgram, FitsUnit, ErasesBank, CutsBankErase, ProgramsUnit, CutsProgramming, ReadsPart}
+use Rattle.seal_parts.specs.Parts.{PartFlash, PartView, SameButUnit, MayProgram, FitsUnit, ErasesBank, CutsBankErase}
+use Rattle.seal_parts.specs.Parts.{ProgramsUnit, CutsProgramming, ReadsUnits}
 
 pub data PartWrite : Type 0 where
   erases_bank : (bank : ℕ) → PartWrite
@@ -20,7 +21,8 @@ pub record PartDesign : Type 0 where
 
 abbrev pub MayWritePart : PartClass → PartWrite → PartFlash → Type 0
 MayWritePart class (erases_bank bank) f = Unit {0}
-MayWritePart class (programs_unit bank place kind content) f = MayProgram class kind f bank place × FitsUnit kind content
+MayWritePart class (programs_unit bank place kind content) f =
+    MayProgram class kind f bank place × FitsUnit kind content
 
 abbrev pub DoesPartWrite : PartClass → PartWrite → PartFlash → PartFlash → Type 0
 DoesPartWrite class (erases_bank bank) f g = ErasesBank bank f g
@@ -40,7 +42,8 @@ DoesPartWrites class (write ∷ writes) f h =
 abbrev pub CutsPartWrites : PartClass → List PartWrite → PartFlash → PartFlash → Type 0
 CutsPartWrites class [] f h = ⊥
 CutsPartWrites class (write ∷ writes) f h =
-    CutsPartWrite class write f h ⊎ ((g : PartFlash) × (DoesPartWrite class write f g × CutsPartWrites class writes g h))
+    CutsPartWrite class write f h
+    ⊎ ((g : PartFlash) × (DoesPartWrite class write f g × CutsPartWrites class writes g h))
 
 -- each of them may be done when its turn comes
 abbrev pub MayDoPartWrites : PartClass → List PartWrite → PartFlash → Type 0
@@ -55,9 +58,9 @@ pub data PartLife : Type 0 where
 
 abbrev pub LivesOnPart : PartClass → PartDesign → PartLife → PartFlash → PartFlash → Type 0
 LivesOnPart class d (whole_life view value) f h =
-    (g : PartFlash) × (ReadsPart class f view g × DoesPartWrites class (d.writes view value) g h)
+    (g : PartFlash) × (ReadsUnits class f view g × DoesPartWrites class (d.writes view value) g h)
 LivesOnPart class d (cut_life view value) f h =
-    (g : PartFlash) × (ReadsPart class f view g × CutsPartWrites class (d.writes view value) g h)
+    (g : PartFlash) × (ReadsUnits class f view g × CutsPartWrites class (d.writes view value) g h)
 
 abbrev pub PartLives : PartClass → PartDesign → List PartLife → PartFlash → PartFlash → Type 0
 PartLives class d [] f h = h ≡ f
@@ -66,12 +69,12 @@ PartLives class d (life ∷ lives) f h = (g : PartFlash) × (LivesOnPart class d
 -- in no life a unit is programmed that may not be
 abbrev pub KeepsDuties : PartClass → PartDesign → PartFlash → Type 0
 KeepsDuties class d start = (lives : List PartLife) (f g : PartFlash) (view : PartView) (value : ℕ)
-    → PartLives class d lives start f → ReadsPart class f view g → MayDoPartWrites class (d.writes view value) g
+    → PartLives class d lives start f → ReadsUnits class f view g → MayDoPartWrites class (d.writes view value) g
 
 -- A start says that a put was lost only if one was: never on a flash that keeps its duties.
 abbrev pub NoFalseAlarm : PartClass → PartDesign → PartFlash → Type 0
 NoFalseAlarm class d start = (lives : List PartLife) (f g : PartFlash) (view : PartView)
-    → PartLives class d lives start f → ReadsPart class f view g → d.tells_loss view ≡ false
+    → PartLives class d lives start f → ReadsUnits class f view g → d.tells_loss view ≡ false
 
 -- this unit is read no more; all else is as before
 pub record LosesUnit (bank place : ℕ) (kind : UnitKind) (f g : PartFlash) : Type 0 where

@@ -25,6 +25,7 @@ unit_in (u ∷ us) (suc k) = unit_in us k
 -- banks of so many places, one after the other, and blank units after each
 abbrev pub part_in : ℕ → List Bool → List MemUnit → PartFlash
 part_in places erased held = record {
-  unit = λ bank k kind. if nat_lt k places then unit_in held (bank * (places * 5) + (k * 5 + unit_number kind)) else blank_unit;
+  unit = λ bank k kind.
+      if nat_lt k places then unit_in held (bank * (places * 5) + (k * 5 + unit_number kind)) else blank_unit;
   is_erased = λ bank. get_or erased bank false;
 }

@@ -4,7 +4,7 @@ use Rattle.std.specs.Prelude.{◌≡◌, ◌≢◌, ◌⊎◌, ℕ, Bool, true, 
 use Rattle.seal_parts.specs.declared.PartClass.{PartClass}
 use Rattle.seal_parts.specs.declared.PartClass.TheVariants.{Guards, Blanks, Settled}
 use Rattle.seal_parts.specs.declared.UnitKind.{UnitKind}
-use Rattle.seal_parts.specs.declared.UnitKind.TheVariants.{Guard, SecondGuard, Line, Confirm, SecondConfirm}
+use Rattle.seal_parts.specs.declared.UnitKind.TheVariants.{Guard, SecondGuard, Line}
 use Rattle.seal_parts.specs.declared.UnitContent.{UnitContent}
 use Rattle.seal_parts.specs.declared.UnitContent.TheVariants.{Mark, Holds}
 use Rattle.seal_parts.specs.declared.UnitAnswer.{UnitAnswer}
@@ -99,9 +99,11 @@ pub record CutsProgramming (class : PartClass) (bank place : ℕ) (kind : UnitKi
 abbrev pub MayBeUnseen : PartUnit → Type 0
 MayBeUnseen u = (u.content ≡ None) ⊎ (u.firm ≡ false)
 
--- On a part of blanks `Blank` is answered of each blank unit of a bank whose erase was done, and of no other unit of it.
+-- On a part of blanks `Blank` is answered of each blank unit of a bank whose erase was done, and of no other unit of
+-- it.
 pub data MayAnswer (class : PartClass) (erased : Bool) (u : PartUnit) (answer : UnitAnswer) : Type 0 where
-  is_whole : (content : UnitContent) → u.content ≡ Some content → answer ≡ Whole content → MayAnswer class erased u answer
+  is_whole : (content : UnitContent) → u.content ≡ Some content → answer ≡ Whole content
+      → MayAnswer class erased u answer
   is_told : class ≡ Blanks → MayBeUnseen u → (erased ≡ true → u ≡ blank_unit) → answer ≡ Blank
       → MayAnswer class erased u answer
   is_nothing : MayBeUnseen u → (class ≡ Blanks → erased ≡ true → u ≢ blank_unit) → answer ≡ Nothing
@@ -123,9 +125,10 @@ pub record ReadsUnit (class : PartClass) (bank place : ℕ) (kind : UnitKind) (a
 abbrev pub PartView : Type 0
 PartView = ℕ → ℕ → UnitKind → UnitAnswer
 
-pub record ReadsPart (class : PartClass) (f : PartFlash) (view : PartView) (g : PartFlash) : Type 0 where
+pub record ReadsUnits (class : PartClass) (f : PartFlash) (view : PartView) (g : PartFlash) : Type 0 where
   pub may : (bank k : ℕ) (kind : UnitKind) → MayAnswer class (f.is_erased bank) (f.unit bank k kind) (view bank k kind)
-  pub now : (bank k : ℕ) (kind : UnitKind) → g.unit bank k kind ≡ unit_after class (view bank k kind) (f.unit bank k kind)
+  pub now : (bank k : ℕ) (kind : UnitKind)
+      → g.unit bank k kind ≡ unit_after class (view bank k kind) (f.unit bank k kind)
   pub erased : (bank : ℕ) → g.is_erased bank ≡ f.is_erased bank
 
 pub record SamePart (f g : PartFlash) : Type 0 where

@@ -11,7 +11,8 @@
 
 ghost use Rattle.std.specs.Prelude.{◌≡◌, ◌<◌, IfOk, OnOk, OnErr};
 ghost use Rattle.basics.specs.FaultCount.{Rose};
-ghost use Rattle.seal_parts.specs.Parts.{MayProgram, FitsUnit, ErasesBank, CutsBankErase, ProgramsUnit, CutsProgramming};
+ghost use Rattle.seal_parts.specs.Parts.{MayProgram, FitsUnit, ErasesBank, CutsBankErase, ProgramsUnit};
+ghost use Rattle.seal_parts.specs.Parts.{CutsProgramming};
 ghost use Rattle.seal_parts.specs.Parts.{ReadsUnit, SamePart};
 ghost use Rattle.seal_parts.specs.State.{PartState, PartRuns, IsPart};
 
@@ -27,11 +28,11 @@ pub struct PartFailed;
 /// What a part or its driver promises, beside what all promise.
 #[derive(Clone, Copy, Debug, PartialEq, Eq, Drop)]
 pub enum PartClass {
-    /// A guard whose program was cut, and that isn't read, may be programmed again. If that is done, it is firm.
+    /// A guard whose program was cut may be programmed again, whether it is read or not. If that is done, it is firm.
     Guards,
     /// `Blank` is answered of each blank unit of a bank whose erase was done, and of no other unit of such a bank.
     Blanks,
-    /// What a start has read of a unit is read so ever after.
+    /// A content that a start has read is read ever after.
     Settled,
 }
 

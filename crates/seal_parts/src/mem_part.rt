@@ -1,5 +1,6 @@
 //! A part in memory.
-ghost use Rattle.std.specs.Prelude.{◌≡◌, ◌≢◌, ◌⊎◌, ◌+◌, ◌*◌, ◌%◌, ◌^◌, ◌<◌, ◌≤◌, ℕ, length, get_or, false, true, Some, None, not, is_ok, IfOk, OnOk, OnErr};
+ghost use Rattle.std.specs.Prelude.{◌≡◌, ◌≢◌, ◌⊎◌, ◌+◌, ◌*◌, ◌%◌, ◌^◌, ◌<◌, ◌≤◌, ℕ, length, get_or, false, true};
+ghost use Rattle.std.specs.Prelude.{Some, None, not, is_ok, IfOk, OnOk, OnErr};
 ghost use Rattle.basics.specs.FaultCount.{last_count};
 ghost use Rattle.seal_parts.specs.Parts.{blank_unit, MayAnswer, MayBeLeft, unit_after};
 ghost use Rattle.seal_parts.specs.Memory.{unit_in, unit_number};
@@ -24,7 +25,8 @@ const BLANK: MemUnit = MemUnit {
 };
 
 /// A part in memory. Its calls fail exactly if a stop or an arm says so. A program that fails leaves its content, not
-/// firm. An erase that fails leaves each unit with its content, not firm, and as the pattern says marks where none were.
+/// firm. An erase that fails leaves each unit with its content, not firm. As the pattern says, it leaves marks where
+/// none were.
 #[derive(Drop)]
 pub struct MemPart {
     /// The units of the first place of the first bank, then those of its second place, and so on.
@@ -51,7 +53,7 @@ impl MemPart {
     ghost use Rattle.cut_disk.specs.Arming.{no_arms, with_stop, with_fail, after_cut};
     ghost use Rattle.seal_parts.specs.MemPart.{memory_part};
 
-    /// A blank part of this class, none of whose calls fails until one is armed, and that shows nothing that it needn't.
+    /// A blank part of this class, none of whose calls fails until one is armed. It shows nothing that it needn't.
     pub fn new(
         alloc: Global,
         class: PartClass,
@@ -64,7 +66,8 @@ impl MemPart {
         ensures banks { IfOk result (λ m. (memory_part m).banks ≡ banks) }
         ensures places { IfOk result (λ m. (memory_part m).places ≡ places) }
         ensures arms { IfOk result (λ m. m.arms ≡ no_arms) }
-        ensures blank { IfOk result (λ m. (bank k : ℕ) (kind : UnitKind) → (memory_part m).flash.unit bank k kind ≡ blank_unit) }
+        ensures blank { IfOk result (λ m. (bank k : ℕ) (kind : UnitKind)
+            → (memory_part m).flash.unit bank k kind ≡ blank_unit) }
         ensures erased { IfOk result (λ m. (bank : ℕ) → bank < 16 → (memory_part m).flash.is_erased bank ≡ true) }
     {
         Ok(MemPart {
@@ -116,7 +119,8 @@ impl MemPart {
 impl SealPart for MemPart {
     ghost use Rattle.basics.specs.FaultCount.{Rose};
     ghost use Rattle.cut_disk.specs.Arming.{fails, after_call};
-    ghost use Rattle.seal_parts.specs.Parts.{MayProgram, FitsUnit, ErasesBank, CutsBankErase, ProgramsUnit, CutsProgramming};
+    ghost use Rattle.seal_parts.specs.Parts.{MayProgram, FitsUnit, ErasesBank, CutsBankErase, ProgramsUnit};
+    ghost use Rattle.seal_parts.specs.Parts.{CutsProgramming};
     ghost use Rattle.seal_parts.specs.Parts.{ReadsUnit, SamePart};
     ghost use Rattle.seal_parts.specs.State.{PartRuns};
     ghost use Rattle.seal_parts.specs.MemPart.{memory_part};
@@ -266,7 +270,7 @@ fn blank_range(held: &mut Vec<MemUnit>, start: usize, end: usize)
     }
 }
 
-/// What an erase that was cut leaves of the unit of this number: its content, or a mark if one fits and marks are shown.
+/// What an erase that was cut leaves of the unit of this number: its content, or a mark if one fits.
 fn left_of(i: usize, content: Option<UnitContent>, shows: bool) -> Option<UnitContent>
     ensures { (result ≡ content) ⊎ ((i % 5 ≢ 2) × (result ≡ Some Mark)) }
 {
@@ -276,7 +280,7 @@ fn left_of(i: usize, content: Option<UnitContent>, shows: bool) -> Option<UnitCo
     content
 }
 
-/// Leaves each of so many units from one on not firm: with its content, or if marks are shown, with a mark where one fits.
+/// Leaves each of so many units from one on not firm, with its content or a mark.
 fn loosen_range(held: &mut Vec<MemUnit>, start: usize, units: usize, shows: bool)
     requires inside { start + units ≤ length held.old.items }
     ensures same { length held.new.items ≡ length held.old.items }
@@ -306,7 +310,7 @@ fn settles(class: PartClass) -> bool
     }
 }
 
-/// Whether a unit without content is told as blank: if its bank's erase was done, exactly if it is, and else as it comes.
+/// Whether a unit without content is told as blank: if its bank's erase was done, exactly if it is; else as it comes.
 fn is_told_blank(class: PartClass, is_erased: bool, firm: bool, shows: bool) -> bool
     ensures class { result ≡ true → class ≡ Blanks }
     ensures firm { result ≡ true → is_erased ≡ true → firm ≡ true }

@@ -1,5 +1,5 @@
 -- What a task over bytes comes to has one status
-use Rattle.std.proofs.Common.{◌≡◌, ◌⊎◌, ◌∙◌, ℕ, ◌+◌, ◌≤◌, true, false, List, [], ◌∷◌, ◌++◌, length, refl, sym, ap, subst, inl, inr, arith}
+use Rattle.std.proofs.Common.{◌≡◌, ◌⊎◌, ◌∙◌, ℕ, ◌+◌, ◌≤◌, true, false, List, [], ◌∷◌, ◌++◌, length, refl, sym, ap, subst, arith}
 use Rattle.std.specs.Prelude.{Option, Some, None, slice_index_or}
 use Rattle.cell_store.specs.declared.kinds.Kind.{Kind}
 use Rattle.cell_store.specs.declared.kinds.Kind.TheVariants.{Twin, Log}
@@ -9,7 +9,6 @@ use Rattle.key_slots.specs.Authority.{is_pair}
 use Rattle.key_slots.specs.declared.memory.Slot.{Slot}
 use Rattle.slot_disk.specs.Cell.{HoldsSlot}
 use Rattle.slot_disk.proofs.CallerLemmas.{one_slot}
-use Rattle.freshness_store.specs.Bound.{HoldsBound}
 use Rattle.freshness_routes.specs.declared.routes.Route.{Route}
 use Rattle.program_edge.specs.Rows.{Row}
 use Rattle.key_commands.specs.declared.finding.CountingStore.{CountingStore}
@@ -18,13 +17,13 @@ use Rattle.key_commands.specs.Opening.{layout_of}
 use Rattle.key_commands.proofs.CallerLemmas.{counts_once}
 use Rattle.slot_commands.specs.declared.tasks.ReplyAsked.{ReplyAsked}
 use Rattle.slot_commands.specs.declared.tasks.SlotTask.{SlotTask}
-use Rattle.slot_commands.specs.Cells.{slot_count, FindsInCell, damaged, no_slot_there, no_bound_there, good_slot, good_bound}
-use Rattle.slot_commands.specs.RouteFindings.{FindsAt, FindsOverRoutes, as_slot, no_copy, no_route, not_its_bound, its_bound, lacking_lines}
+use Rattle.slot_commands.specs.Cells.{slot_count, FindsInCell}
+use Rattle.slot_commands.specs.RouteFindings.{FindsAt, FindsOverRoutes, lacking_lines}
 use Rattle.slot_commands.specs.Stores.{HoldsStore, ListsStore, ChecksStore, NoStoreIn, IsUnreadable, FindsFrom, at_end, a_finding, nothing}
-use Rattle.slot_commands.specs.Stores.{FindsInPlaces, FindsInStore, of_twin, of_log, of_damaged_log, no_header, none_counts, too_few, no_room, no_store}
-use Rattle.slot_commands.specs.Stores.{FindsLayout, none_wanted, as_wanted, another}
+use Rattle.slot_commands.specs.Stores.{FindsInPlaces, FindsInStore, of_twin, of_log, of_damaged_log, no_store}
+use Rattle.slot_commands.specs.Stores.{FindsLayout}
 use Rattle.slot_commands.specs.Stores as stores
-use Rattle.slot_commands.specs.Replies.{HasSlotCell, SlotReplies, CellReplies, RepliesFrom, empty, replied, bad_slot, of_slot, bad_pair, unreadable, of_cell}
+use Rattle.slot_commands.specs.Replies.{HasSlotCell, SlotReplies, CellReplies, RepliesFrom, bad_slot, of_slot, bad_pair, unreadable, of_cell}
 use Rattle.slot_commands.specs.SlotRows.{DoesSlotTask, listed, not_listed, found_nothing, not_checked}
 use Rattle.slot_commands.specs.SlotRows as rows
 
@@ -47,16 +46,7 @@ header_room found x room = omega (arith, room, some_size found.kind found.cells)
 -- one that counts, is wide and has room is no reason why there is none
 pub has_store : (x : List ℕ) (found : CountingStore) (row : Row) → StoreThatCounts x (Some found) → slot_count ≤ found.cells
     → store_size (layout_of found) found.cells ≤ length x → NoStoreIn x row → ⊥
-has_store x found row counts wide room (no_header small) = omega (arith, small, header_room found x room)
-has_store x found row counts wide room (none_counts header none) = none_and_some x found none counts
-has_store x found row counts wide room (too_few other also few) =
-    let same : other.cells ≡ found.cells = ap (λ (s : CountingStore). s.cells) (same_found x other found also counts) in
-    omega (arith, few, same, wide)
-has_store x found row counts wide room (no_room other also enough small) =
-    let same = same_found x other found also counts in
-    let sized : store_size (layout_of other) other.cells ≡ store_size (layout_of found) found.cells =
-    ap (λ (s : CountingStore). store_size (layout_of s) s.cells) same in
-    omega (arith, small, sized, room)
+has_store x found row counts wide room none = grind (arith, header_room, none_and_some, same_found)
 
 room_of : (x : List ℕ) (found : CountingStore) (cells : List (List ℕ)) → HoldsStore x found cells
     → store_size (layout_of found) found.cells ≤ length x
@@ -80,60 +70,22 @@ same_cells x found other cells more first second =
 -- ---- rows of 9
 
 pub no_store_row : (x : List ℕ) (row : Row) → NoStoreIn x row → row.status ≡ 9
-no_store_row x row (no_header small) = refl
-no_store_row x row (none_counts header none) = refl
-no_store_row x row (too_few found counts few) = refl
-no_store_row x row (no_room found counts wide small) = refl
+no_store_row x row none = grind arith
 
 pub unreadable_row : (x : List ℕ) (row : Row) → IsUnreadable x row → row.status ≡ 9
-unreadable_row x row (no_store _ none) = no_store_row x row none
-unreadable_row x row (stores.damaged found place counts wide room first) = refl
+unreadable_row x row not = grind (arith, no_store_row)
 
 -- ---- findings
 
 -- a cell that is good isn't bad
 good_once : (place : ℕ) (a b : Option (List ℕ)) (o q : Option (List (List ℕ))) → FindsInCell place a o → FindsInCell place b q
     → a ≡ b → o ≡ None → q ≡ None
-good_once place a b o q damaged second same none = cc none
-good_once place a b o q (no_slot_there cell below not) second same none = cc none
-good_once place a b o q (no_bound_there cell from not) second same none = cc none
-good_once place a b o q (good_slot cell slot below holds) damaged same none = cc same
-good_once place a b o q (good_slot cell slot below holds) (no_slot_there other low not) same none =
-    let is : cell ≡ other = cc same in
-    absurd (not slot (subst (λ (c : List ℕ). HoldsSlot c slot) is holds))
-good_once place a b o q (good_slot cell slot below holds) (no_bound_there other from not) same none = absurd (omega (arith, below, from))
-good_once place a b o q (good_slot cell slot below holds) (good_slot other that low also) same none = refl
-good_once place a b o q (good_slot cell slot below holds) (good_bound other id direction bound from also) same none = refl
-good_once place a b o q (good_bound cell id direction bound from holds) damaged same none = cc same
-good_once place a b o q (good_bound cell id direction bound from holds) (no_slot_there other low not) same none = absurd (omega (arith, low, from))
-good_once place a b o q (good_bound cell id direction bound from holds) (no_bound_there other high not) same none =
-    let is : cell ≡ other = cc same in
-    absurd (not id direction bound (subst (λ (c : List ℕ). HoldsBound c id direction bound) is holds))
-good_once place a b o q (good_bound cell id direction bound from holds) (good_slot other that low also) same none = refl
-good_once place a b o q (good_bound cell id direction bound from holds) (good_bound other i d n high also) same none = refl
+good_once place a b o q first second same none = grind arith
 
 -- nor is one that is good over routes
 over_once : (routes : List Route) (place : ℕ) (a b : Option (List ℕ)) (o q : Option (List (List ℕ))) → FindsOverRoutes routes place a o
     → FindsOverRoutes routes place b q → a ≡ b → o ≡ None → q ≡ None
-over_once routes place a b o q (as_slot _ _ low finds) (as_slot _ _ also others) same none = good_once place a b o q finds others same none
-over_once routes place a b o q (as_slot _ _ low finds) (no_copy from) same none = absurd (omega (arith, low, from))
-over_once routes place a b o q (as_slot _ _ low finds) (no_route cell from at) same none = absurd (omega (arith, low, from))
-over_once routes place a b o q (as_slot _ _ low finds) (not_its_bound cell route from at not) same none = absurd (omega (arith, low, from))
-over_once routes place a b o q (as_slot _ _ low finds) (its_bound cell route bound from at holds) same none = refl
-over_once routes place a b o q (no_copy from) second same none = cc none
-over_once routes place a b o q (no_route cell from at) second same none = cc none
-over_once routes place a b o q (not_its_bound cell route from at not) second same none = cc none
-over_once routes place a b o q (its_bound cell route bound from at holds) (as_slot _ _ low finds) same none = absurd (omega (arith, low, from))
-over_once routes place a b o q (its_bound cell route bound from at holds) (no_copy also) same none = cc same
-over_once routes place a b o q (its_bound cell route bound from at holds) (no_route other also not) same none =
-    let clash : Some route ≡ None = sym at ∙ not in cc clash
-over_once routes place a b o q (its_bound cell route bound from at holds) (not_its_bound other that also there not) same none =
-    let is : cell ≡ other = cc same in
-    let route_is : Some route ≡ Some that = sym at ∙ there in
-    let such : route ≡ that = cc route_is in
-    absurd (not bound (subst (λ (r : Route). HoldsBound other r.id r.direction bound) such
-    (subst (λ (c : List ℕ). HoldsBound c route.id route.direction bound) is holds)))
-over_once routes place a b o q (its_bound cell route bound from at holds) (its_bound other that more also there held) same none = refl
+over_once routes place a b o q first second same none = grind (arith, good_once)
 
 find_once : (routes : Option (List Route)) (place : ℕ) (a b : Option (List ℕ)) (o q : Option (List (List ℕ))) → FindsAt routes place a o
     → FindsAt routes place b q → a ≡ b → o ≡ None → q ≡ None
@@ -177,15 +129,7 @@ no_parts (word ∷ a) b is = cc is
 -- what is found of kind and version, if nothing is
 layout_once : (found : CountingStore) (a b : Option CountingStore) (f g : List (List (List ℕ))) → FindsLayout found a f → FindsLayout found b g → a ≡ b
     → f ≡ [] → g ≡ []
-layout_once found a b f g none_wanted none_wanted same none = refl
-layout_once found a b f g none_wanted (as_wanted wanted is) same none = refl
-layout_once found a b f g none_wanted (another wanted other) same none = cc same
-layout_once found a b f g (as_wanted wanted is) none_wanted same none = refl
-layout_once found a b f g (as_wanted wanted is) (as_wanted also at) same none = refl
-layout_once found a b f g (as_wanted wanted is) (another also other) same none =
-    let such : wanted ≡ also = cc same in
-    absurd (other (is ∙ ap layout_of such))
-layout_once found a b f g (another wanted other) second same none = cc none
+layout_once found a b f g first second same none = grind arith
 
 -- what is found in a store, if nothing is
 nothing_once : (wanted : Option CountingStore) (routes : Option (List Route)) (x : List ℕ) (found : CountingStore) (f g : List (List (List ℕ)))
@@ -220,10 +164,7 @@ same_slot x id cell other (found, cells, holds, is) (more, others, held, at) =
 
 slot_once : (a : ReplyAsked) (slot that : Slot) (row other : Row) → SlotReplies a slot row → SlotReplies a that other → slot ≡ that
     → row.status ≡ other.status
-slot_once a slot that row other empty empty same = refl
-slot_once a slot that row other empty (replied key counter flags reply confirms) same = cc same
-slot_once a slot that row other (replied key counter flags reply confirms) empty same = cc same
-slot_once a slot that row other (replied key counter flags reply confirms) (replied key' counter' flags' reply' confirms') same = refl
+slot_once a slot that row other replies others same = grind arith
 
 cell_once : (a : ReplyAsked) (cell that : List ℕ) (row other : Row) → CellReplies a cell row → CellReplies a that other → cell ≡ that
     → row.status ≡ other.status
@@ -236,9 +177,7 @@ cell_once a cell that row other (of_slot slot _ holds replies) (of_slot slot' _ 
     slot_once a slot slot' row other replies replies' (one_slot cell slot slot' holds (subst (λ (c : List ℕ). HoldsSlot c slot') (sym same) held))
 
 cell_status : (a : ReplyAsked) (cell : List ℕ) (row : Row) → CellReplies a cell row → IsTaskStatus row.status
-cell_status a cell row (bad_slot none) = inr (inr refl)
-cell_status a cell row (of_slot _ _ holds empty) = inr (inl refl)
-cell_status a cell row (of_slot _ _ holds (replied key counter flags reply confirms)) = inl refl
+cell_status a cell row replies = grind arith
 
 read_clash : (x : List ℕ) (id : ℕ) (cell : List ℕ) (row : Row) → HasSlotCell x id cell → IsUnreadable x row → ⊥
 read_clash x id cell row (found, cells, holds, is) not = held_read x found cells row holds not
@@ -258,17 +197,10 @@ replies_once x a row other (of_cell cell _ pair has replies) (of_cell that _ als
 -- ---- tasks
 
 reply_status : (x : List ℕ) (a : ReplyAsked) (row : Row) → RepliesFrom x a row → IsTaskStatus row.status
-reply_status x a row (bad_pair not) = inr (inl refl)
-reply_status x a row (unreadable _ pair un) = inr (inr (unreadable_row x row un))
-reply_status x a row (of_cell cell _ pair has replies) = cell_status a cell row replies
+reply_status x a row replies = grind (arith, unreadable_row, cell_status)
 
 pub task_status : (x : List ℕ) (asked : SlotTask) (row : Row) → DoesSlotTask x asked row → IsTaskStatus row.status
-task_status x asked row (listed text lists) = inl refl
-task_status x asked row (not_listed _ not) = inr (inr (unreadable_row x row not))
-task_status x asked row (found_nothing text checks) = inl refl
-task_status x asked row (rows.found findings text some checks) = inr (inl refl)
-task_status x asked row (not_checked _ none) = inr (inr (no_store_row x row none))
-task_status x asked row (rows.replied a _ replies) = reply_status x a row replies
+task_status x asked row does = grind (arith, unreadable_row, no_store_row, reply_status)
 
 -- the bytes have a store that can be checked
 pub check_clash : (wanted : Option CountingStore) (routes : Option (List Route)) (x text : List ℕ) (findings : List (List (List ℕ))) (row : Row)

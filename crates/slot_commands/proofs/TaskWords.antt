@@ -11,27 +11,18 @@ few_ask_nothing (a ∷ []) few = refl
 few_ask_nothing (a ∷ b ∷ words) few = absurd (let no_such : ⊥ = omega (arith, few) in no_such)
 
 pub some_ask_nothing : (words : List (String Global)) → 3 ≤ length words → length words < 5 → slots_asked (map string_bytes words) ≡ None
-some_ask_nothing [] more few = absurd (let no_such : ⊥ = omega (arith, more) in no_such)
-some_ask_nothing (a ∷ []) more few = absurd (let no_such : ⊥ = omega (arith, more) in no_such)
-some_ask_nothing (a ∷ b ∷ []) more few = absurd (let no_such : ⊥ = omega (arith, more) in no_such)
 some_ask_nothing (a ∷ b ∷ c ∷ []) more few = refl
 some_ask_nothing (a ∷ b ∷ c ∷ d ∷ []) more few = refl
-some_ask_nothing (a ∷ b ∷ c ∷ d ∷ e ∷ words) more few = absurd (let no_such : ⊥ = omega (arith, few) in no_such)
+some_ask_nothing words more few = absurd (omega arith)
 
 pub many_ask_nothing : (words : List (String Global)) → 6 ≤ length words → slots_asked (map string_bytes words) ≡ None
-many_ask_nothing [] more = absurd (let no_such : ⊥ = omega (arith, more) in no_such)
-many_ask_nothing (a ∷ []) more = absurd (let no_such : ⊥ = omega (arith, more) in no_such)
-many_ask_nothing (a ∷ b ∷ []) more = absurd (let no_such : ⊥ = omega (arith, more) in no_such)
-many_ask_nothing (a ∷ b ∷ c ∷ []) more = absurd (let no_such : ⊥ = omega (arith, more) in no_such)
-many_ask_nothing (a ∷ b ∷ c ∷ d ∷ []) more = absurd (let no_such : ⊥ = omega (arith, more) in no_such)
-many_ask_nothing (a ∷ b ∷ c ∷ d ∷ e ∷ []) more = absurd (let no_such : ⊥ = omega (arith, more) in no_such)
 many_ask_nothing (a ∷ b ∷ c ∷ d ∷ e ∷ f ∷ words) more = refl
+many_ask_nothing words more = absurd (omega arith)
 
 -- ---- values
 
 is_none : {A : Type 0} (o : Option A) → ((x : A) → ¬ (o ≡ Some x)) → o ≡ None
-is_none None other = refl
-is_none (Some x) other = absurd (other x refl)
+is_none o other = grind arith
 
 pub no_uid : (o : Option (List ℕ)) (uid id auth : List ℕ) → o ≡ engine_uid_form uid → ((x : List ℕ) → ¬ (o ≡ Some x))
     → Some (reply_asked uid id auth) ≡ Some (Err 2)

@@ -27,11 +27,11 @@ ReadsMapSource means map (Err row) = LacksMap means map row
 abbrev pub PreparesAudit : LogInputs → Result Audit Row → Type 0
 PreparesAudit i (Ok audit) =
     (length audit.log.items ≤ input_limit)
-    × OverAudit i (λ mapping log. (mapping ≡ audit.map.items) × (log ≡ audit.log.items))
+    × OverAudit i (λ mapping log. (mapping ≡ audit.map) × (log ≡ audit.log.items))
 PreparesAudit i (Err row) = ComesInAudit i row
 
 -- what the second phase ends in: exactly what is found is printed, or there was no memory for it
 pub data DoesAudit (audit : Audit) : Row → Type 0 where
-  found : (text : List ℕ) → TellsAudit audit.map.items audit.log.items text
+  found : (text : List ℕ) → TellsAudit audit.map audit.log.items text
       → DoesAudit audit (row_of 0 text)
   no_text : DoesAudit audit memory_row

@@ -2,7 +2,7 @@
 ghost use Rattle.std.specs.Prelude.{◌≡◌, ◌<◌, ◌^◌, ◌++◌, length, OnOk, IfOk};
 ghost use Rattle.trace_audit.specs.Auditing.{others_text, TellsAudit};
 
-use can_logs::{MapLine, counters_of, push_finding};
+use can_logs::{MapTable, counters_of, push_finding};
 use std::alloc::{AllocError, Global};
 use text_lines::Memory;
 use text_lines::forms::cut;
@@ -10,13 +10,13 @@ use text_lines::laws::places_are_those_of_the_words;
 use text_lines::words::Words;
 
 /// What is found of all lines, one after the other, and then the number of those that the map has no line for.
-pub fn audit_text(alloc: Global, map: &[MapLine], log: &[u8]) -> Result<Vec<u8>, Memory>
+pub fn audit_text(alloc: Global, map: &MapTable, log: &[u8]) -> Result<Vec<u8>, Memory>
     requires { length log.now < 2 ^ 32 }
     ensures { IfOk result (λ text. TellsAudit map.now log.now text.items) }
 {
     places_are_those_of_the_words();
     let cuts = cut(alloc, log)?;
-    let mut counters = counters_of(alloc, map)?;
+    let mut counters = counters_of(alloc, map.lines())?;
     let mut text = Vec::new(alloc);
     let mut others = 0usize;
     for line in cuts.as_slice() {

@@ -8,9 +8,9 @@ ghost use Rattle.trace_audit.specs.Steps.{PreparesAudit, DoesAudit};
 use crate::auditing::audit_text;
 use crate::map_source::read_map;
 use bus_port::{Sink, Source};
-use can_logs::{MapLine, names_inputs};
+use can_logs::{MapTable, names_inputs};
 use program_edge::{DONE, Refusal, read_input, tell, tell_refusal};
-use std::alloc::Global;
+use std::alloc::{AllocError, Global};
 use text_lines::Memory;
 
 /// Judges the frames of a log by a map, and gives the status that the program ends with. Two words, which name the map
@@ -46,7 +46,7 @@ const USAGE: &str = "usage: audit MAP LOG\n";
 /// What is audited: the lines of a map, and the bytes of a log.
 #[derive(Drop)]
 struct Audit {
-    map: Vec<MapLine>,
+    map: MapTable,
     log: Vec<u8>,
 }
 
@@ -71,7 +71,10 @@ fn prepare<S: Source, T: Source>(
     }
     let map = read_map(alloc, map)?;
     let log = read_input(alloc, log)?;
-    Ok(Audit { map, log })
+    match MapTable::of(alloc, map) {
+        Ok(map) => Ok(Audit { map, log }),
+        Err(AllocError) => Err(Refusal::no_memory()),
+    }
 }
 
 /// The second phase: what is found of the log is printed.
@@ -80,7 +83,7 @@ fn do_audit<K: Sink>(alloc: Global, audit: &Audit, sink: &mut K) -> u8
     ensures { EndsInRow (DoesAudit audit.now)
         (record { before = K.state sink.old; after = K.state sink.new; status = result }) }
 {
-    match audit_text(alloc, audit.map.as_slice(), audit.log.as_slice()) {
+    match audit_text(alloc, &audit.map, audit.log.as_slice()) {
         Ok(text) => tell(sink, text.as_slice(), DONE),
         Err(Memory) => tell_refusal(sink, &Refusal::no_memory()),
     }

@@ -202,7 +202,7 @@ impl Watch {
         let stamp = Stamp::of(&words);
         self.answer.clear();
         let tally = push_finding(
-            self.map.lines(),
+            self.map.table(),
             self.counters.as_mut_slice(),
             number,
             &words,

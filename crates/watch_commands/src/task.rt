@@ -3,7 +3,7 @@ ghost use Rattle.std.specs.Prelude.{◌≡◌, ◌≤◌, length};
 ghost use Rattle.watch_commands.specs.WatchedMaps.{watched_by};
 
 use crate::options::WatchOptions;
-use can_logs::{MapLine, WatchMap};
+use can_logs::{MapLine, MapTable, WatchMap};
 use std::marker::Model;
 
 /// The lines of a map with their numbers, and how findings are printed.
@@ -35,6 +35,13 @@ impl WatchTask {
         ensures few { length result.now ≤ 256 }
     {
         self.map.lines()
+    }
+
+    /// The lines in a table over their CAN identifiers.
+    pub fn table(&self) -> &MapTable
+        ensures { result.now ≡ self.now.lines }
+    {
+        self.map.table()
     }
 
     /// How findings are printed.

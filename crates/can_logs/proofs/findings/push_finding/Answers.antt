@@ -1,4 +1,4 @@
-use Rattle.std.proofs.Common.{◌≡◌, ◌<◌, ◌++◌, length, List, ℕ, refl, sym, ap, ◌∙◌, subst, arith}
+use Rattle.std.proofs.Common.{◌≡◌, ◌<◌, ◌++◌, length, get_or, List, ℕ, refl, sym, ap, ◌∙◌, subst, arith}
 use Rattle.std.specs.Prelude.{slice_index, None, Some}
 use Rattle.std.proofs.lemmas.List.Quantifiers.{position-Some}
 use Rattle.std.proofs.lemmas.Option.{slice_get_read}
@@ -16,7 +16,7 @@ returns-clause-finds c =
     let mapping : List MapLine = c.args.map.now in
     let frame : LogFrame = c.in-Some.frame in
     let place : ℕ = c.in-Some-place_for.place in
-    let entry : MapLine = c.index-map-place.result in
+    let entry : MapLine = c.index-lines-place.result in
     let before : List ℕ = c.args.text.now.items in
     let front : List ℕ = c.push_front.new.text.items in
     let frame_is : log_frame_of c.args.words.now ≡ Some frame = sym c.log_frame.ensures.found ∙ c.in-Some.is in
@@ -25,10 +25,11 @@ returns-clause-finds c =
     ap (λ can. place_of_frame mapping can channel) (sym c.digits.ensures.value) ∙ ap (place_of_frame mapping c.digits.result.now) (sym c.word.ensures)
     ∙ sym c.place_for.ensures ∙ c.in-Some-place_for.is in
     let inside : place < length mapping = (position-Some (λ (l : MapLine). hears_frame l frame.can channel) mapping place entry place_is).0 in
+    let entry_is : entry ≡ get_or mapping place entry = subst (λ (m : List MapLine). entry ≡ get_or m place entry) c.lines-lines.ensures.value c.index-lines-place.is in
     if_ok_weaker c.push_data_verdict.result (λ counts judged.
     AddsFinding-mapped mapping c.args.counters.now (record { number = c.args.number; words = c.args.words.now }) frame place entry
     c.push_data_verdict.new.counter before front c.push_data_verdict.new.text.items counts frame_is place_is
-    (slice_get_read mapping (length mapping) place entry refl inside c.index-map-place.is)
+    (slice_get_read mapping (length mapping) place entry refl inside entry_is)
     (omega (arith, inside, c.requires))
     (c.in_ok-push_front.ensures.front ∙ ap (λ head. before ++ front_text c.args.number head) c.head.ensures.value)
     (subst (λ bytes. AddsDataVerdict entry place (slice_index c.args.counters.now place) c.push_data_verdict.new.counter bytes front c.push_data_verdict.new.text.items counts)

@@ -4,7 +4,7 @@ use Rattle.text_lines.specs.declared.span.Cut.{Cut}
 use Rattle.text_lines.specs.Lines.{TextLine}
 use Rattle.text_lines.specs.Places.{placed_lines_of}
 use Rattle.text_lines.specs.Spans.{line_at}
-use Rattle.can_logs.proofs.CallerLemmas.{numbers_same, all_lines}
+use Rattle.can_logs.proofs.LineFindings.{numbers_same, all_lines}
 use Rattle.can_logs.proofs.maps.numbers_of.Goals as goal
 
 -- the number of one more line

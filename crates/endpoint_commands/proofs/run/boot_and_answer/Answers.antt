@@ -13,7 +13,7 @@ use Rattle.endpoint_commands.proofs.Doing.{answers_booted, answers_unopened}
 use Rattle.endpoint_commands.proofs.run.boot_and_answer.Goals as goal
 
 pub answer_log-requires : goal.answer_log-requires
-answer_log-requires g c = c.in-Ok.ensures.behind c.requires.before
+answer_log-requires g c = c.in-Ok.ensures.fresh c.requires.before
 
 pub returns-in-Ok : goal.returns-in-Ok
 returns-in-Ok g c =

@@ -1,4 +1,4 @@
-use Rattle.std.proofs.Common.{◌≡◌, ◌<◌, true, sym, subst, arith}
+use Rattle.std.proofs.Common.{sym, subst, arith}
 use Rattle.seal_parts.specs.declared.UnitKind.TheVariants.{Guard}
 use Rattle.seal_parts.specs.Parts.{MayProgram, is_blank}
 use Rattle.seal_parts.specs.State.{PartState}

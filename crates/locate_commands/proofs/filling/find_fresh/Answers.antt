@@ -11,7 +11,7 @@ returns-in-Some c =
     ap (position (λ n. n == c.args.number)) (sym c.numbers.ensures.value) ∙ sym c.place_of_number.ensures.exact ∙ c.in-Some.is in
     subst (λ (o : Option ℕ). IfOk c.fresh_at.result (λ fresh. fresh ≡ fresh_of_place f o)) (sym found)
     (subst (λ (ls : List MapLine). IfOk c.fresh_at.result (λ fresh. fresh ≡ option_and_then (fresh_at ls f.log f.candidates c.in-Some.place) (slice_get ls c.in-Some.place)))
-    c.lines.ensures.value c.fresh_at.ensures)
+    c.table.ensures c.fresh_at.ensures)
 
 pub returns-in-None : goal.returns-in-None
 returns-in-None c =

@@ -1,4 +1,4 @@
-use Rattle.std.proofs.Common.{◌≡◌, ◌+◌, length, refl, sym, subst, ◌∙◌, arith}
+use Rattle.std.proofs.Common.{◌+◌, length, refl, sym, subst, ◌∙◌, arith}
 use Rattle.seal_logs.specs.declared.PlaceRead.{PlaceRead}
 use Rattle.seal_logs.specs.declared.finding.Latest.{Latest}
 use Rattle.seal_logs.specs.Found.{LatestSeen}

@@ -5,7 +5,7 @@ use Rattle.text_lines.specs.Lines.{TextLine, lines_of}
 use Rattle.text_lines.specs.Places.{placed_lines_of}
 use Rattle.text_lines.specs.Spans.{word_at, line_at}
 use Rattle.can_logs.specs.declared.map_lines.MapLine.{MapLine}
-use Rattle.can_logs.specs.Findings.{finding_text}
+use Rattle.can_logs.specs.Findings.{finding_text, first_counters}
 use Rattle.trace_audit.specs.Auditing.{others_text, AuditsEach}
 use Rattle.can_logs.specs.FindingSteps.{AddsFinding}
 use Rattle.trace_audit.proofs.Audited.{Audited-none, Audited-mapped, Audited-other, Audited-same}
@@ -15,7 +15,7 @@ use Rattle.trace_audit.proofs.auditing.audit_text.Goals.{then-is_other, else-is_
 
 pub loop-line-init : goal.loop-line-init
 loop-line-init c =
-    (Audited-none c.args.map.now c.in_ok-counters.counters.items c.new-text.result.items c.in_ok-counters.ensures c.new-text.ensures.items, omega arith)
+    (Audited-none c.args.map.now c.in_ok-counters.counters.items c.new-text.result.items (c.in_ok-counters.ensures ∙ ap first_counters c.lines.ensures.value) c.new-text.ensures.items, omega arith)
 
 pub loop-line-preserved : goal.loop-line-preserved
 loop-line-preserved c =

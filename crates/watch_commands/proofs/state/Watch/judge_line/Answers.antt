@@ -45,10 +45,10 @@ add_answer-requires-clause-answers c =
     let words_are : c.of-words.result ≡ words_of line = c.of-words.ensures ∙ ap (map (word_at line)) c.as_slice.ensures.value ∙ put in
     let empty : List ℕ = c.clear.new.self.items in
     let finds : AddsFinding old.mapping.lines old.counters new (record { number = c.args.number; words = words_of line }) empty answer c.unwrap-tally.result =
-    subst (λ (m : List MapLine). AddsFinding m old.counters new (record { number = c.args.number; words = words_of line }) empty answer c.unwrap-tally.result) c.lines.ensures.value
-    (subst (λ cs. AddsFinding c.lines.result.now cs new (record { number = c.args.number; words = words_of line }) empty answer c.unwrap-tally.result) c.as_mut_slice.ensures.value
-    (subst (λ (ws : List (List ℕ)). AddsFinding c.lines.result.now c.as_mut_slice.result.now new (record { number = c.args.number; words = ws }) empty answer c.unwrap-tally.result) words_are
-    (IfOk-at_ok (λ (t : FrameTally). AddsFinding c.lines.result.now c.as_mut_slice.result.now new (record { number = c.args.number; words = c.of-words.result }) empty answer t)
+    subst (λ (m : List MapLine). AddsFinding m old.counters new (record { number = c.args.number; words = words_of line }) empty answer c.unwrap-tally.result) c.table.ensures
+    (subst (λ cs. AddsFinding c.table.result.now cs new (record { number = c.args.number; words = words_of line }) empty answer c.unwrap-tally.result) c.as_mut_slice.ensures.value
+    (subst (λ (ws : List (List ℕ)). AddsFinding c.table.result.now c.as_mut_slice.result.now new (record { number = c.args.number; words = ws }) empty answer c.unwrap-tally.result) words_are
+    (IfOk-at_ok (λ (t : FrameTally). AddsFinding c.table.result.now c.as_mut_slice.result.now new (record { number = c.args.number; words = c.of-words.result }) empty answer t)
     c.unwrap-tally.ensures c.push_finding.ensures.finds))) in
     let (finding, audits, text_is, counts_is, as_many, after) = finds in
     let shown : List ℕ = c.as_slice-2.result.now in
@@ -67,10 +67,10 @@ returns-clause-judges c =
     let kept : is_skipped (words_of line) ≡ false = ap is_skipped (sym words_are) ∙ sym c.is_skipped.ensures ∙ c.if-is_skipped.false in
     let empty : List ℕ = c.clear.new.self.items in
     let finds : AddsFinding old.mapping.lines old.counters new (record { number = c.args.number; words = words_of line }) empty answer c.unwrap-tally.result =
-    subst (λ (m : List MapLine). AddsFinding m old.counters new (record { number = c.args.number; words = words_of line }) empty answer c.unwrap-tally.result) c.lines.ensures.value
-    (subst (λ cs. AddsFinding c.lines.result.now cs new (record { number = c.args.number; words = words_of line }) empty answer c.unwrap-tally.result) c.as_mut_slice.ensures.value
-    (subst (λ (ws : List (List ℕ)). AddsFinding c.lines.result.now c.as_mut_slice.result.now new (record { number = c.args.number; words = ws }) empty answer c.unwrap-tally.result) words_are
-    (IfOk-at_ok (λ (t : FrameTally). AddsFinding c.lines.result.now c.as_mut_slice.result.now new (record { number = c.args.number; words = c.of-words.result }) empty answer t)
+    subst (λ (m : List MapLine). AddsFinding m old.counters new (record { number = c.args.number; words = words_of line }) empty answer c.unwrap-tally.result) c.table.ensures
+    (subst (λ cs. AddsFinding c.table.result.now cs new (record { number = c.args.number; words = words_of line }) empty answer c.unwrap-tally.result) c.as_mut_slice.ensures.value
+    (subst (λ (ws : List (List ℕ)). AddsFinding c.table.result.now c.as_mut_slice.result.now new (record { number = c.args.number; words = ws }) empty answer c.unwrap-tally.result) words_are
+    (IfOk-at_ok (λ (t : FrameTally). AddsFinding c.table.result.now c.as_mut_slice.result.now new (record { number = c.args.number; words = c.of-words.result }) empty answer t)
     c.unwrap-tally.ensures c.push_finding.ensures.finds))) in
     let (finding, audits, text_is, counts_is, as_many, after) = finds in
     let counters_are : take c.self.inside.counters.len (new ++ drop (length new) c.self.inside.counters.items) ≡ new =

@@ -1,0 +1,5 @@
+pub mod Check
+pub mod Kinds
+pub mod Rows
+pub mod Steps
+pub mod Files

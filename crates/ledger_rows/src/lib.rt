@@ -1,0 +1,17 @@
+//! The rows of a station's ledger, and what an issue or a confirmation adds to them. A row is only added.
+//!
+//! A row has a unit, a slot, a counter, what was done, the check value of the key, the authorising slot, and the
+//! station, the operator and the time that the caller names. `IssuesRow` and `ConfirmsRow` say which row a command
+//! adds, `RefusesRow` when there is none. [`laws`] says what holds of all runs of a file, whatever a crash left between
+//! two calls: the counters that are answered for a unit and slot strictly rise, no row goes, and each confirmed row has
+//! its reply. [`next_counter`] and [`answered_row`] decide over the rows of one unit and slot.
+#![tactic(auto)]
+
+mod check;
+mod decisions;
+mod kinds;
+pub mod laws;
+
+pub use check::check_value;
+pub use decisions::{answered_row, next_counter};
+pub use kinds::{RowKind, SlotRow};

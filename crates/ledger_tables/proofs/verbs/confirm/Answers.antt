@@ -1,0 +1,59 @@
+use Rattle.std.proofs.Common.{◌≡◌, Any, subst, arith}
+use Rattle.std.proofs.lemmas.List.Sorted.{IsPermutation-sym}
+use Rattle.sqlite.specs.State.{HasCleanDisk}
+use Rattle.sqlite.specs.Held.{state}
+use Rattle.ledger_rows.specs.declared.kinds.SlotRow.{SlotRow}
+use Rattle.ledger_rows.specs.Rows.{slot_rows}
+use Rattle.ledger_rows.specs.Steps.{AnswersRow, HasConfirmed, RefusesAnswer, confirmed_row}
+use Rattle.ledger_rows.proofs.CallerLemmas.{refuses_permuted}
+use Rattle.ledger_tables.specs.Held.{ledger_of, ledger_in}
+use Rattle.ledger_tables.specs.Adding.{origin_by}
+use Rattle.ledger_tables.proofs.Deciding.{confirms, from_old, looked_then}
+use Rattle.ledger_tables.proofs.verbs.confirm.Goals as goal
+
+pub returns-in-Err-clause-refused : goal.returns-in-Err-clause-refused
+returns-in-Err-clause-refused g c clean =
+    let k = c.args.confirm.now in
+    let all = slot_rows k.uid k.id (ledger_in (state g.S.Store c.args.conn.now)) in
+    let read = c.in_ok-rows.rows.items in
+    refuses_permuted k read all (IsPermutation-sym all read (c.in_ok-rows.ensures.rows clean)) c.in-Err.why (subst (λ xs. RefusesAnswer xs k c.in-Err.why) c.as_slice.ensures.value c.in-Err.ensures.refused)
+
+pub returns-in_err-add-clause-crash : goal.returns-in_err-add-clause-crash
+returns-in_err-add-clause-crash g c =
+    let k = c.args.confirm.now in
+    let origin = origin_by c.args.station.now c.args.operator.now c.args.time.now in
+    let old = state g.S.Store c.args.conn.now in
+    let mid = state g.S.Store c.rows_for.new.conn in
+    let new = state g.S.Store c.add.new.conn in
+    let n = c.in-Ok.counter in
+    let answers = subst (λ xs. Any (λ (row : SlotRow). AnswersRow k row × (row.counter ≡ n)) xs) c.as_slice.ensures.value c.in-Ok.ensures.answers in
+    let none = subst (λ xs. ¬ HasConfirmed n xs) c.as_slice.ensures.value c.in-Ok.ensures.unconfirmed in
+    looked_then old mid new (confirmed_row k origin n) _ (λ clean. c.in_ok-rows.ensures.same clean) c.rows_for.ensures.survives (rw c.check_value.ensures at c.add.ensures.crash)
+    (λ clean left adds. (n, confirms k origin n (ledger_in old) (ledger_of (left 0)) c.in_ok-rows.rows.items (c.in_ok-rows.ensures.rows (omega (arith, c.add.ensures.crash.clean))) answers none adds))
+
+pub returns-clause-confirmed : goal.returns-clause-confirmed
+returns-clause-confirmed g c clean =
+    let k = c.args.confirm.now in
+    let origin = origin_by c.args.station.now c.args.operator.now c.args.time.now in
+    let old = state g.S.Store c.args.conn.now in
+    let mid = state g.S.Store c.rows_for.new.conn in
+    let new = state g.S.Store c.add.new.conn in
+    let early : HasCleanDisk mid = omega (arith, c.add.ensures.crash.clean) in
+    let n = c.in-Ok.counter in
+    let answers = subst (λ xs. Any (λ (row : SlotRow). AnswersRow k row × (row.counter ≡ n)) xs) c.as_slice.ensures.value c.in-Ok.ensures.answers in
+    let none = subst (λ xs. ¬ HasConfirmed n xs) c.as_slice.ensures.value c.in-Ok.ensures.unconfirmed in
+    confirms k origin n (ledger_in old) (ledger_in new) c.in_ok-rows.rows.items (c.in_ok-rows.ensures.rows early) answers none
+    (from_old old mid (confirmed_row k origin n) (ledger_in new) (c.in_ok-rows.ensures.same early) (rw c.check_value.ensures at (c.in_ok-add.ensures.adds clean)))
+
+pub returns-clause-crash : goal.returns-clause-crash
+returns-clause-crash g c =
+    let k = c.args.confirm.now in
+    let origin = origin_by c.args.station.now c.args.operator.now c.args.time.now in
+    let old = state g.S.Store c.args.conn.now in
+    let mid = state g.S.Store c.rows_for.new.conn in
+    let new = state g.S.Store c.add.new.conn in
+    let n = c.in-Ok.counter in
+    let answers = subst (λ xs. Any (λ (row : SlotRow). AnswersRow k row × (row.counter ≡ n)) xs) c.as_slice.ensures.value c.in-Ok.ensures.answers in
+    let none = subst (λ xs. ¬ HasConfirmed n xs) c.as_slice.ensures.value c.in-Ok.ensures.unconfirmed in
+    looked_then old mid new (confirmed_row k origin n) _ (λ clean. c.in_ok-rows.ensures.same clean) c.rows_for.ensures.survives (rw c.check_value.ensures at c.add.ensures.crash)
+    (λ clean left adds. (n, confirms k origin n (ledger_in old) (ledger_of (left 0)) c.in_ok-rows.rows.items (c.in_ok-rows.ensures.rows (omega (arith, c.add.ensures.crash.clean))) answers none adds))

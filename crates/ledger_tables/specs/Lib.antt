@@ -1,0 +1,4 @@
+pub mod Table
+pub mod Held
+pub mod Adding
+pub mod Reading

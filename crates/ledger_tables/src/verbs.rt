@@ -1,0 +1,113 @@
+//! The verbs that add a row.
+
+ghost use Rattle.std.specs.Prelude.{◌≡◌, ℕ, IfOk, IfErr, OnOk};
+ghost use Rattle.sqlite.specs.State.{HasCleanDisk, Survives};
+ghost use Rattle.sqlite.specs.Held.{state};
+ghost use Rattle.sqlite_trees.specs.Tree.{Trees};
+ghost use Rattle.ledger_rows.specs.Rows.{slot_rows as slot_rows_of};
+ghost use Rattle.ledger_rows.specs.Steps.{IssuesRow, RefusesRow, ConfirmsRow, RefusesAnswer};
+ghost use Rattle.ledger_tables.specs.Held.{ledger_of, ledger_in, HasLedgerTable};
+ghost use Rattle.ledger_tables.specs.Adding.{origin_by};
+
+use crate::adding::{NewRow, add};
+use crate::reading::rows_for;
+use key_campaign::{Confirm, Issue, LedgerRefusal};
+use key_slots::{Counter28, may_authorise};
+use ledger_rows::{RowKind, answered_row, check_value, next_counter};
+use sqlite::{Alter, Connection, Error};
+use std::alloc::Global;
+
+/// Issues the next counter of a unit's slot. Once it is answered, a crash keeps its row.
+///
+/// # Errors
+/// `BadPair` and `Spent` change nothing. An error of the file says that it failed; the ledger is then as before, or has
+/// the row.
+pub fn issue<S: Alter>(
+    conn: &mut Connection<S>,
+    alloc: Global,
+    issue: &Issue,
+    station: &str,
+    operator: &str,
+    time: &str,
+) -> Result<Result<Counter28, LedgerRefusal>, Error>
+    requires { HasCleanDisk (state S.Store conn.old) → HasLedgerTable (state S.Store conn.old) }
+    ensures issued { HasCleanDisk (state S.Store conn.new) → IfOk result (λ answer. IfOk answer (λ counter.
+        IssuesRow issue.now (origin_by station.now operator.now time.now) counter
+        (ledger_in (state S.Store conn.old)) (ledger_in (state S.Store conn.new)))) }
+    ensures refused { HasCleanDisk (state S.Store conn.new) → IfOk result (λ answer. IfErr answer (λ why.
+        RefusesRow (ledger_in (state S.Store conn.old)) issue.now why)) }
+    ensures same { HasCleanDisk (state S.Store conn.new) → IfOk result (λ answer. IfErr answer (λ _.
+        (state S.Store conn.new).now ≡ (state S.Store conn.old).now)) }
+    ensures ready { HasCleanDisk (state S.Store conn.new)
+        → OnOk result (HasLedgerTable (state S.Store conn.new)) }
+    ensures kept { HasCleanDisk (state S.Store conn.new) → IfOk result (λ answer. OnOk answer ((left : Trees)
+        → (state S.Store conn.new).may_leave left → left ≡ (state S.Store conn.new).now.trees)) }
+    ensures crash { Survives (state S.Store conn.old) (state S.Store conn.new) (λ left. (counter : ℕ)
+        × IssuesRow issue.now (origin_by station.now operator.now time.now) counter
+        (ledger_in (state S.Store conn.old)) (ledger_of (left 0))) }
+{
+    if !may_authorise(issue.id, issue.auth) {
+        return Ok(Err(LedgerRefusal::BadPair));
+    }
+    let rows = rows_for(conn, alloc, &issue.uid, issue.id)?;
+    let Some(counter) = next_counter(rows.as_slice()) else {
+        return Ok(Err(LedgerRefusal::Spent));
+    };
+    let row = NewRow {
+        uid: issue.uid,
+        id: issue.id,
+        counter,
+        kind: RowKind::Issued,
+        check: check_value(&issue.key),
+        auth: issue.auth,
+    };
+    add(conn, &row, station, operator, time)?;
+    Ok(Ok(counter))
+}
+
+/// Records that a reply confirms the update of a request that was issued. Once it is answered, a crash keeps its row.
+///
+/// # Errors
+/// `Unknown`, `NotConfirmed` and `AlreadyConfirmed` change nothing. An error of the file says that it failed; the
+/// ledger is then as before, or has the row.
+pub fn confirm<S: Alter>(
+    conn: &mut Connection<S>,
+    alloc: Global,
+    confirm: &Confirm,
+    station: &str,
+    operator: &str,
+    time: &str,
+) -> Result<Result<Counter28, LedgerRefusal>, Error>
+    requires { HasCleanDisk (state S.Store conn.old) → HasLedgerTable (state S.Store conn.old) }
+    ensures confirmed { HasCleanDisk (state S.Store conn.new) → IfOk result (λ answer. IfOk answer (λ counter.
+        ConfirmsRow confirm.now (origin_by station.now operator.now time.now) counter
+        (ledger_in (state S.Store conn.old)) (ledger_in (state S.Store conn.new)))) }
+    ensures refused { HasCleanDisk (state S.Store conn.new) → IfOk result (λ answer. IfErr answer (λ why.
+        RefusesAnswer (slot_rows_of confirm.now.uid confirm.now.id (ledger_in (state S.Store conn.old)))
+        confirm.now why)) }
+    ensures same { HasCleanDisk (state S.Store conn.new) → IfOk result (λ answer. IfErr answer (λ _.
+        (state S.Store conn.new).now ≡ (state S.Store conn.old).now)) }
+    ensures ready { HasCleanDisk (state S.Store conn.new)
+        → OnOk result (HasLedgerTable (state S.Store conn.new)) }
+    ensures kept { HasCleanDisk (state S.Store conn.new) → IfOk result (λ answer. OnOk answer ((left : Trees)
+        → (state S.Store conn.new).may_leave left → left ≡ (state S.Store conn.new).now.trees)) }
+    ensures crash { Survives (state S.Store conn.old) (state S.Store conn.new) (λ left. (counter : ℕ)
+        × ConfirmsRow confirm.now (origin_by station.now operator.now time.now) counter
+        (ledger_in (state S.Store conn.old)) (ledger_of (left 0))) }
+{
+    let rows = rows_for(conn, alloc, &confirm.uid, confirm.id)?;
+    let counter = match answered_row(rows.as_slice(), confirm) {
+        Ok(counter) => counter,
+        Err(why) => return Ok(Err(why)),
+    };
+    let row = NewRow {
+        uid: confirm.uid,
+        id: confirm.id,
+        counter,
+        kind: RowKind::Confirmed,
+        check: check_value(&confirm.key),
+        auth: confirm.auth,
+    };
+    add(conn, &row, station, operator, time)?;
+    Ok(Ok(counter))
+}
