@@ -490,7 +490,10 @@ int32_t rathonsi_route_reserve(const RathonsiRoute *route, uint64_t freshness, c
  * RATHONSI_BAD_VALUE: a number of the route is outside its range, or the route isn't open.
  * RATHONSI_WRONG_CELL, RATHONSI_DAMAGED: as for rathonsi_route_open.
  * RATHONSI_EXHAUSTED: freshness + reserve - 1 is 2^64 - 1 or more. The route would be opened at
- * 2^64 - 1, and no freshness is above that. */
+ * 2^64 - 1, and no freshness is above that.
+ * Whoever can forge this freshness can use up nearly all of the route's counter, for ever. The library
+ * doesn't authenticate it: take it by a way that is authenticated, such as the answer to a nonce, or a
+ * workshop tool, and refuse one that is further ahead than a unit can have sent. */
 RATHONSI_CHECKED
 int32_t rathonsi_route_advance(const RathonsiRoute *route, uint64_t freshness, const uint8_t *image, size_t image_length,
                                RathonsiPlan *plan);
@@ -541,6 +544,8 @@ RathonsiVerdict rathonsi_route_receive(RathonsiRoute *route, const uint8_t *imag
  *   2. That unit makes the answer by rathonsi_sync_answer, and sends its 24 bytes back.
  *   3. The receiver takes the answer by rathonsi_sync_take, and forgets the nonce.
  * How nonce and answer travel is the caller's: plain PDUs will do. examples/c/resync.c does it.
+ * An answer names no direction: a unit that sends and receives under one Data ID and key would take
+ * its own. It makes no answers under that Data ID, or has another key for each direction.
  *
  * The library has no random numbers. The caller draws each nonce so that none comes twice. If one
  * does, an old answer to it is taken again. It moves the counter at most to where the sender was

@@ -463,7 +463,8 @@ Std_ReturnType FvM_MakeAnswer(uint16 freshnessId, const uint8 nonce[16], uint8 a
 {
     Std_ReturnType result = E_NOT_OK;
     const uint32 i = route_of(freshnessId, RATHONSI_SENDS);
-    if (i < FVM_ROUTES) {
+    /* A unit that receives under the ID, too, would take its own answer for one of the other unit. */
+    if ((i < FVM_ROUTES) && (route_of(freshnessId, RATHONSI_RECEIVES) == FVM_ROUTES)) {
         FVM_ENTER();
         result = answer_down();
         if (FvM_State == FVM_UP) {

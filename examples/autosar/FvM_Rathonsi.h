@@ -73,7 +73,7 @@ void FvM_VerificationStatus(SecOC_VerificationStatusType status);
 /* Says whether three or more PDUs of this ID were refused in a row: time to ask. */
 boolean FvM_IsBehind(uint16 freshnessId);
 
-/* E_BUSY: the store is being read. E_NOT_OK: no sender has this ID, or no key is in the slot. */
+/* E_BUSY: the store is being read. E_NOT_OK: no sender has this ID, a receiver has it too, or no key is in the slot. */
 Std_ReturnType FvM_MakeAnswer(uint16 freshnessId, const uint8 nonce[16], uint8 answer[24]);
 
 /* E_OK: PDUs that were sent after the answer are accepted, within the window. E_BUSY: a bound is being written, the store
