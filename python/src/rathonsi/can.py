@@ -61,7 +61,7 @@ class Frame:
         object.__setattr__(self, "payload_length", number("payload_length", self.payload_length, 1, PAYLOAD_MOST))
 
 
-def _with_data(message: Message, data: bytes) -> Message:
+def with_data(message: Message, data: bytes) -> Message:
     """The same frame with other data; of CAN FD if that is longer than 8 bytes."""
     return Message(
         timestamp=message.timestamp,
@@ -148,7 +148,7 @@ class SecuredBus(BusABC):
         # in one piece: of two threads none overtakes the other between its freshness and the bus
         with self._sending:
             pdu = self._store.send(frame.data_id, msg.data)
-            self._bus.send(_with_data(msg, _padded(pdu)), timeout)
+            self._bus.send(with_data(msg, _padded(pdu)), timeout)
 
     def _recv_internal(self, timeout: Optional[float]) -> tuple[Optional[Message], bool]:
         message = self._bus.recv(timeout)
@@ -163,7 +163,7 @@ class SecuredBus(BusABC):
                 raise
             self._on_refused(message, refused)
             return None, True
-        return _with_data(message, payload), True
+        return with_data(message, payload), True
 
     def _apply_filters(self, filters: Optional[CanFilters]) -> None:
         self._bus.set_filters(filters)
