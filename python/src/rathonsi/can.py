@@ -15,6 +15,7 @@ from ._logs import FrameVerdict, LogVerdicts, NothingJudged, carries_data, pdu_i
 from ._maps import MapLine, identifier, read_map
 from ._results import LineResult, LogResults, Silence
 from ._routes import RECEIVES, SENDS, Direction, direction_of
+from ._scripts import to_script
 from ._store import Store
 
 __all__ = [
@@ -28,6 +29,7 @@ __all__ = [
     "SecuredBus",
     "Silence",
     "read_map",
+    "to_script",
     "verify_log",
 ]
 
