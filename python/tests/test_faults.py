@@ -106,7 +106,7 @@ def test_wrong_arguments(far: Any) -> None:
     with pytest.raises(TypeError):
         FaultyBus(None)  # type: ignore[arg-type]
     with faulty(far) as bus, pytest.raises(ValueError):
-        bus.next_fault("melt")  # type: ignore[arg-type]
+        bus.next_fault("melt")
 
 
 def test_two_ends_of_the_fixture(secured_bus: MakesSecuredBus) -> None:
