@@ -2,9 +2,9 @@
 --
 --   tshark -X lua_script:rathonsi.lua -o rathonsi.map:bench.map -o rathonsi.verdicts:watch.jsonl -r bus.pcapng
 --
--- The map is that of `watch`. The verdicts are what `watch --json` printed over a log that has the frames of the
--- capture, one a line in the same order: line 12 of the log is frame 12. Without verdicts it shows the parts alone. It
--- checks no authenticator itself, and reads no key. In Wireshark put the file into the folder of personal Lua plugins,
+-- The map is that of `watch`. The verdicts are what `watch --json` printed over a log of the capture in which line 12 is
+-- frame 12: `capture2log.sh bus.pcapng >bus.log; watch --json bench.map bus.log >watch.jsonl`. Without verdicts it shows
+-- the parts alone. It checks no authenticator itself. In Wireshark put the file into the folder of personal Lua plugins,
 -- and the two names into the preferences of the protocol.
 
 local secured = Proto("rathonsi", "Secured I-PDU (SecOC profile 1)")

@@ -1,5 +1,6 @@
 """The dissector of examples/wireshark in tshark: what it shows of a capture is what `watch` says of the same frames."""
 
+import json
 import os
 import shutil
 import struct
@@ -21,13 +22,14 @@ MAP = f"""# a map
 18DAF110 0A2F {KEY.hex()} {2**40 - 1:016x} 13
 124 120f {KEY.hex()} {0:016x} 4 # a comment
 """
+REMOTE = (0x7FF, 0x1FFFFFFF)
 Frame = tuple[int, bool, bytes]
 
 pytestmark = pytest.mark.skipif(shutil.which("tshark") is None or not WATCH.exists(), reason="there is no tshark, or no program watch")
 
 
 def frames_of(seed: int) -> list[Frame]:
-    """Good frames, replays, altered and short ones, and frames that the map hasn't."""
+    """Good frames, replays, altered and short ones, frames that the map hasn't, and remote frames."""
     drawn, frames = Random(seed), []
     fresh = {0x123: (False, 0x120E, 4, 0), 0x18DAF110: (True, 0x0A2F, 13, 2**40 - 1), 0x124: (False, 0x120F, 4, 0)}
     for _ in range(60):
@@ -38,8 +40,9 @@ def frames_of(seed: int) -> list[Frame]:
         pdu = model.protect(KEY, data_id, last, drawn.randbytes(length))
         turn = drawn.randrange(10)
         pdu = {0: pdu[:5], 1: pdu[:-1] + bytes([pdu[-1] ^ 4]), 2: b""}.get(turn, pdu)
-        frames.append((drawn.choice((0x7FF, 0x18DAF111)), drawn.random() < 0.5, bytes(2)) if turn == 3 else (canid, extended, pdu))
-    return [(canid & (0x1FFFFFFF if extended else 0x7FF), extended, pdu) for canid, extended, pdu in frames]
+        others = [(0x7FF, False, bytes(2)), (0x18DAF111, True, bytes(2)), (0x1FFFFFFF, True, b""), (0x123, True, pdu)]
+        frames.append(drawn.choice(others) if turn == 3 else (canid, extended, pdu))
+    return frames
 
 
 def capture(frames: list[Frame]) -> bytes:
@@ -49,24 +52,27 @@ def capture(frames: list[Frame]) -> bytes:
         fd = len(data) > 8
         padded = data.ljust(20, b"\0") if fd else data
         room = padded.ljust(64 if fd else 8, b"\0")
-        packet = struct.pack(">IBBBB", canid | (0x80000000 if extended else 0), len(padded), 4 if fd else 0, 0, 0) + room
+        marks = (0x80000000 if extended else 0) | (0x40000000 if canid in REMOTE else 0)
+        packet = struct.pack(">IBBBB", canid | marks, len(padded), 4 if fd else 0, 0, 0) + room
         whole += struct.pack("<IIII", 1000 + count, 0, len(packet), len(packet)) + packet
     return whole
 
 
-def log(frames: list[Frame]) -> str:
-    lines = []
-    for count, (canid, extended, data) in enumerate(frames):
-        padded, mark = (data.ljust(20, b"\0"), "##0") if len(data) > 8 else (data, "#")
-        lines.append(f"({1000 + count}.0) can0 {canid:0{8 if extended else 3}X}{mark}{padded.hex()}\n")
-    return "".join(lines)
+def log_of(folder: Path) -> str:
+    """The capture as a log."""
+    script = SCRIPT.with_name("capture2log.sh")
+    return subprocess.run([str(script), str(folder / "bus.pcap")], check=True, capture_output=True, text=True, env=home(folder)).stdout
+
+
+def home(folder: Path) -> dict[str, str]:
+    """An environment without settings of a user."""
+    return {**os.environ, "HOME": str(folder), "XDG_CONFIG_HOME": str(folder)}
 
 
 def shown(folder: Path, *more: str) -> list[list[str]]:
     words = ["tshark", "-n", "-X", f"lua_script:{SCRIPT}", "-o", f"rathonsi.map:{folder / 'map'}", *more]
     words += ["-r", str(folder / "bus.pcap"), "-T", "fields", *(word for it in FIELDS for word in ("-e", f"rathonsi.{it}"))]
-    home = {**os.environ, "HOME": str(folder), "XDG_CONFIG_HOME": str(folder)}
-    run = subprocess.run(words, capture_output=True, text=True, env=home)
+    run = subprocess.run(words, capture_output=True, text=True, env=home(folder))
     assert run.returncode == 0 and "Lua" not in run.stderr, run.stderr
     return [row.split("\t") for row in run.stdout.splitlines()]
 
@@ -80,11 +86,9 @@ def wanted(frame: Frame, verdict: dict[str, str]) -> list[str]:
 
 
 def test_the_dissector_shows_what_watch_says(tmp_path: Path) -> None:
-    import json
-
     frames = frames_of(5)
     (tmp_path / "bus.pcap").write_bytes(capture(frames))
-    (tmp_path / "bus.log").write_text(log(frames))
+    (tmp_path / "bus.log").write_text(log_of(tmp_path))
     (tmp_path / "map").write_text(MAP)
     told = subprocess.run([str(WATCH), "--json", str(tmp_path / "map"), str(tmp_path / "bus.log")], capture_output=True, text=True).stdout
     (tmp_path / "watch.jsonl").write_text(told)
