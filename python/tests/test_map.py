@@ -3,6 +3,7 @@
 import sys
 from pathlib import Path
 from types import ModuleType, SimpleNamespace
+from typing import Any
 
 import pytest
 
@@ -56,5 +57,6 @@ def test_what_gives_no_map(cantools: None, capsys: pytest.CaptureFixture[str]) -
 
 
 def test_without_cantools(monkeypatch: pytest.MonkeyPatch, capsys: pytest.CaptureFixture[str]) -> None:
-    monkeypatch.setitem(sys.modules, "cantools", None)
+    modules: dict[str, Any] = sys.modules
+    monkeypatch.setitem(modules, "cantools", None)
     assert maps.main(["bus.dbc", "--id", "123=1"]) == 1 and "pip install cantools" in capsys.readouterr().err
