@@ -30,8 +30,8 @@ def to_script(
     A node sends each Data ID, and a node `bench` receives: `bench2` and so on if lines of the map share a Data ID. Each
     frame that bears the authenticator of a freshness up to 256 above or below the receiver's counter was sent by its
     node and is delivered. So an accepted frame is drawn as accepted, and a replay as one of its sending. The other
-    frames are injected: no node sent them. A freshness that the log hasn't is sent and not delivered, with zeros as
-    its payload. A comment before each event has the frame's number, time and title. The replay says of each frame what
+    frames are injected, and so are a second payload under one freshness, and what was sent before the map's. A
+    freshness that the log hasn't is sent and not delivered, with zeros as its payload. A comment before each event has the frame's number, time and title. The replay says of each frame what
     `verify_log` says; of one that is too short, the node gets what there is.
 
     ValueError: more than ten keys, lines of one Data ID with two keys, more than seven of them, or more than 65,536
