@@ -94,14 +94,14 @@ def test_a_chart_has_what_was_accepted_as_taken(tmp_path: Path) -> None:
     def pdu(freshness: int, payload: bytes = b"brak") -> bytes:
         return model.protect(KEY, 0x120E, freshness, payload)
 
-    # accepted, a replay of the first, one lost, accepted, a late one, one that nobody sent
-    frames = [pdu(1), pdu(2), pdu(1), pdu(4), pdu(3), bytes(8)]
+    # accepted, a replay of the first, one lost, accepted, a late one, one that nobody sent, a freshness used again
+    frames = [pdu(1), pdu(2), pdu(1), pdu(4), pdu(3), bytes(8), pdu(2, b"else")]
     bus, script = to_script(written(tmp_path, [(0x123, it) for it in frames]), [line(0x123, 0x120E, name="pedal")])
     replay = run(REPLAY, tmp_path, bus, script)
-    assert [row.split()[0] for row in said(script, replay)] == ["accepted"] * 2 + ["VERIFICATIONFAILURE"] + ["accepted"] + ["VERIFICATIONFAILURE"] * 2
-    assert "from none" not in replay and script.count("inject") == 1
+    assert [row.split()[0] for row in said(script, replay)] == ["accepted"] * 2 + ["VERIFICATIONFAILURE"] + ["accepted"] + ["VERIFICATIONFAILURE"] * 3
+    assert "from none" not in replay and re.findall("inject bench 120e (.*)", script) == [it.hex() for it in frames[5:]]
     classes = re.findall(r'<g class="(\w+)">\s*<title>', run(CHART, tmp_path, bus, script))
-    assert classes.count("taken") == 3 and classes.count("failed") == 3 and "forged" not in classes
+    assert classes.count("taken") == 3 and classes.count("failed") == 4 and "forged" not in classes
     assert "# frame 4 at 0.030000 pedal accepted\n" in script and 'name = "pedal"' in bus
 
 
