@@ -1,11 +1,13 @@
 #!/usr/bin/env python3
-"""Builds the wheel of the package, with the shared object that bin/build_c made, by the standard library alone.
+"""Builds the wheel of the package, with the shared object that bin/build_c made and the programs that are built, by the
+standard library alone.
 
 wheel_builder.py [FOLDER]   writes the wheel into FOLDER (dist/ without it), and prints its path
 
 It is also the build backend of pyproject.toml (PEP 517), so `pip install ./python` works without a network. The version
 and the time of all files are those of the first heading of CHANGELOG.md, and nothing is compressed: two runs over one
-build give the same bytes. The tag names the oldest C library that has all that the shared object needs.
+build give the same bytes. The tag names the oldest C library that has all that the shared object and the programs need.
+A program that isn't built isn't in the wheel: bin/package builds all before.
 """
 
 import base64
@@ -23,7 +25,18 @@ from typing import Any
 
 HERE = Path(__file__).resolve().parent
 SOURCE = HERE / "src"
-OBJECT = HERE.parent / "crates" / "rathonsi_c" / "out" / "librathonsi.so"
+CRATES = HERE.parent / "crates"
+OBJECT = CRATES / "rathonsi_c" / "out" / "librathonsi.so"
+PAGES = HERE.parent / "docs" / "man"
+
+
+# the command `rathonsi`, and the fixture for each pytest
+ENTRY_POINTS = b"""[console_scripts]
+rathonsi = rathonsi.__main__:main
+
+[pytest11]
+rathonsi = rathonsi.pytest_plugin
+"""
 
 
 def release() -> tuple[str, datetime]:
@@ -35,6 +48,12 @@ def release() -> tuple[str, datetime]:
     return heading[1], datetime.fromisoformat(heading[2])
 
 
+def programs() -> dict[str, Path]:
+    """Each program with a page in docs/man that is built."""
+    built = {page.stem: CRATES / page.stem / "out" / page.stem for page in sorted(PAGES.glob("*.1"))}
+    return {name: path for name, path in built.items() if path.is_file()}
+
+
 def kit() -> str:
     """The kit whose compiler made the shared object, as its `rt` says."""
     if shutil.which("rt") is None:
@@ -43,11 +62,12 @@ def kit() -> str:
 
 
 def platform_tag(about: str) -> str:
-    """The platform of a shared object for x86-64, by what `objdump -p` says of the libraries that it needs."""
+    """The platform of files for x86-64, by what `objdump -p` says of the libraries that they need."""
     needed = set(re.findall(r"^ +NEEDED +(\S+)$", about, re.MULTILINE))
     versions = [(int(major), int(minor)) for major, minor in re.findall(r" GLIBC_([0-9]+)\.([0-9]+)", about)]
-    if "elf64-x86-64" not in about:
-        raise SystemExit("the shared object isn't one for x86-64")
+    formats = set(re.findall(r"file format (\S+)", about))
+    if formats != {"elf64-x86-64"}:
+        raise SystemExit("the shared object or a program isn't one for x86-64")
     if needed - {"libc.so.6"}:
         return "linux_x86_64"
     # no pip knows a manylinux that is older
@@ -58,7 +78,7 @@ def platform_tag(about: str) -> str:
 def tag() -> str:
     if shutil.which("objdump") is None:
         return "py3-none-linux_x86_64"
-    told = subprocess.run(["objdump", "-p", OBJECT], check=True, capture_output=True, text=True).stdout
+    told = subprocess.run(["objdump", "-p", OBJECT, *programs().values()], check=True, capture_output=True, text=True).stdout
     return f"py3-none-{platform_tag(told)}"
 
 
@@ -86,6 +106,8 @@ def contents(version: str, name: str) -> dict[str, bytes]:
     files["rathonsi/py.typed"] = b""
     files["rathonsi/librathonsi.so"] = OBJECT.read_bytes()
     files["rathonsi/build"] = f"version {version}\nkit {kit()}\n".encode("ascii")
+    files |= {f"rathonsi/programs/{program}": path.read_bytes() for program, path in programs().items()}
+    files[f"{name}.dist-info/entry_points.txt"] = ENTRY_POINTS
     files[f"{name}.dist-info/METADATA"] = metadata(version).encode("utf-8")
     wheel = f"Wheel-Version: 1.0\nGenerator: rathonsi {version}\nRoot-Is-Purelib: false\nTag: {tag()}\n"
     files[f"{name}.dist-info/WHEEL"] = wheel.encode("ascii")
@@ -112,7 +134,8 @@ def build_wheel(wheel_directory: str, config_settings: Any = None, metadata_dire
     with zipfile.ZipFile(whole, "w", zipfile.ZIP_STORED) as archive:
         for path, content in files.items():
             about = zipfile.ZipInfo(path, day.timetuple()[:6])
-            about.create_system, about.external_attr = 3, 0o100644 << 16
+            mode = 0o100755 if path.startswith("rathonsi/programs/") else 0o100644
+            about.create_system, about.external_attr = 3, mode << 16
             archive.writestr(about, content)
     wheel = Path(wheel_directory) / f"{name}-{tag()}.whl"
     os.makedirs(wheel_directory, exist_ok=True)

@@ -153,10 +153,17 @@ class Unit:
         if route.counter < LAST:
             route.bound = max(route.bound, min(route.counter + route.reserve, LAST))
 
+    def reserve_ahead(self, data_id: int, direction: int, least: int) -> None:
+        route = self.routes[data_id, direction]
+        if route.bound - route.counter < least:
+            route.bound = min(route.bound + route.reserve, LAST)
+
     def catch_up(self, data_id: int, freshness: int) -> None:
         route = self.routes[data_id, RECEIVES]
         if freshness > route.counter:
-            route.bound = max(route.bound, min(freshness + route.reserve - 1, LAST))
+            if freshness + route.reserve - 1 >= LAST:
+                raise Refusal("Exhausted")
+            route.bound = max(route.bound, freshness + route.reserve - 1)
             route.counter = route.bound
 
     @staticmethod

@@ -87,13 +87,17 @@ class StoreBesideModel(RuleBasedStateMachine):
     @rule(data_id=st.sampled_from([1, 3, 5]), ahead=st.integers(-2, 700))
     def catch_up(self, data_id: int, ahead: int) -> None:
         freshness = min(max(0, self.unit.routes[data_id, RECEIVES].counter + ahead), LAST)
-        self.store.catch_up(data_id, freshness)
-        self.unit.catch_up(data_id, freshness)
+        self.same(lambda: self.store.catch_up(data_id, freshness), lambda: self.unit.catch_up(data_id, freshness))
 
     @rule(which=st.sampled_from(MODEL_ROUTES))
     def reserve(self, which: rathonsi.Route) -> None:
         self.store.reserve(which.data_id, which.direction)
         self.unit.reserve(which.data_id, int(which.direction))
+
+    @rule(which=st.sampled_from(MODEL_ROUTES), least=st.integers(1, 128))
+    def reserve_ahead(self, which: rathonsi.Route, least: int) -> None:
+        self.store.reserve(which.data_id, which.direction, least)
+        self.unit.reserve_ahead(which.data_id, int(which.direction), least)
 
     @rule(
         uid=uids, slot=numbers, auth=numbers, by=numbers, flags=st.integers(0, 31) | st.just(2), ahead=st.integers(-1, 2),
@@ -142,14 +146,15 @@ TestStoreBesideModel = StoreBesideModel.TestCase
 
 def test_there_is_one_class_a_status_and_all_are_below_refused() -> None:
     names = "BadLength BadValue FreshnessFailure VerificationFailure BadId BadMac NoStore Damaged Busy Reserve Exhausted".split()
-    names += "KeyEmpty KeyInvalid KeyNotAvailable KeyWriteProtected KeyUpdateError WrongCell".split()
+    names += "KeyEmpty KeyInvalid KeyNotAvailable KeyWriteProtected KeyUpdateError WrongCell Failed".split()
+    names += "DuplicateId StalePlan Covered".split()
     for status, name in enumerate(names, 1):
         refusal = getattr(rathonsi, name)
         assert issubclass(refusal, rathonsi.Refused) and refusal.status == status
         with pytest.raises(refusal) as caught:
             _errors.raise_unless_ok(status)
         assert type(caught.value) is refusal and str(caught.value) == refusal.text != ""
-    assert sorted(_errors.REFUSALS) == list(range(1, 18))
+    assert sorted(_errors.REFUSALS) == list(range(1, 22))
     _errors.raise_unless_ok(0)
     with pytest.raises(rathonsi.Refused):
         _errors.raise_unless_ok(17)
@@ -405,6 +410,32 @@ def test_a_receiver_that_fell_behind_catches_up() -> None:
     assert store.receive(0x120F, far) == rathonsi.Accepted(b"brake", 5001)
     with pytest.raises(rathonsi.VerificationFailure):
         opened(memory).receive(0x120F, far)
+
+
+def test_a_sender_that_reserves_ahead_never_waits_for_a_write() -> None:
+    route = rathonsi.Route(1, SENDS, 4, reserve=8)
+    memory = Memory.made((route,))
+    store = opened(memory, (route,))
+    store.reserve(1, SENDS, least=3)
+    for number in range(1, 100):
+        before = len(memory.writes)
+        store.send(1, b"x")
+        assert len(memory.writes) == before
+        store.reserve(1, SENDS, least=3)
+        assert (len(memory.writes) > before) == (number % 8 == 6)
+    assert opened(memory, (route,)).counter(1, SENDS) - 99 < 8 + 3
+    for least in (0, 129):
+        with pytest.raises(ValueError, match="least"):
+            store.reserve(1, SENDS, least)
+
+
+def test_a_receiver_isnt_brought_to_the_end_of_its_counter() -> None:
+    store = opened(Memory.made())
+    with pytest.raises(rathonsi.Exhausted):
+        store.catch_up(0x120F, LAST - 3)
+    assert store.counter(0x120F, RECEIVES) == 0
+    store.catch_up(0x120F, LAST - 4)
+    assert store.counter(0x120F, RECEIVES) == LAST - 1
 
 
 def test_a_closed_store() -> None:

@@ -50,8 +50,11 @@ def defined() -> dict[str, int]:
 def test_statuses_flags_and_constants() -> None:
     numbers = defined()
     names = {refusal.__name__: status for status, refusal in REFUSALS.items()}
-    assert len(names) == 17
-    assert names == {name.title().replace("_", ""): number for name, number in numbers.items() if name.title().replace("_", "") in names}
+    text = (INCLUDE / "rathonsi_store.h").read_text(encoding="ascii")
+    every = {name.title().replace("_", ""): int(number) for name, number in re.findall(r"X\(([A-Z_]+), ([0-9]+)\)", text)}
+    assert names == {name: status for name, status in every.items() if status}
+    assert names.items() <= {name.title().replace("_", ""): number for name, number in numbers.items()}.items()
+    assert all(refusal.__name__ in rathonsi.__all__ for refusal in REFUSALS.values())
     for flag in rathonsi.Flags:
         assert flag.name is not None and numbers[flag.name] == flag
     assert (numbers["SENDS"], numbers["RECEIVES"]) == (rathonsi.SENDS, rathonsi.RECEIVES)

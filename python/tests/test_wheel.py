@@ -50,8 +50,13 @@ def test_the_record_names_each_file_with_its_sum(wheel: Path) -> None:
                 digest = base64.urlsafe_b64encode(hashlib.sha256(archive.read(name)).digest()).rstrip(b"=")
                 assert told == "sha256=" + digest.decode("ascii") and int(size) == len(archive.read(name))
         names = {name for name in archive.namelist() if name.startswith("rathonsi/")}
+        modes = {it.filename: it.external_attr >> 16 for it in archive.infolist()}
+        [points] = [name for name in archive.namelist() if name.endswith("/entry_points.txt")]
+        assert b"[pytest11]\nrathonsi = rathonsi.pytest_plugin\n" in archive.read(points)
     committed = {f"rathonsi/{path.name}" for path in (TOP / "src" / "rathonsi").iterdir() if path.name != "__pycache__"}
-    assert names == committed | {"rathonsi/build", "rathonsi/librathonsi.so"}
+    carried = {f"rathonsi/programs/{name}" for name in builder().programs()}
+    assert names == committed | carried | {"rathonsi/build", "rathonsi/librathonsi.so"}
+    assert all((mode == 0o100755) == (name in carried) for name, mode in modes.items())
 
 
 def test_tags_by_what_the_object_needs() -> None:
@@ -60,8 +65,10 @@ def test_tags_by_what_the_object_needs() -> None:
     assert tag(head + "    0x06969194 0x00 02 GLIBC_2.14\n    0x09691a75 0x00 03 GLIBC_2.2.5\n") == "manylinux_2_14_x86_64"
     assert tag(head.splitlines()[0] + "\n") == "manylinux_2_5_x86_64"
     assert tag(head + "  NEEDED               libasan.so.8\n") == "linux_x86_64"
-    with pytest.raises(SystemExit):
-        tag("lib.so:     file format elf64-littleaarch64\n")
+    assert tag(head + head + "    0x09691a75 0x00 03 GLIBC_2.34\n    0x09691a75 0x00 03 GLIBC_2.2.5\n") == "manylinux_2_34_x86_64"
+    for other in ("", head):
+        with pytest.raises(SystemExit):
+            tag(other + "lib.so:     file format elf64-littleaarch64\n")
 
 
 @pytest.fixture(scope="module")
@@ -86,6 +93,25 @@ def test_the_self_test_of_the_installed_package(environment: Path, wheel: Path) 
     assert lines[0] == f"rathonsi {wheel.name.split('-')[1]}"
     assert lines[1].startswith(f"library {environment}") and lines[1].endswith("/rathonsi/librathonsi.so")
     assert not lines[2].endswith("package") and lines[3] == "self-test: 19 vectors, 0 failed"
+
+
+def test_the_programs_of_the_installed_package(environment: Path) -> None:
+    if "watch" not in builder().programs():
+        pytest.skip("there is no program watch: bin/proved --build watch makes it")
+    examples = TOP.parent / "examples"
+    files = [str(examples / name) for name in ("bus_log_map.txt", "bus_log.txt")]
+    clean = {name: value for name, value in os.environ.items() if not name.startswith(("PYTHON", "RATHONSI"))}
+    folder = environment / "bin"
+    starts = [[folder / "rathonsi", "watch"], [folder / "python", "-m", "rathonsi", "watch"], [builder().CRATES / "watch" / "out" / "watch"]]
+    runs = []
+    for start in starts:
+        run = subprocess.run([*start, *files], capture_output=True, text=True, cwd=environment, env=clean)
+        runs.append((run.returncode, run.stdout, run.stderr))
+    assert runs[0] == runs[1] == runs[2] and runs[0][0] == 1 and "line 2 123" in runs[0][1]
+    for words, status in ((["watch"], 2), (["none"], 2), (["../watch"], 2), (["--help"], 0)):
+        run = subprocess.run([environment / "bin" / "rathonsi", *words], capture_output=True, text=True, cwd=environment, env=clean)
+        assert run.returncode == status and "usage: " in run.stdout + run.stderr
+    assert run.stdout.splitlines()[1:] == [f"programs: {' '.join(builder().programs())}"]
 
 
 def test_the_five_lines_of_the_readme(environment: Path) -> None:

@@ -138,6 +138,34 @@ class WrongCell(Refused):
     text = "no cell of the store is that of the route"
 
 
+class Failed(Refused):
+    """An operation on a flash failed. Only rathonsi_flash_next answers it, which no call of this package makes."""
+
+    status = 18
+    text = "an operation on the flash failed"
+
+
+class DuplicateId(Refused):
+    """Another cell has this Data ID and direction. The package looks for that itself, so no call of it ends so."""
+
+    status = 19
+    text = "another cell of the store has this Data ID and direction already"
+
+
+class StalePlan(Refused):
+    """The plan is an old copy. A `Store` does each plan at once, so no call of it should end so."""
+
+    status = 20
+    text = "the plan is an old copy: done, it would lower a bound or bring an older key back"
+
+
+class Covered(Refused):
+    """Nothing is to be reserved: the bound is as high already. `Store.reserve` takes it as done."""
+
+    status = 21
+    text = "nothing is to be reserved: the bound is as high already"
+
+
 class Unusable(RuntimeError):
     """This object may not be used any more; a new one over the same memory goes on as after a power cut.
 

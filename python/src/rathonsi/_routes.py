@@ -14,6 +14,7 @@ from ._updates import Flags, Update, make_update, request_struct
 SLOT_CELLS: Final = 14
 ROUTES_MOST: Final = 256
 BOOT_MAC: Final = 3
+RESERVE_MOST: Final = 128
 HEADER: Final = 32
 CELL: Final = 68
 # what the header of a store of any kind and version begins with, and where one of version 2 stands
@@ -67,7 +68,7 @@ def _fields_of(route: Route) -> dict[str, int]:
         "data_id": data_id_number(route.data_id),
         "direction": direction_of(route.direction),
         "slot": number("slot", route.slot, 4, SLOT_CELLS - 1),
-        "reserve": number("reserve", route.reserve, 1, 128),
+        "reserve": number("reserve", route.reserve, 1, RESERVE_MOST),
         "window": number("window", route.window, 1, 256),
         "start": freshness_number("start", route.start),
     }

@@ -8,18 +8,20 @@ import os
 import threading
 import weakref
 from collections.abc import Callable, Iterable, Mapping
+from contextlib import suppress
 from ctypes import create_string_buffer
 from types import TracebackType
 from typing import Final, Literal, NoReturn, Protocol, Self, SupportsIndex, runtime_checkable
 
 from . import _library
-from ._arguments import PAYLOAD_MOST, TRAILER, Bytes, any_bytes, data_id_number, freshness_number, some_bytes, truth
-from ._errors import OK, RESERVE, Damaged, NoStore, Unusable, raise_unless_ok
+from ._arguments import PAYLOAD_MOST, TRAILER, Bytes, any_bytes, data_id_number, freshness_number, number, some_bytes, truth
+from ._errors import OK, RESERVE, Covered, Damaged, NoStore, Unusable, raise_unless_ok
 from ._pdus import Accepted, pdu_bytes
 from ._routes import (
     HEADER,
     MAGIC,
     RECEIVES,
+    RESERVE_MOST,
     SENDS,
     Direction,
     Route,
@@ -129,7 +131,7 @@ class Store:
                     return pdu.raw
                 if status != RESERVE:
                     raise_unless_ok(status)
-                self._change(_library.route_reserve, route, route.counter + 1)
+                self._change(_library.route_reserve_next, route)
 
     def receive(self, data_id: SupportsIndex, pdu: Bytes) -> Accepted:
         """The payload and the freshness of a PDU, if it is accepted under this Data ID.
@@ -147,17 +149,24 @@ class Store:
                     return Accepted(pdu[: verdict.payload_length], verdict.freshness)
                 if verdict.status != RESERVE:
                     raise_unless_ok(verdict.status)
-                self._change(_library.route_reserve, route, verdict.freshness)
+                self._change(_library.route_reserve_for, route, verdict)
 
-    def reserve(self, data_id: SupportsIndex, direction: Direction) -> None:
+    def reserve(self, data_id: SupportsIndex, direction: Direction, least: SupportsIndex | None = None) -> None:
         """Writes the bound ahead of need, so that the next `reserve` frames of the route don't wait for a write.
 
-        Call it when there is time, and not for each frame: it writes whenever the bound isn't as high already.
-        ValueError: there is no such route. What the device's write raises; the store is `Unusable` then.
+        Call it when there is time, and not for each frame: it writes whenever the bound isn't as high already. With
+        `least`, 1 to 128, it writes only if fewer freshness values are left, and then a whole `reserve` above the
+        bound. So it may be called after each frame, and the frames meanwhile don't wait: a restart may skip
+        `least - 1` more. ValueError: there is no such route, or `least` is outside its range. What the device's write
+        raises; the store is `Unusable` then.
         """
+        ahead = None if least is None else number("least", least, 1, RESERVE_MOST)
         with self._lock:
             route = self._route(data_id, direction_of(direction))
-            if route.counter < 0xFFFF_FFFF_FFFF_FFFF:
+            if ahead is not None:
+                with suppress(Covered):
+                    self._change(_library.route_reserve_ahead, route, ahead)
+            elif route.counter < 0xFFFF_FFFF_FFFF_FFFF:
                 self._change(_library.route_reserve, route, route.counter + 1)
 
     def catch_up(self, data_id: SupportsIndex, freshness: SupportsIndex) -> None:
@@ -165,8 +174,8 @@ class Store:
 
         That must come authenticated and be new, such as an answer to a challenge under `cmac`: from now on the receiver
         refuses all freshness up to it, and what is reserved above it. A freshness that isn't above the counter changes
-        nothing. ValueError: no route receives under this Data ID, or the freshness hasn't 64 bits. What the
-        device's write raises; the store is `Unusable` then.
+        nothing. `Exhausted`: no freshness would be left above what is reserved. ValueError: no route receives under
+        this Data ID, or the freshness hasn't 64 bits. What the device's write raises; the store is `Unusable` then.
         """
         freshness = freshness_number("freshness", freshness)
         with self._lock:
