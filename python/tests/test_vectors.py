@@ -32,6 +32,7 @@ def test_the_program_prints_four_lines_and_ends_with_0() -> None:
 
 def test_the_program_ends_with_1_if_a_vector_fails(monkeypatch: pytest.MonkeyPatch, capsys: pytest.CaptureFixture[str]) -> None:
     monkeypatch.setattr(program, "vectors", lambda: iter([("right", 1, 1), ("wrong", 1, 2)]))
+    monkeypatch.setattr(sys, "argv", ["rathonsi"])
     assert program.main() == 1
     assert capsys.readouterr().out.splitlines()[3:] == ["wrong: 1, and not 2", "self-test: 2 vectors, 1 failed"]
 
