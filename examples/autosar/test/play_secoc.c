@@ -272,10 +272,9 @@ static void answer_other(uint32 route)
     uint8 nonce[RATHONSI_NONCE], answer[RATHONSI_ANSWER];
     for (uint32 i = 0u; i < RATHONSI_NONCE; i++)
         nonce[i] = (uint8)below(256u);
-    const Std_ReturnType made = FvM_MakeAnswer(FvM_Routes[route].freshnessId, nonce, answer);
-    if (made != ((route == ECHO) ? E_NOT_OK : E_OK))
+    if (FvM_MakeAnswer(FvM_Routes[route].freshnessId, nonce, answer) != ((route == ECHO) ? E_NOT_OK : E_OK))
         fail("an answer is made or refused wrongly, ID", FvM_Routes[route].freshnessId);
-    if (made != E_OK)
+    if (route == ECHO)
         return;
     RathonsiVerdict verdict = rathonsi_sync_take(&other[route], other_image, sizeof other_image, nonce, answer);
     if (verdict.status == RATHONSI_RESERVE) {
@@ -568,26 +567,46 @@ static void event(void)
 
 /* ---- Keys --------------------------------------------------------------------------------------------------------- */
 
-/* Loads a key into the slot of a key ID by its M1 to M3, and compares the proof. The other unit gets it, too. */
-static void load_key(uint32 keyId, uint32 counter)
+/* A new key for a slot. The other unit gets it, too. */
+static RathonsiUpdate new_key(uint8 slot, uint32 counter, RathonsiRequest *request, RathonsiReply *reply)
 {
     RathonsiUpdate update;
-    RathonsiRequest request;
-    RathonsiReply reply;
-    uint8 messages[64], proof[48];
-    uint32 room = sizeof proof;
     memset(&update, 0, sizeof update);
     memcpy(update.uid, FvM_Uid, 15u);
-    update.id = FvM_SlotOfKey[keyId];
-    update.auth = update.id;
+    update.id = slot;
+    update.auth = slot;
     update.counter = counter;
     update.flags = RATHONSI_KEY_USAGE;
     for (uint32 i = 0u; i < 16u; i++)
         update.key[i] = (uint8)below(256u);
-    right(rathonsi_she_make_update(counter == 1u ? EMPTY_KEY : key, 16u, &update, &request), "no update");
-    right(rathonsi_she_confirm(&update, FvM_Uid, &reply), "no proof");
-    right(rathonsi_slot_load(FvM_Uid, 0u, &request, other_image, sizeof other_image, &other_plan), "the other unit has no key");
+    right(rathonsi_she_make_update(counter == 1u ? EMPTY_KEY : key, 16u, &update, request), "no update");
+    right(rathonsi_she_confirm(&update, FvM_Uid, reply), "no proof");
+    right(rathonsi_slot_load(FvM_Uid, 0u, request, other_image, sizeof other_image, &other_plan), "the other unit has no key");
     other_done();
+    return update;
+}
+
+/* Loads the key for answers, which the Crypto driver can't reach. */
+static void load_answer_key(void)
+{
+    RathonsiRequest request;
+    RathonsiReply wanted, reply;
+    (void)new_key(FVM_ANSWER_SLOT, 1u, &request, &wanted);
+    right(FvM_LoadKey(&request), "no key for answers");
+    while (FvM_ConfirmKey(request.m1, &reply) == RATHONSI_BUSY)
+        main_function();
+    if (memcmp(reply.m4, wanted.m4, 32u) != 0)
+        fail("the proof is another, slot", FVM_ANSWER_SLOT);
+}
+
+/* Loads a key into the slot of a key ID by its M1 to M3, and compares the proof. */
+static void load_key(uint32 keyId, uint32 counter)
+{
+    RathonsiRequest request;
+    RathonsiReply reply;
+    uint8 messages[64], proof[48];
+    uint32 room = sizeof proof;
+    const RathonsiUpdate update = new_key(FvM_SlotOfKey[keyId], counter, &request, &reply);
     memcpy(messages, request.m1, 16u);
     memcpy(&messages[16], request.m2, 32u);
     memcpy(&messages[48], request.m3, 16u);
@@ -746,6 +765,7 @@ static void new_pair(void)
     memory_cut(0u);
     if (FvM_MakeAnswer(FvM_Routes[SPEED].freshnessId, nonce, answer) != E_NOT_OK)
         fail("an answer is made without a key, ID", FvM_Routes[SPEED].freshnessId);
+    load_answer_key();
     load_key(0u, 1u);
     load_key(0u, 2u);
     if (units % 10u == 0u)
