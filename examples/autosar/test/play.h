@@ -4,6 +4,10 @@
 
 #include "FvM_Cfg.h"
 
+#if FVM_ROUTES != 6
+#error "play_secoc plays the routes of test/secoc.arxml only"
+#endif
+
 /* The routes of secoc.arxml, in its order. */
 enum { SPEED, BRAKE, JASPAR, WHOLE, SHORT_ONE, ECHO };
 
