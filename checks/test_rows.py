@@ -5,12 +5,14 @@
     python3 checks/test_rows.py [--try] gateway stop
 
 The second form needs no pytest: it runs the rows whose ids have each of these texts, with `--try` over programs that
-bin/try builds, which aren't proved. checks/rows/README.md has the form of a row. A row passes if each command's output, standard error, status and files are exactly those that it names.
+bin/try builds, which aren't proved. checks/rows/README.md has the form of a row. A row passes if each command's output,
+standard error, status and files are exactly those that it names.
 """
 import concurrent.futures
 import contextlib
 import difflib
 import functools
+import importlib.machinery
 import importlib.util
 import itertools
 import os
@@ -112,6 +114,9 @@ class Row:
         if unknown or not self.steps:
             raise ValueError(f"no such field: {', '.join(sorted(unknown))}" if unknown else "it has no command")
 
+    def number(self, spec, name):
+        return int(self.names.filled(str(spec[name])))
+
     def bytes_of(self, spec):
         """The bytes of a text, of a table that says how they are made, or of a list of these."""
         if isinstance(spec, bytes):
@@ -120,23 +125,19 @@ class Row:
             return self.names.filled(spec).encode("latin-1")
         if isinstance(spec, list):
             return b"".join(map(self.bytes_of, spec))
-        number = lambda name: int(self.names.filled(str(spec[name])))
         if "repeat" in spec:
-            return self.bytes_of(spec["repeat"]) * number("times")
+            return self.bytes_of(spec["repeat"]) * self.number(spec, "times")
         if "zeros" in spec:
-            return bytes(number("zeros"))
+            return bytes(self.number(spec, "zeros"))
         if "hex" in spec:
             return bytes.fromhex(self.names.filled(spec["hex"]))
         if "counted" in spec:
             text = self.names.filled(spec["counted"])
-            numbers = range(number("from"), number("to") + 1)
+            numbers = range(self.number(spec, "from"), self.number(spec, "to") + 1)
             return "".join(text % ((it,) * text.count("%")) for it in numbers).encode("latin-1")
         if "each" in spec:
-            own = self.names
-            filled = [Names({**own, **case}).filled(spec["form"]) for case in cases(self.names.filled(spec["each"]))]
-            return "".join(filled).encode("latin-1")
-        if "model" in spec:
-            return self.modelled(spec)
+            own, each = self.names, cases(self.names.filled(spec["each"]))
+            return "".join(Names({**own, **case}).filled(spec["form"]) for case in each).encode("latin-1")
         if "numbered" in spec:
             lines = self.bytes_of(spec["numbered"]).splitlines(True)
             return b"".join(b"%d %s" % (at, it) for at, it in enumerate(lines, 1))
@@ -145,18 +146,21 @@ class Row:
             routes = [{"counted": f"${it}_route", "from": 1, "to": spec["wide"]} for it in ("sending", "receiving")]
             nodes = [[self.names["wide_node"] % at, routes[at > 1]] for at in range(1, spec.get("nodes", 8) + 1)]
             return self.bytes_of([f"version = {spec['version']}\n", *nodes])
+        return self.changed(spec, self.modelled(spec) if "model" in spec else self.found(spec))
+
+    def found(self, spec):
+        """The bytes of a store, of a file of the row or of the repository, or of a text."""
         if "store" in spec:
-            kind, version = self.names.filled(spec["store"]).split()
             cells, puts = (self.bytes_of(spec.get(it, "")).decode() for it in ("cells", "puts"))
-            whole = stored(int(kind), int(version), cells, puts)
-        elif "of" in spec:
-            whole = self.bytes_of(self.files[self.names.filled(spec["of"])])
-        elif "made" in spec:
-            whole = (self.folder / self.names.filled(spec["made"])).read_bytes()
-        elif "text" in spec:
-            whole = self.bytes_of(spec["text"])
-        else:
-            whole = (TOP / self.names.filled(spec["file"])).read_bytes()
+            return stored(*map(int, self.names.filled(spec["store"]).split()), cells, puts)
+        if "of" in spec:
+            return self.bytes_of(self.files[self.names.filled(spec["of"])])
+        if "made" in spec:
+            return (self.folder / self.names.filled(spec["made"])).read_bytes()
+        return self.bytes_of(spec["text"]) if "text" in spec else (TOP / self.names.filled(spec["file"])).read_bytes()
+
+    def changed(self, spec, whole):
+        """These bytes with what the table changes of them."""
         if "uncommented" in spec:
             whole = b"".join(line for line in whole.splitlines(True) if not line.startswith(b"#"))
         for old, new in spec.get("replace", {}).items():
@@ -168,9 +172,10 @@ class Row:
             start, new = int(self.names.filled(place)), bytes.fromhex(self.names.filled(digits))
             whole = whole[:start] + new + whole[start + len(new) :]
         if "length" in spec:
-            whole = whole[: number("length")].ljust(number("length"), b"\0")
-        whole = whole[number("from") if "from" in spec else 0 : number("to") if "to" in spec else None]
-        return framed(self.names.filled(spec["frame"]), whole) if "frame" in spec else whole
+            length = self.number(spec, "length")
+            whole = whole[:length].ljust(length, b"\0")
+        first, end = (self.number(spec, it) if it in spec else None for it in ("from", "to"))
+        return framed(self.names.filled(spec["frame"]), whole[first:end]) if "frame" in spec else whole[first:end]
 
     def modelled(self, spec):
         """What a model prints, a program of checks/models; the files that its arguments name are made before."""
@@ -261,33 +266,42 @@ class Row:
             output = b"".join(output.splitlines(True)[: step["first"]])
         if "room" in step:
             wanted = wanted[: run.number("room")]
-        told = self.bytes_of(step.get("error", ""))
-        same = [difference("standard output", wanted, output), difference("standard error", told, error)]
-        if status != int(self.names.filled(str(step.get("status", 0)))):
-            same.append(f"status {status}, wanted {step.get('status', 0)}")
-        same += [difference(name, old, read(folder / name)) for name, old in before.items()]
+        ends = self.names.filled(str(step.get("status", 0)))
+        found = [
+            difference("standard output", wanted, output),
+            difference("standard error", self.bytes_of(step.get("error", "")), error),
+            *([] if ends == str(status) else [f"status {status}, wanted {ends}"]),
+            *(difference(name, old, read(folder / name)) for name, old in before.items()),
+            *self.wrong_files(step, folder),
+            *self.wrongly_made(step, folder, there),
+        ]
+        assert not any(found), "\n".join([" ".join(words), *filter(None, found)])
+        for name, spec in step.get("copies", {}).items():
+            write(folder / self.names.filled(name), self.bytes_of(spec))
+
+    def wrong_files(self, step, folder):
+        """What differs in the files that the step names."""
         for name, it in step.get("after", {}).items():
-            same.append(difference(name, self.bytes_of(it), read(folder / self.names.filled(name))))
+            yield difference(name, self.bytes_of(it), read(folder / self.names.filled(name)))
         for it in step.get("same", []):
             one, other = (read(folder / name) for name in self.names.filled(it).split())
-            same.append(difference(it, other, one))
+            yield difference(it, other, one)
         for it in step.get("bytes", []):
             name, start, digits = self.names.filled(it).split()
             held = read(folder / name)[int(start) :][: len(digits) // 2].hex()
-            same.append(difference(f"{name} from {start}", digits.encode(), held.encode()))
-        made = {name: os.lstat(folder / name) for name in set(os.listdir(folder)) - there}
-        if set(made) != ({self.names.filled(step["makes"])} if "makes" in step else set()):
-            same.append(f"files that were made: {sorted(made)}")
-        # its owner alone may read it, and it has no other name
-        kinds = {name: (it.st_mode, it.st_nlink) for name, it in made.items()}
-        same += [f"{name}: mode {it[0]:o}, {it[1]} links" for name, it in kinds.items() if it != (0o100600, 1)]
+            yield difference(f"{name} from {start}", digits.encode(), held.encode())
         for it in step.get("size", []):
             name, size = shlex.split(self.names.filled(it))
-            same.append(difference(f"size of {name}", size.encode(), str((folder / name).stat().st_size).encode()))
-        found = "\n".join(filter(None, same))
-        assert not found, f"{' '.join(self.words(step))}\n{found}"
-        for name, spec in step.get("copies", {}).items():
-            write(folder / self.names.filled(name), self.bytes_of(spec))
+            yield difference(f"size of {name}", size.encode(), str((folder / name).stat().st_size).encode())
+
+    def wrongly_made(self, step, folder, there):
+        """What is wrong with the files that were made: the owner alone may read one, and it has no other name."""
+        made = {name: os.lstat(folder / name) for name in set(os.listdir(folder)) - there}
+        if set(made) != ({self.names.filled(step["makes"])} if "makes" in step else set()):
+            yield f"files that were made: {sorted(made)}"
+        for name, it in made.items():
+            if (it.st_mode, it.st_nlink) != (0o100600, 1):
+                yield f"{name}: mode {it.st_mode:o}, {it.st_nlink} links"
 
     def commands(self):
         """The steps of the row, each with its names: one with `for` is done for each case of this table, in turn."""
@@ -296,8 +310,9 @@ class Row:
                 names = Names({**self.names, **case})
                 # which stream is full or closed may be told by a case, and none by an empty word
                 streams = {name: names.filled(step[name]) for name in ("full", "closed") if name in step}
-                rest = {name: it for name, it in step.items() if name not in streams}
-                yield {**rest, **{name: it for name, it in streams.items() if it}}, Names({**names, **{name: names.filled(it) for name, it in step.get("with", {}).items()}})
+                whole = {name: streams.get(name, it) for name, it in step.items() if streams.get(name) != ""}
+                words = {name: names.filled(it) for name, it in step.get("with", {}).items()}
+                yield whole, Names({**names, **words})
 
     def play(self):
         with tempfile.TemporaryDirectory(prefix="row-", dir=rooms()) as place:
@@ -340,7 +355,7 @@ class Run:
             self.command = [b"bash", b"-c", BASH[name].encode(), b"bash", *self.command]
 
     def number(self, name):
-        return int(self.row.names.filled(str(self.step[name])))
+        return self.row.number(self.step, name)
 
     def stream(self, name):
         """An open file for standard output or standard error."""
@@ -361,7 +376,10 @@ class Run:
         if "read_fails_after" not in self.step:
             (self.room / "stdin").write_bytes(self.given)
             return open(self.room / "stdin", "rb")
-        ours, theirs = pty.openpty()
+        try:
+            ours, theirs = pty.openpty()
+        except OSError:
+            raise Missing("rows whose reads fail (a terminal)") from None
         tty.setraw(theirs)
         os.write(theirs, self.given[: self.number("read_fails_after")])
         os.close(theirs)
@@ -464,9 +482,18 @@ OVER_TRIED = False
 
 @functools.cache
 def tried(name):
-    """The program as bin/try builds and keeps it."""
-    subprocess.run([TOP / "bin" / "try", name], stdin=subprocess.DEVNULL, capture_output=True)
-    return max(TOP.glob(f"crates/{name}/out/tried/*"), key=os.path.getmtime, default="")
+    """The program of this very text as bin/try builds and keeps it; or the proved one, if it is of this text."""
+    loader = importlib.machinery.SourceFileLoader("bin_try", str(TOP / "bin" / "try"))
+    bin_try = importlib.util.module_from_spec(importlib.util.spec_from_loader("bin_try", loader))
+    sys.dont_write_bytecode = True
+    loader.exec_module(bin_try)
+    status = subprocess.run([TOP / "bin" / "try", name], stdin=subprocess.DEVNULL, capture_output=True).returncode
+    kept = bin_try.place_for(name, bin_try.text_of(name)[0])
+    if kept and os.path.exists(kept):
+        return kept
+    if subprocess.run([TOP / "bin" / "proved", "--built", name], capture_output=True).returncode == 0:
+        return TOP / "crates" / name / "out" / name
+    raise FileNotFoundError(f"bin/try can't build {name}: status {status}")
 
 
 def program_of(name):
@@ -541,7 +568,6 @@ def alternatives(cell):
     span = re.fullmatch(r"(\d+)\.\.(\d+)", choice[1])
     each = map(str, range(int(span[1]), int(span[2]) + 1)) if span else choice[1].split(",")
     return [text for it in each for text in alternatives(cell[: choice.start()] + it + cell[choice.end() :])]
-
 
 
 def table_of(path):
@@ -622,6 +648,9 @@ def main(texts):
         OVER_TRIED, texts = True, texts[1:]
         os.environ["ASAN_OPTIONS"] = "verify_asan_link_order=0"
     chosen = [row for row in ROWS.values() if all(it in row.id for it in texts)]
+    if not chosen:
+        print(f"FAILED: no row's id has {' and '.join(texts)}\nrows: 0 passed, 1 failed")
+        return 1
     try:
         rooms()
     except OSError as fault:

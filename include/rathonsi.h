@@ -14,12 +14,12 @@
  * run its functions at the same time, each on memory of its own.
  *
  * What the caller owes. Nothing can check these duties.
- *   - No pointer is null, not even one with length 0.
- *   - Nothing that is passed lies at address 0. Of a program that lies there, copy the first bytes, and
+ *   D-1 No pointer is null, not even one with length 0.
+ *   D-2 Nothing that is passed lies at address 0. Of a program that lies there, copy the first bytes, and
  *     boot it in pieces: see rathonsi_boot_begin.
- *   - No length is over 2^31 - 1 if pointers have 32 bits.
- *   - Each pointer points to as many bytes as its length or its fixed size says, or to one struct.
- *   - What a call writes overlaps no other argument. To protect a payload where it stands, call
+ *   D-3 No length is over 2^31 - 1 if pointers have 32 bits.
+ *   D-4 Each pointer points to as many bytes as its length or its fixed size says, or to one struct.
+ *   D-5 What a call writes overlaps no other argument. To protect a payload where it stands, call
  *     rathonsi_secoc_protect_in_place.
  *
  * What isn't claimed:

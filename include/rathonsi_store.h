@@ -35,49 +35,52 @@
  * What the caller owes, in addition to what rathonsi.h says:
  *
  *   The image, the plan and the routes
- *   - The image is what the device holds, except for a plan that isn't done yet. The caller reads
+ *   D-6 The image is what the device holds, except for a plan that isn't done yet. The caller reads
  *     it from the device at power-up.
- *   - Only the functions below change the image, the plan and the counters of routes. One
+ *   D-7 Only the functions below change the image, the plan and the counters of routes. One
  *     exception: the caller zeroes a plan as this list says.
- *   - rathonsi_store_make and rathonsi_route_make change the image only before the first power-up.
- *   - A store has one image, one plan and one task at a time. Several stores share nothing: each
- *     has its own.
- *   - A Data ID in one direction has one cell and one route. No other route uses the cell.
+ *   D-8 rathonsi_store_make and rathonsi_route_make change the image only before the first power-up.
+ *   D-9 A store has one image and one plan. Several stores share nothing: each has its own. A call
+ *     that only reads the image may run at the same time as another one, each on a route of its own,
+ *     also while the writes of a plan are made: sending, receiving, opening, answers, states, MACs.
+ *     Of the calls that write the plan, one runs at a time. While rathonsi_store_done,
+ *     rathonsi_store_make or rathonsi_route_make runs, no other call on the store does.
+ *   D-10 A Data ID in one direction has one cell and one route. No other route uses the cell.
  *     rathonsi_routes_open sees to it, if one call gets all routes of the store. rathonsi_route_make
  *     and rathonsi_store_grow refuse a second cell, and rathonsi_store_look names one.
- *   - An open route is not filled in with another Data ID, direction or cell. The calls on an open
+ *   D-11 An open route is not filled in with another Data ID, direction or cell. The calls on an open
  *     route refuse it then, by its check value. Opening it again doesn't.
- *   - A route has the same Data ID, direction and cell in every life. Slot, window, reserve and
+ *   D-12 A route has the same Data ID, direction and cell in every life. Slot, window, reserve and
  *     booted may change. The caller zeroes opened at power-up, and never sets it.
- *   - While a plan is pending, routes send and receive as before. A new plan answers RATHONSI_BUSY.
- *   - A nonce is drawn by the caller, and none is used twice. See rathonsi_sync_take.
+ *   D-13 While a plan is pending, routes send and receive as before. A new plan answers RATHONSI_BUSY.
+ *   D-14 A nonce is drawn by the caller, and none is used twice. See rathonsi_sync_take.
  *
  *   Power-up
- *   - The caller zeroes the plan as each power-up begins, and whenever all begins again as at
+ *   D-15 The caller zeroes the plan as each power-up begins, and whenever all begins again as at
  *     power-up. It does so whatever was planned before, also if the plan's memory outlives a reset.
- *   - Software with routes that the production line didn't make calls rathonsi_store_grow for each
+ *   D-16 Software with routes that the production line didn't make calls rathonsi_store_grow for each
  *     of them, as said there. It does so at each power-up, whatever rathonsi_store_size says. Then
  *     it asks rathonsi_store_size, as does the first software of a unit that may get an update.
- *   - What is read at power-up is durable, and reads the same ever after. A device with a cache is
+ *   D-17 What is read at power-up is durable, and reads the same ever after. A device with a cache is
  *     synced before it is read. Otherwise what a failed write left may be read, relied on, and then
  *     be gone.
- *   - After each power-up the caller opens every route, with RATHONSI_OK, before any other call of
+ *   D-18 After each power-up the caller opens every route, with RATHONSI_OK, before any other call of
  *     this header that takes a route or changes the image. Exceptions are rathonsi_store_grow and
  *     rathonsi_store_done, the states, the boot, and the loads of a unit that sends nothing yet. A
  *     route that was zeroed and not opened is refused, and so is one whose last opening failed.
- *   - booted of a route, and of rathonsi_slot_load, is what rathonsi_boot or rathonsi_boot_finish
+ *   D-19 booted of a route, and of rathonsi_slot_load, is what rathonsi_boot or rathonsi_boot_finish
  *     said in this life, else 0. It says what a boot loader that the caller trusts gave to it.
  *
  *   Writes
- *   - The caller does the writes of a plan in their order, each durable before the next begins.
- *   - A write that is durable stays. If the power goes within a write, that write may leave
+ *   D-20 The caller does the writes of a plan in their order, each durable before the next begins.
+ *   D-21 A write that is durable stays. If the power goes within a write, that write may leave
  *     anything in its own bytes, and changes no other byte. Some memory rewrites whole words, pages
  *     or sectors: memory with error correction over words, NOR flash, many EEPROMs, eMMC. Such
  *     memory keeps this only under an emulation that does.
- *   - A plan that was begun is done, or all begins again as at power-up.
- *   - If a write of a plan fails, the caller makes no further write of the plan and no other call
+ *   D-22 A plan that was begun is done, or all begins again as at power-up.
+ *   D-23 If a write of a plan fails, the caller makes no further write of the plan and no other call
  *     of this header. All begins again as at power-up.
- *   - The caller may drop (zero) a plan if no write of it was begun.
+ *   D-24 The caller may drop (zero) a plan if no write of it was begun.
  *
  * First keys. An empty slot is authorised by itself, and its key counts as sixteen bytes ff. So a
  * production line loads, each with counter 1 and M1's AuthID as given:
@@ -487,7 +490,10 @@ int32_t rathonsi_route_reserve(const RathonsiRoute *route, uint64_t freshness, c
  * RATHONSI_BAD_VALUE: a number of the route is outside its range, or the route isn't open.
  * RATHONSI_WRONG_CELL, RATHONSI_DAMAGED: as for rathonsi_route_open.
  * RATHONSI_EXHAUSTED: freshness + reserve - 1 is 2^64 - 1 or more. The route would be opened at
- * 2^64 - 1, and no freshness is above that. */
+ * 2^64 - 1, and no freshness is above that.
+ * Whoever can forge this freshness can use up nearly all of the route's counter, for ever. The library
+ * doesn't authenticate it: take it by a way that is authenticated, such as the answer to a nonce, or a
+ * workshop tool, and refuse one that is further ahead than a unit can have sent. */
 RATHONSI_CHECKED
 int32_t rathonsi_route_advance(const RathonsiRoute *route, uint64_t freshness, const uint8_t *image, size_t image_length,
                                RathonsiPlan *plan);

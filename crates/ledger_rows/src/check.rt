@@ -7,13 +7,14 @@ use basics::Block;
 use she_aes::expand;
 use she_cmac::cmac;
 
-/// The check value of a key: the first three bytes of the CMAC of `key check value` under it. It tells two keys apart
-/// but for one pair in 2^24, and nothing else of the key.
+/// The check value of a key: the first three bytes of the CMAC of `key check` under it. It tells two keys apart but for
+/// one pair in 2^24. The text has 9 bytes, and what the MAC of a PDU covers has 11 or more. So it is no authenticator of
+/// a PDU.
 #[tactic(auto, unfolding(crate::specs::Check::key_check))]
 pub fn check_value(key: &Block) -> [u8; 3]
     ensures { result ≡ key_check key.now }
 {
-    let tag = cmac(&expand(key), b"key check value".as_slice());
+    let tag = cmac(&expand(key), b"key check".as_slice());
     let mut check = [0; 3];
     check.copy_from_slice(&tag.as_slice()[..3]);
     check
