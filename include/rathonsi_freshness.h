@@ -16,12 +16,11 @@
  *   - The sender's freshness is found if it is 1 to window above the counter. If the answer is
  *     RATHONSI_RESERVE and its plan is done, the same call gives it, and it can be accepted.
  *   - While the counter of a route stays, candidates make at most (window + reserve - 1) / reserve
- *     plans, rounded down. Over all lives they make (rise + window + reserve - 1) / reserve at most,
- *     if the counter rises by so much: see rathonsi_freshness_candidate.
+ *     plans, rounded down. For all lives see rathonsi_freshness_candidate.
  *
  * Freshness is a whole number of 64 bits here. SecOC modules pass it as bytes, the most significant
- * one first, and count lengths in bits. If the full freshness of a PDU has fewer bits in the
- * configuration of that module, the caller stops a route whose freshness needs more.
+ * one first, and count lengths in bits. If that module's freshness has fewer than 64 bits, the
+ * caller refuses a freshness that needs more. It asks for no further bound of such a route.
  *
  * What the caller owes, in addition to what rathonsi_store.h says:
  *   - freshness_only of such a route is 1 in every life. rathonsi_route_send, rathonsi_route_receive
@@ -99,9 +98,9 @@ int32_t rathonsi_freshness_next(RathonsiRoute *route, const uint8_t *image, size
  * the device write. This ends once the bound is at least counter + window. That takes at most
  * (window + reserve - 1) / reserve plans, rounded down: one if reserve is at least the window. It
  * begins anew once the counter moves: by a PDU that is accepted, by an answer that is taken, or
- * because the route is opened. So over all lives such PDUs make at most (rise + window + reserve - 1)
- * / reserve plans, rounded down, if the counter rises by so much. window is the largest one, and
- * reserve the smallest. A plan that the power cuts isn't counted.
+ * because the route is opened. If the counter rises by R in all lives, such PDUs make at most
+ * (R + W + S - 1) / S plans, rounded down. W is the route's largest window in any life, and S its
+ * smallest reserve. A plan that the power cuts isn't counted.
  * A receiver that is opened begins at its bound. So such PDUs may take its counter up by window +
  * reserve - 1 at each power-up, and it refuses as many genuine PDUs. A small window keeps this
  * small. */

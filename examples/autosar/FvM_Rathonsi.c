@@ -11,6 +11,8 @@ static FvM_StateType FvM_State = FVM_STOPPED;
 /* The memory writes the plan. */
 static boolean FvM_Writing;
 static int32_t FvM_Fault = RATHONSI_OK;
+/* The cell that the fault is of, or FVM_NO_CELL. */
+static uint16 FvM_FaultCell = FVM_NO_CELL;
 
 /* The store, and the room after it. */
 static uint8 FvM_Image[RATHONSI_STORE_SIZE(FVM_ROOM)];
@@ -29,14 +31,26 @@ static boolean FvM_Asked[FVM_ROUTES];
 /* How many PDUs were refused in a row, FVM_MISSES at most. */
 static uint8 FvM_Missed[FVM_ROUTES];
 #define FVM_MISSES 3u
+/* SecOC told a success of the route in this life. */
+static boolean FvM_Told[FVM_ROUTES];
+/* Until then: how many candidates in a row had no verdict, FVM_SILENCE at most. */
+static uint8 FvM_Untold[FVM_ROUTES];
+#define FVM_SILENCE 250u
 /* The plan is that of a key, and isn't begun yet. */
 static boolean FvM_KeyWaits;
 
-static void stop(int32_t status)
+/* A fault of this cell, or of the route that has it. */
+static void stop_cell(int32_t status, uint16 cell)
 {
     FvM_State = FVM_STOPPED;
     FvM_Writing = 0u;
     FvM_Fault = status;
+    FvM_FaultCell = cell;
+}
+
+static void stop(int32_t status)
+{
+    stop_cell(status, FVM_NO_CELL);
 }
 
 /* ---- Bits: the most significant bit of a value is the highest bit of byte 0 ----------------------------------- */
@@ -98,6 +112,8 @@ static void fill_routes(void)
         FvM_Wanted[i] = 0u;
         FvM_Asked[i] = 0u;
         FvM_Missed[i] = 0u;
+        FvM_Told[i] = 0u;
+        FvM_Untold[i] = 0u;
     }
 }
 
@@ -115,18 +131,19 @@ static RathonsiRoute route_of_cell(uint16 cell)
     return route;
 }
 
-/* The freshness that the next bound of a route has to cover, or 0 if its bound is far enough. */
+/* The freshness that the next bound of a route has to cover, or 0 if its bound is far enough. No bound is written for
+ * freshness that needs more bits than SecOC's has. */
 static uint64 due(uint32 i)
 {
     RathonsiRouteState told;
     uint64 freshness = 0u;
     const int32_t status = rathonsi_route_state(&FvM_Route[i], FvM_Image, FvM_Size, &told);
     if (status != RATHONSI_OK) {
-        stop(status);
+        stop_cell(status, FvM_Routes[i].cell);
     } else if (FvM_Wanted[i] > told.bound) {
         freshness = FvM_Wanted[i];
     } else if ((FvM_Asked[i] != 0u) && ((told.bound - told.counter) < FvM_Routes[i].least)
-               && (told.bound < UINT64_MAX)) {
+               && (told.bound < UINT64_MAX) && (fits(told.bound + 1u, FvM_Routes[i].bits) != 0u)) {
         freshness = told.bound + 1u;
     } else {
         FvM_Wanted[i] = 0u;
@@ -139,13 +156,17 @@ static uint64 due(uint32 i)
 /* The store has all cells: all routes are opened. */
 static void open_routes(void)
 {
-    uint32_t which = 0u;
+    uint32_t which = FVM_ROUTES;
+    uint16_t cell = FVM_NO_CELL;
     int32_t status = rathonsi_store_size(FvM_Image, &FvM_Size);
     if ((status == RATHONSI_OK) && (FvM_Size > sizeof FvM_Image)) {
         status = RATHONSI_BAD_LENGTH;
     }
     if (status == RATHONSI_OK) {
         status = rathonsi_store_check(FvM_Image, FvM_Size);
+        if (status == RATHONSI_DAMAGED) {
+            status = rathonsi_store_look(FvM_Image, FvM_Size, &cell);
+        }
     }
     if (status == RATHONSI_OK) {
         status = rathonsi_routes_open(FvM_Route, FVM_ROUTES, FvM_Image, FvM_Size, &which);
@@ -153,7 +174,7 @@ static void open_routes(void)
     if (status == RATHONSI_OK) {
         FvM_State = FVM_UP;
     } else {
-        stop(status);
+        stop_cell(status, (which < FVM_ROUTES) ? FvM_Routes[which].cell : cell);
     }
 }
 
@@ -176,7 +197,8 @@ static boolean make_growth(void)
         }
     }
     if (status != RATHONSI_OK) {
-        stop(status);
+        /* The loop is past the cell. */
+        stop_cell(status, (uint16)((RATHONSI_SLOT_CELLS + FvM_Cell) - 1u));
     } else if (is_planned() == 0u) {
         open_routes();
     } else {
@@ -213,7 +235,7 @@ static boolean make_plan(void)
             } else if (status == RATHONSI_EXHAUSTED) {
                 FvM_Wanted[i] = 0u;
             } else {
-                stop(status);
+                stop_cell(status, FvM_Routes[i].cell);
             }
         }
     }
@@ -245,6 +267,8 @@ void FvM_Init(void)
     FVM_ENTER();
     stop(RATHONSI_OK);
     (void)memset(&FvM_Plan, 0, sizeof FvM_Plan);
+    /* Bytes that the memory doesn't read, of a block that is too short, are no erased ones: no cell is added there. */
+    (void)memset(FvM_Image, 0x55, sizeof FvM_Image);
     fill_routes();
     FvM_Size = sizeof FvM_Image;
     FvM_Cell = FVM_MADE;
@@ -296,6 +320,11 @@ int32_t FvM_GetFault(void)
     return FvM_Fault;
 }
 
+uint16 FvM_GetFaultCell(void)
+{
+    return FvM_FaultCell;
+}
+
 /* ---- The callouts of SecOC ------------------------------------------------------------------------------------------ */
 
 /* What a callout answers for a status of Rathonsi. */
@@ -312,10 +341,16 @@ static Std_ReturnType answer_of(int32_t status)
     return answer;
 }
 
-/* What a callout answers before all routes are open, or after a fault. */
+/* What a call for the Crypto driver answers before all routes are open, or after a fault. */
+static int32_t status_down(void)
+{
+    return ((FvM_State == FVM_READING) || (FvM_State == FVM_GROWING)) ? RATHONSI_BUSY : FVM_NOT_UP;
+}
+
+/* What a callout answers then. */
 static Std_ReturnType answer_down(void)
 {
-    return ((FvM_State == FVM_READING) || (FvM_State == FVM_GROWING)) ? E_BUSY : E_NOT_OK;
+    return (status_down() == RATHONSI_BUSY) ? E_BUSY : E_NOT_OK;
 }
 
 /* This freshness of a route has to be covered. */
@@ -326,11 +361,13 @@ static void want(uint32 i, uint64 freshness)
     }
 }
 
-/* Takes the next freshness of a sender. */
+/* Takes the next freshness of a sender. At the end of its length it takes none, and wants no bound. */
 static Std_ReturnType next_freshness(uint32 i, uint64 *freshness)
 {
     Std_ReturnType answer = answer_down();
-    if (FvM_State == FVM_UP) {
+    if ((FvM_State == FVM_UP) && (fits(FvM_Route[i].counter + 1u, FvM_Routes[i].bits) == 0u)) {
+        answer = E_NOT_OK;
+    } else if (FvM_State == FVM_UP) {
         FvM_Asked[i] = 1u;
         const int32_t status =
             rathonsi_freshness_next(&FvM_Route[i], FvM_Image, FvM_Size, freshness);
@@ -338,6 +375,8 @@ static Std_ReturnType next_freshness(uint32 i, uint64 *freshness)
             want(i, FvM_Route[i].counter + 1u);
         }
         answer = answer_of(status);
+    } else {
+        /* It isn't up. */
     }
     return answer;
 }
@@ -354,9 +393,6 @@ Std_ReturnType SecOC_GetTxFreshnessTruncData(uint16 SecOCFreshnessValueID, uint8
         FVM_ENTER();
         answer = next_freshness(i, &freshness);
         FVM_LEAVE();
-        if ((answer == E_OK) && (fits(freshness, FvM_Routes[i].bits) == 0u)) {
-            answer = E_NOT_OK;
-        }
         if (answer == E_OK) {
             put_value(freshness, FvM_Routes[i].bits, SecOCFreshnessValue);
             *SecOCFreshnessValueLength = FvM_Routes[i].bits;
@@ -375,7 +411,23 @@ Std_ReturnType SecOC_GetTxFreshness(uint16 SecOCFreshnessValueID, uint8 *SecOCFr
                                          none, &noBits);
 }
 
-/* The freshness is the next one with these low bits, and SecOC verifies with it. */
+/* SecOC verifies with this freshness. A SecOC that never tells a verdict would take replays: it stops the manager. */
+static Std_ReturnType give_candidate(uint32 i, uint64 freshness)
+{
+    Std_ReturnType answer = E_OK;
+    if (FvM_Untold[i] == FVM_SILENCE) {
+        stop_cell(FVM_NO_VERDICT, FvM_Routes[i].cell);
+        answer = E_NOT_OK;
+    } else {
+        FvM_Candidate[i] = freshness;
+        if (FvM_Told[i] == 0u) {
+            FvM_Untold[i]++;
+        }
+    }
+    return answer;
+}
+
+/* The freshness is the next one with these low bits. One that needs more bits than SecOC's has is none. */
 static Std_ReturnType candidate(uint32 i, uint64 truncated, uint32 bits, uint64 *freshness)
 {
     Std_ReturnType answer = answer_down();
@@ -384,15 +436,16 @@ static Std_ReturnType candidate(uint32 i, uint64 truncated, uint32 bits, uint64 
         FvM_Asked[i] = 1u;
         const int32_t status = rathonsi_freshness_candidate(&FvM_Route[i], FvM_Image, FvM_Size, truncated,
                                                             (uint8)bits, freshness);
-        if (status == RATHONSI_RESERVE) {
-            want(i, *freshness);
-        }
-        answer = answer_of(status);
-        if ((answer == E_OK) && (fits(*freshness, FvM_Routes[i].bits) == 0u)) {
-            answer = E_NOT_OK;
-        }
+        answer = (fits(*freshness, FvM_Routes[i].bits) == 0u) ? E_NOT_OK : answer_of(status);
         if (answer == E_OK) {
-            FvM_Candidate[i] = *freshness;
+            answer = give_candidate(i, *freshness);
+        } else if (answer == E_BUSY) {
+            want(i, *freshness);
+        } else if (status == RATHONSI_BAD_VALUE) {
+            /* SecOC is configured with too few bits for the window. */
+            stop_cell(status, FvM_Routes[i].cell);
+        } else {
+            /* The PDU is refused. */
         }
     }
     return answer;
@@ -431,6 +484,7 @@ void FvM_VerificationStatus(SecOC_VerificationStatusType status)
     const uint32 i = route_of(status.freshnessValueID, RATHONSI_RECEIVES);
     if (i < FVM_ROUTES) {
         FVM_ENTER();
+        FvM_Untold[i] = 0u;
         if (status.verificationStatus != SECOC_VERIFICATIONSUCCESS) {
             if (FvM_Missed[i] < FVM_MISSES) {
                 FvM_Missed[i]++;
@@ -440,9 +494,10 @@ void FvM_VerificationStatus(SecOC_VerificationStatusType status)
             const int32_t accepted =
                 rathonsi_freshness_accept(&FvM_Route[i], FvM_Image, FvM_Size, FvM_Candidate[i]);
             if (accepted != RATHONSI_OK) {
-                stop(accepted);
+                stop_cell(accepted, FvM_Routes[i].cell);
             }
             FvM_Missed[i] = 0u;
+            FvM_Told[i] = 1u;
         } else {
             /* Nothing is accepted while the store isn't open. */
         }
@@ -514,11 +569,15 @@ int32_t FvM_LoadKey(const RathonsiRequest *request)
 {
     int32_t status = RATHONSI_BUSY;
     FVM_ENTER();
-    if ((FvM_State == FVM_UP) && (FvM_Writing == 0u)) {
+    if (FvM_State != FVM_UP) {
+        status = status_down();
+    } else if (FvM_Writing == 0u) {
         status = rathonsi_slot_load(FvM_Uid, 0u, request, FvM_Image, FvM_Size, &FvM_Plan);
         if (status == RATHONSI_OK) {
             FvM_KeyWaits = 1u;
         }
+    } else {
+        /* RATHONSI_BUSY */
     }
     FVM_LEAVE();
     return status;
@@ -528,8 +587,12 @@ int32_t FvM_ConfirmKey(const uint8 m1[16], RathonsiReply *reply)
 {
     int32_t status = RATHONSI_BUSY;
     FVM_ENTER();
-    if ((FvM_State == FVM_UP) && (FvM_Writing == 0u) && (FvM_KeyWaits == 0u)) {
+    if (FvM_State != FVM_UP) {
+        status = status_down();
+    } else if ((FvM_Writing == 0u) && (FvM_KeyWaits == 0u)) {
         status = rathonsi_slot_confirm(FvM_Uid, m1, FvM_Image, FvM_Size, reply);
+    } else {
+        /* RATHONSI_BUSY */
     }
     FVM_LEAVE();
     return status;
@@ -537,8 +600,9 @@ int32_t FvM_ConfirmKey(const uint8 m1[16], RathonsiReply *reply)
 
 int32_t FvM_MakeMac(uint8 slot, const uint8 *message, uint32 length, uint8 mac[16])
 {
-    int32_t status = RATHONSI_BUSY;
+    int32_t status;
     FVM_ENTER();
+    status = status_down();
     if (FvM_State == FVM_UP) {
         status = rathonsi_slot_mac(slot, 0u, FvM_Image, FvM_Size, message, length, mac);
     }

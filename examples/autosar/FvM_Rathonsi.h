@@ -58,8 +58,19 @@ void FvM_MainFunction(void);
 FvM_StateType FvM_GetState(void);
 
 /* The status of Rathonsi that stopped it, for a diagnostic event. RATHONSI_OK if none did. RATHONSI_FAILED:
- * the memory failed. RATHONSI_BAD_LENGTH: the store has more cells than FVM_ROOM. */
+ * the memory failed. RATHONSI_BAD_LENGTH: the store has more cells than FVM_ROOM. FVM_NO_VERDICT: see there. */
 int32_t FvM_GetFault(void);
+
+/* SecOC was given 250 candidates of a route in a row, and told no verdict of any, nor a success of the route in this
+ * life. FvM_VerificationStatus isn't configured, or not for successes: replays would be accepted. A SecOC that is right
+ * tells a verdict for each candidate. It tells none if it drops the PDU for a newer one, or asks again since Csm is busy:
+ * then a verdict or a success comes before 250 of them. */
+#define FVM_NO_VERDICT 100
+
+/* The cell whose fault it is: below 14 a slot, else the route of that cell in FvM_Routes.c. The cell of the first line of
+ * cells.txt is 14. FVM_NO_CELL: the fault is of none. */
+#define FVM_NO_CELL 0xffffu
+uint16 FvM_GetFaultCell(void);
 
 /* Configured as SecOCVerificationStatusCallout, with all results propagated. It accepts the freshness that
  * SecOC_GetRxFreshness gave last for this ID if the authenticator was right. */
@@ -70,7 +81,8 @@ void FvM_VerificationStatus(SecOC_VerificationStatusType status);
  * 24 bytes back. The receiver calls FvM_TakeAnswer with them, and forgets the nonce. Both keep one key in the slot that
  * is configured. Nonce and answer may travel in plain PDUs. */
 
-/* Says whether three or more PDUs of this ID were refused in a row: time to ask. */
+/* Says whether three or more PDUs of this ID weren't verified in a row: time to ask. PDUs count, too, that SecOC didn't
+ * verify, or that came while the store was read. */
 boolean FvM_IsBehind(uint16 freshnessId);
 
 /* E_BUSY: the store is being read. E_NOT_OK: no sender has this ID, a receiver has it too, or no key is in the slot. */
@@ -81,8 +93,9 @@ Std_ReturnType FvM_MakeAnswer(uint16 freshnessId, const uint8 nonce[16], uint8 a
  * nonce, the receiver isn't behind, or no key is in the slot. */
 Std_ReturnType FvM_TakeAnswer(uint16 freshnessId, const uint8 nonce[16], const uint8 answer[24]);
 
-/* What Crypto_Rathonsi.c asks. RATHONSI_BUSY: the store is being read, or written; ask again. A key is durable
- * before FvM_ConfirmKey confirms it. */
+/* What Crypto_Rathonsi.c asks. RATHONSI_BUSY: the store is being read, or written; ask again. FVM_NOT_UP: FvM_GetState
+ * is FVM_STOPPED or FVM_MAKING; only FvM_Init helps. A key is durable before FvM_ConfirmKey confirms it. */
+#define FVM_NOT_UP 101
 int32_t FvM_LoadKey(const RathonsiRequest *request);
 int32_t FvM_ConfirmKey(const uint8 m1[16], RathonsiReply *reply);
 int32_t FvM_MakeMac(uint8 slot, const uint8 *message, uint32 length, uint8 mac[16]);

@@ -25,6 +25,15 @@ void memory_cut(uint32 times);
 /* How many jobs were done. */
 uint64 memory_jobs(void);
 
+/* A job has failed since the power came back. */
+boolean memory_has_failed(void);
+
+/* From now on no job may begin, or they may again. */
+void memory_refuse(boolean refuses);
+
+/* The block has this length, though the software has another one. Says whether this memory has a block. */
+boolean memory_shorten(uint32 length);
+
 /* ---- What a driver asks of memory_power.c ---- */
 
 /* Begins a job of this kind, above 0, that takes fewer than so many cycles after the first. No other one may run. */
@@ -38,6 +47,9 @@ uint32 memory_job(void);
 /* The power goes once in so many cycles of this job, or never if it is 0. The job fails once in so many. */
 uint32 device_cuts(uint32 kind);
 uint32 device_fails(uint32 kind);
+
+/* The power comes back: RAM is lost. */
+void device_power_up(void);
 
 /* The job did what it is for; or the power went within it; or it failed. */
 void device_does(uint32 kind);

@@ -40,6 +40,16 @@ MemIf_JobResultType Eep_GetJobResult(void)
     return (memory_job() != 0u) ? MEMIF_JOB_PENDING : failed ? MEMIF_JOB_FAILED : MEMIF_JOB_OK;
 }
 
+boolean memory_shorten(uint32 length)
+{
+    (void)length;
+    return 0u;
+}
+
+void device_power_up(void)
+{
+}
+
 uint32 device_cuts(uint32 kind)
 {
     (void)kind;

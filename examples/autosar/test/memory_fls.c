@@ -67,6 +67,16 @@ MemIf_JobResultType Fls_GetJobResult(void)
     return result;
 }
 
+boolean memory_shorten(uint32 length)
+{
+    (void)length;
+    return 0u;
+}
+
+void device_power_up(void)
+{
+}
+
 uint32 device_cuts(uint32 kind)
 {
     return (kind == READS) ? 0u : 600u;

@@ -2,7 +2,7 @@
 #include "memory.h"
 
 static uint32 job, left, times;
-static boolean cut;
+static boolean cut, has_failed, refusing;
 static uint64 jobs;
 
 /* Whether it happens now: once in so many, or more often. */
@@ -13,7 +13,7 @@ static boolean happens(uint32 once_in)
 
 Std_ReturnType memory_begin(uint32 kind, uint32 cycles)
 {
-    if (job != 0u || cut)
+    if (job != 0u || cut || refusing)
         return E_NOT_OK;
     job = kind;
     left = below(cycles);
@@ -35,10 +35,12 @@ void memory_tick(void)
     } else if (left > 0u) {
         left--;
     } else {
-        if (happens(device_fails(job)))
+        if (happens(device_fails(job))) {
             device_failed(job);
-        else
+            has_failed = 1u;
+        } else {
             device_does(job);
+        }
         job = 0u;
         jobs++;
     }
@@ -48,6 +50,18 @@ void memory_power_up(void)
 {
     cut = 0u;
     job = 0u;
+    has_failed = 0u;
+    device_power_up();
+}
+
+boolean memory_has_failed(void)
+{
+    return has_failed;
+}
+
+void memory_refuse(boolean refuses)
+{
+    refusing = refuses;
 }
 
 boolean memory_is_cut(void)

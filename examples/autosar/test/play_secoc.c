@@ -7,7 +7,7 @@
  * goes at any moment of a job of the memory, and jobs fail. Units come from the line of this software, of an older one
  * with fewer cells, and of a newer one with more. A receiver that sleeps for too long asks for an answer. The program ends
  * with 1, and says why, if a freshness is given or accepted twice, a forged PDU is accepted, a unit doesn't come up, or it
- * is deaf for longer than its window and reserve explain.
+ * is deaf for longer than its window and reserve explain. Before that faults.c plays units that are at fault.
  */
 #include <stdio.h>
 #include <stdlib.h>
@@ -17,12 +17,10 @@
 #include "FvM_Cfg.h"
 #include "FvM_Memory.h"
 #include "memory.h"
+#include "play.h"
 #include "rathonsi_freshness.h"
 
 enum { PAYLOAD = 8, KEPT = 64, BUILD_ATTEMPTS = 8, A_UNIT = 2000, CHANCES = 3 };
-
-/* The routes of secoc.arxml, in its order. */
-enum { SPEED, BRAKE, JASPAR, WHOLE, SHORT_ONE, ECHO };
 
 const uint8 FvM_Uid[15] = {0u, 0u, 0u, 0u, 0u, 0u, 0u, 0u, 0u, 0u, 0u, 0u, 0u, 0u, 1u};
 const uint8 FvM_SlotOfKey[FVM_KEYS] = {4u, 5u};
@@ -40,7 +38,7 @@ uint32 below(uint32 limit)
     return (uint32)((seed >> 33u) % limit);
 }
 
-static void fail(const char *why, uint64 number)
+void fail(const char *why, uint64 number)
 {
     printf("FAILED: %s: %llu\n", why, (unsigned long long)number);
     exit(1);
@@ -63,8 +61,7 @@ static const uint32 TRUNCATED[FVM_ROUTES] = {8u, 8u, 4u, 64u, 4u, 64u};
 static const uint32 MAC_BITS[FVM_ROUTES] = {24u, 24u, 28u, 128u, 64u, 24u};
 static const uint32 SENDERS[3] = {SPEED, SHORT_ONE, ECHO}, RECEIVERS[3] = {BRAKE, JASPAR, WHOLE};
 
-/* The last freshness of a route that its bits can tell. */
-static uint64 last_of(uint32 route)
+uint64 last_of(uint32 route)
 {
     const uint32 bits = FvM_Routes[route].bits;
     return (bits < 64u) ? ((uint64)1u << bits) - 1u : UINT64_MAX;
@@ -204,14 +201,13 @@ static uint8 old_answer[FVM_ROUTES][RATHONSI_ANSWER];
 
 /* ---- The unit: power-ups, sends, receives ------------------------------------------------------------------------- */
 
-static void main_function(void)
+void main_function(void)
 {
     FvM_MainFunction();
     memory_tick();
 }
 
-/* All begins again until the unit is up, or stopped by a status. The power may go while it starts, too. */
-static void start_unit(void)
+void start_unit(void)
 {
     do {
         memory_power_up();
@@ -222,7 +218,7 @@ static void start_unit(void)
             main_function();
         if (memory_is_cut())
             cuts++;
-        else if (FvM_GetState() != FVM_UP && FvM_GetFault() == RATHONSI_FAILED)
+        else if (FvM_GetState() != FVM_UP && FvM_GetFault() == RATHONSI_FAILED && memory_has_failed())
             failures++;
         else
             return;
@@ -243,7 +239,7 @@ static void run(uint32 cycles)
         if (memory_is_cut()) {
             cuts++;
             power_up();
-        } else if (FvM_GetState() != FVM_UP && FvM_GetFault() == RATHONSI_FAILED) {
+        } else if (FvM_GetState() != FVM_UP && FvM_GetFault() == RATHONSI_FAILED && memory_has_failed()) {
             failures++;
             power_up();
         } else if (FvM_GetState() != FVM_UP) {
@@ -252,8 +248,7 @@ static void run(uint32 cycles)
     }
 }
 
-/* A freshness that was given: it is above all before it. */
-static void look_at_freshness(uint32 route, const uint8 *freshness, uint32 length)
+void look_at_freshness(uint32 route, const uint8 *freshness, uint32 length)
 {
     uint64 value = 0u;
     if (length != FvM_Routes[route].bits)
@@ -265,15 +260,22 @@ static void look_at_freshness(uint32 route, const uint8 *freshness, uint32 lengt
     given[route] = value;
 }
 
+void forget_given(void)
+{
+    memset(given, 0, sizeof given);
+}
+
 /* The other unit asks the unit for its counter: all freshness that was given is at most what it tells, and all later
- * freshness is above it. */
+ * freshness is above it. The unit makes no answer for an ID that it receives, too. */
 static void answer_other(uint32 route)
 {
     uint8 nonce[RATHONSI_NONCE], answer[RATHONSI_ANSWER];
     for (uint32 i = 0u; i < RATHONSI_NONCE; i++)
         nonce[i] = (uint8)below(256u);
-    if (FvM_MakeAnswer(FvM_Routes[route].freshnessId, nonce, answer) != E_OK)
-        fail("no answer is made, ID", FvM_Routes[route].freshnessId);
+    if (FvM_MakeAnswer(FvM_Routes[route].freshnessId, nonce, answer) != ((route == ECHO) ? E_NOT_OK : E_OK))
+        fail("an answer is made or refused wrongly, ID", FvM_Routes[route].freshnessId);
+    if (route == ECHO)
+        return;
     RathonsiVerdict verdict = rathonsi_sync_take(&other[route], other_image, sizeof other_image, nonce, answer);
     if (verdict.status == RATHONSI_RESERVE) {
         right(rathonsi_route_advance(&other[route], verdict.freshness, other_image, sizeof other_image, &other_plan), "no advance");
@@ -450,17 +452,19 @@ static Std_ReturnType take_answer(uint32 route, const uint8 *nonce, const uint8 
     return result;
 }
 
-/* The unit draws a nonce for a route that is behind. The attacker comes first: with an answer of before, and with one that
- * is altered. After an answer that was taken, the next PDU is accepted, unless the power goes. */
+/* The unit draws a nonce for a route that is behind. The attacker comes first: he gives the nonce to the unit itself, and
+ * comes with an answer of before, and with one that is altered. After an answer that was taken, the next PDU is accepted, unless the power goes. */
 static void ask(uint32 route)
 {
-    uint8 nonce[RATHONSI_NONCE], answer[RATHONSI_ANSWER], forged[RATHONSI_ANSWER];
+    uint8 nonce[RATHONSI_NONCE], answer[RATHONSI_ANSWER], forged[RATHONSI_ANSWER], reflected[RATHONSI_ANSWER];
     for (uint32 i = 0u; i < RATHONSI_NONCE; i++)
         nonce[i] = (uint8)below(256u);
     asked++;
     right(rathonsi_sync_answer(&other[route], other_image, sizeof other_image, nonce, answer), "the other unit answers nothing");
     memcpy(forged, answer, sizeof forged);
     forged[below(RATHONSI_ANSWER)] ^= (uint8)(1u << below(8u));
+    if (FvM_MakeAnswer(FvM_Routes[route].freshnessId, nonce, reflected) != E_NOT_OK)
+        fail("a unit answers itself, ID", FvM_Routes[route].freshnessId);
     if (take_answer(route, nonce, old_answer[route]) != E_NOT_OK || take_answer(route, nonce, forged) != E_NOT_OK)
         fail("a forged answer is taken, ID", FvM_Routes[route].freshnessId);
     memcpy(old_answer[route], answer, sizeof answer);
@@ -526,7 +530,8 @@ static void tell_wrongly(uint32 route)
     else if (accepted[route] == 0u || TRUNCATED[route] < 64u || query(&replayed, freshness) != E_NOT_OK)
         return;
     tell(route, SECOC_VERIFICATIONSUCCESS);
-    if (FvM_GetState() != FVM_STOPPED || FvM_GetFault() != RATHONSI_FRESHNESS_FAILURE)
+    if (FvM_GetState() != FVM_STOPPED || FvM_GetFault() != RATHONSI_FRESHNESS_FAILURE
+        || FvM_GetFaultCell() != FvM_Routes[route].cell)
         fail("a success without a candidate counts, ID", FvM_Routes[route].freshnessId);
     stops++;
     power_up();
@@ -562,26 +567,46 @@ static void event(void)
 
 /* ---- Keys --------------------------------------------------------------------------------------------------------- */
 
-/* Loads a key into the slot of a key ID by its M1 to M3, and compares the proof. The other unit gets it, too. */
-static void load_key(uint32 keyId, uint32 counter)
+/* A new key for a slot. The other unit gets it, too. */
+static RathonsiUpdate new_key(uint8 slot, uint32 counter, RathonsiRequest *request, RathonsiReply *reply)
 {
     RathonsiUpdate update;
-    RathonsiRequest request;
-    RathonsiReply reply;
-    uint8 messages[64], proof[48];
-    uint32 room = sizeof proof;
     memset(&update, 0, sizeof update);
     memcpy(update.uid, FvM_Uid, 15u);
-    update.id = FvM_SlotOfKey[keyId];
-    update.auth = update.id;
+    update.id = slot;
+    update.auth = slot;
     update.counter = counter;
     update.flags = RATHONSI_KEY_USAGE;
     for (uint32 i = 0u; i < 16u; i++)
         update.key[i] = (uint8)below(256u);
-    right(rathonsi_she_make_update(counter == 1u ? EMPTY_KEY : key, 16u, &update, &request), "no update");
-    right(rathonsi_she_confirm(&update, FvM_Uid, &reply), "no proof");
-    right(rathonsi_slot_load(FvM_Uid, 0u, &request, other_image, sizeof other_image, &other_plan), "the other unit has no key");
+    right(rathonsi_she_make_update(counter == 1u ? EMPTY_KEY : key, 16u, &update, request), "no update");
+    right(rathonsi_she_confirm(&update, FvM_Uid, reply), "no proof");
+    right(rathonsi_slot_load(FvM_Uid, 0u, request, other_image, sizeof other_image, &other_plan), "the other unit has no key");
     other_done();
+    return update;
+}
+
+/* Loads the key for answers, which the Crypto driver can't reach. */
+static void load_answer_key(void)
+{
+    RathonsiRequest request;
+    RathonsiReply wanted, reply;
+    (void)new_key(FVM_ANSWER_SLOT, 1u, &request, &wanted);
+    right(FvM_LoadKey(&request), "no key for answers");
+    while (FvM_ConfirmKey(request.m1, &reply) == RATHONSI_BUSY)
+        main_function();
+    if (memcmp(reply.m4, wanted.m4, 32u) != 0)
+        fail("the proof is another, slot", FVM_ANSWER_SLOT);
+}
+
+/* Loads a key into the slot of a key ID by its M1 to M3, and compares the proof. */
+static void load_key(uint32 keyId, uint32 counter)
+{
+    RathonsiRequest request;
+    RathonsiReply reply;
+    uint8 messages[64], proof[48];
+    uint32 room = sizeof proof;
+    const RathonsiUpdate update = new_key(FvM_SlotOfKey[keyId], counter, &request, &reply);
     memcpy(messages, request.m1, 16u);
     memcpy(&messages[16], request.m2, 32u);
     memcpy(&messages[48], request.m3, 16u);
@@ -634,9 +659,7 @@ static void make_here(void)
             fail("the room after the store isn't erased, byte", i);
 }
 
-/* The line of another software makes a store of so many cells, whose counters have come to these bounds. Newer software
- * has added cells that this one doesn't know. */
-static void make_elsewhere(uint32 cells, uint64 *bounds)
+void make_elsewhere(uint32 cells, uint64 *bounds)
 {
     const uint32 size = RATHONSI_STORE_SIZE(cells);
     memset(line_image, 0xff, sizeof line_image);
@@ -663,18 +686,17 @@ static void make_elsewhere(uint32 cells, uint64 *bounds)
     grown += cells < FVM_CELLS;
 }
 
-/* A unit stops if a cell is damaged that no route of it uses: one of a slot. Flash takes no such store. */
-static void damaged_unit(void)
+boolean spoil_cell(uint32 cell, uint32 from)
 {
-    uint64 bounds[FVM_ROUTES] = {0u};
-    make_elsewhere(FVM_CELLS, bounds);
-    memset(&line_image[32u + (68u * 9u)], 0x55, 68u);
+    uint8 bytes[68];
+    memset(bytes, 0x55, sizeof bytes);
+    if (from != cell)
+        memcpy(bytes, &line_image[32u + (68u * from)], sizeof bytes);
+    memcpy(&line_image[32u + (68u * cell)], bytes, sizeof bytes);
     if (FvM_Memory_Make(line_image, sizeof line_image) != E_OK)
-        return;
+        return 0u;
     finish_memory();
-    start_unit();
-    if (FvM_GetState() != FVM_STOPPED || FvM_GetFault() != RATHONSI_DAMAGED)
-        fail("a damaged cell isn't seen, status", (uint64)FvM_GetFault());
+    return 1u;
 }
 
 /* With nothing to disturb it a unit that sends now and then never waits, but for its first PDU. */
@@ -743,6 +765,7 @@ static void new_pair(void)
     memory_cut(0u);
     if (FvM_MakeAnswer(FvM_Routes[SPEED].freshnessId, nonce, answer) != E_NOT_OK)
         fail("an answer is made without a key, ID", FvM_Routes[SPEED].freshnessId);
+    load_answer_key();
     load_key(0u, 1u);
     load_key(0u, 2u);
     if (units % 10u == 0u)
@@ -758,7 +781,8 @@ int main(int count, char **words)
     const uint64 events = (count > 1) ? strtoull(words[1], NULL, 10) : 200000u;
     seed = (count > 2) ? strtoull(words[2], NULL, 10) : 1u;
     make_here();
-    damaged_unit();
+    play_faults();
+    grown = 0u;
     for (uint64 i = 0u; i < events; i++) {
         if (i % A_UNIT == 0u)
             new_pair();

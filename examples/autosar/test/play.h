@@ -1,0 +1,43 @@
+/* What play_secoc.c and faults.c share: the unit, and the production line of other software. */
+#ifndef PLAY_H
+#define PLAY_H
+
+#include "FvM_Cfg.h"
+
+#if FVM_ROUTES != 6
+#error "play_secoc plays the routes of test/secoc.arxml only"
+#endif
+
+/* The routes of secoc.arxml, in its order. */
+enum { SPEED, BRAKE, JASPAR, WHOLE, SHORT_ONE, ECHO };
+
+/* Ends the program with 1. */
+void fail(const char *why, uint64 number);
+
+/* The last freshness of a route that its bits can tell. */
+uint64 last_of(uint32 route);
+
+/* A cycle of the unit and of its memory. */
+void main_function(void);
+
+/* All begins again until the unit is up, or stopped by a status. The power may go while it starts, too. */
+void start_unit(void);
+
+/* A freshness that was given: it is above all before it. */
+void look_at_freshness(uint32 route, const uint8 *freshness, uint32 length);
+
+/* Other units come: nothing was given yet. */
+void forget_given(void);
+
+/* The line of another software makes a store of so many cells, whose counters have come to these bounds. Newer software
+ * has added cells that this one doesn't know. */
+void make_elsewhere(uint32 cells, uint64 *bounds);
+
+/* Writes that store again, with a cell that has the bytes of another one, or is damaged if it is the same. Says whether the
+ * memory took it: flash takes no damage. */
+boolean spoil_cell(uint32 cell, uint32 from);
+
+/* faults.c: units whose configuration, memory or SecOC is at fault. */
+void play_faults(void);
+
+#endif
