@@ -647,7 +647,8 @@ def main(texts):
     if texts[:1] == ["--try"]:
         OVER_TRIED, texts = True, texts[1:]
         os.environ["ASAN_OPTIONS"] = "verify_asan_link_order=0"
-    chosen = [row for row in ROWS.values() if all(it in row.id for it in texts)]
+    # a whole id names its row alone
+    chosen = [row for row in ROWS.values() if [row.id] == texts] or [row for row in ROWS.values() if all(it in row.id for it in texts)]
     if not chosen:
         print(f"FAILED: no row's id has {' and '.join(texts)}\nrows: 0 passed, 1 failed")
         return 1
