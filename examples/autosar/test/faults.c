@@ -2,6 +2,7 @@
 #include <string.h>
 
 #include "Crypto.h"
+#include "FvM_Memory.h"
 #include "memory.h"
 #include "play.h"
 
@@ -107,6 +108,41 @@ static void short_blocks(void)
     (void)memory_shorten(whole);
 }
 
+static void finish_memory(void)
+{
+    FvM_MemoryState state = FVM_MEMORY_BUSY;
+    while ((state = FvM_Memory_Poll()) == FVM_MEMORY_BUSY)
+        memory_tick();
+    if (state != FVM_MEMORY_DONE)
+        fail("the memory fails, state", state);
+}
+
+/* A cut left the cells after the first new one unwritten, and a number of cells that counts all of them, or more: the
+ * unit adds them. On flash no store grows. */
+static void torn_numbers(void)
+{
+    static uint8 image[RATHONSI_STORE_SIZE(FVM_ROOM)], torn[RATHONSI_STORE_SIZE(FVM_ROOM)];
+    for (uint32 cells = FVM_CELLS; cells <= FVM_ROOM && FVM_MADE < FVM_CELLS; cells++) {
+        uint64 bounds[FVM_ROUTES] = {0u};
+        const uint32 size = RATHONSI_STORE_SIZE(FVM_MADE + 1u);
+        make_elsewhere(FVM_MADE, bounds);
+        start_unit();
+        if (FvM_Memory_Read(image, sizeof image) != E_OK)
+            fail("the store isn't read, cells", FVM_CELLS);
+        finish_memory();
+        if (rathonsi_store_make(torn, RATHONSI_STORE_SIZE(cells)) != RATHONSI_OK)
+            fail("no store, cells", cells);
+        memcpy(image, torn, 32u);
+        memset(&image[size], 0xff, sizeof image - size);
+        if (FvM_Memory_Make(image, sizeof image) != E_OK)
+            fail("the store isn't written, cells", cells);
+        finish_memory();
+        start_unit();
+        if (FvM_GetState() != FVM_UP)
+            fail("a unit doesn't grow after a cut, status", (uint64)FvM_GetFault());
+    }
+}
+
 /* At the end of its length a route gives and accepts nothing, and writes nothing. */
 static void ended_routes(void)
 {
@@ -199,6 +235,7 @@ void play_faults(void)
 {
     look_at_tables();
     damaged_cells();
+    torn_numbers();
     short_blocks();
     forget_given();
     ended_routes();
