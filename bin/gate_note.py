@@ -109,23 +109,26 @@ class Gate:
         self.now = sums_of_text(top) if self.note["texts"] else {}
         self.built = programs_of(top)
 
+    def passed(self):
+        """When the last gate passed, and with what kit."""
+        with_kit = f", with {self.note['kit']}" if self.note["kit"] else ""
+        return f"passed on {self.note['date']}{with_kit}" if self.note["texts"] else "has not passed in this checkout"
+
     def says(self, crate):
         """Whether the gate passed over this crate and all below it as they stand."""
         if crate not in self.note["texts"]:
             return "no gate has passed over it in this checkout"
         if self.note["texts"][crate] != self.now.get(crate):
-            return f"changed since the gate of {self.note['date']}, it or a crate below"
-        return f"proved by the gate of {self.note['date']}, text {self.now[crate][:16]}"
+            return "changed since the gate, it or a crate below"
+        return f"proved as it stands, sum {self.now[crate][:16]}"
 
     def programs_of(self, crate, below):
-        """The programs that stand on this crate, and those of which its laws speak: of what they are made is below it."""
-        found = []
-        for name in {*self.note["programs"], *self.built}:
-            of = self.built[name][0] if name in self.built else name
-            under = below.get(of, {of})
-            if crate in under or (len(under) > 1 and under - {of} <= below[crate]):
-                found.append(name)
-        return sorted(found)
+        """The programs that are built from this crate. If it has laws and no code, those of which these speak: all that
+        they are built from is below it."""
+        names = {*self.note["programs"], *self.built}
+        under = {name: below.get(of, {of}) - {name} for name in names for of in [self.built.get(name, [name])[0]]}
+        found = [name for name in names if crate in under[name]]
+        return sorted(found or [name for name in names if under[name] and under[name] <= below[crate]])
 
     def lines(self, names):
         """The sum of each of these programs, and whether that is the one which is there now."""

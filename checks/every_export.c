@@ -304,7 +304,7 @@ static void tell(const RathonsiRoute *it, size_t size) {
 /* Room for a cell more, and a route whose cell that is. */
 static void grow(void) {
     RathonsiRoute it = routes[0];
-    uint8_t head[32];
+    uint8_t store[SIZE + 2 * MORE];
     uint32_t told = 7, which = 7;
     uint16_t cell = 7;
     RathonsiRoute all[ROUTES];
@@ -314,10 +314,13 @@ static void grow(void) {
     for (int i = 0; i < ROUTES; i++) add_route(&all[i]);
     status(rathonsi_store_look(image, one_in(9) ? below(SIZE) : SIZE, &cell));
     add_number(cell);
-    memcpy(head, image, sizeof head);
-    if (one_in(4)) flip(head, sizeof head);
-    status(rathonsi_store_size(head, &told));
+    memcpy(store, image, sizeof store);
+    if (one_in(2)) flip(store, one_in(2) ? 32 : sizeof store);
+    status(rathonsi_store_size(store, one_in(8) ? below(SIZE) : sizeof store, &told));
     add_number(told);
+    status(rathonsi_store_mend(store, one_in(8) ? SIZE : sizeof store, &plan));
+    add_plan();
+    if (plan.writes[2].offset == 10) memset(&plan, 0, sizeof plan);
     it.cell = (uint16_t)(RATHONSI_SLOT_CELLS + ROUTES - (one_in(6) ? 1u : 0u));
     it.data_id++;
     if (one_in(8)) {
@@ -331,15 +334,49 @@ static void grow(void) {
 }
 
 static void answer_nonce(RathonsiRoute *it, size_t size) {
-    uint8_t nonce[16], answer[24];
+    uint8_t answer[24], mac[16] = {0};
     RathonsiRoute other = *it;
-    fill(nonce, sizeof nonce);
+    RathonsiQuestion question;
+    RathonsiAnswerInput input;
+    question.asker = below(3);
+    question.answerer = below(3);
+    fill(question.nonce, sizeof question.nonce);
     fill(answer, sizeof answer);
-    status(rathonsi_sync_answer(it, image, size, nonce, answer));
+    memset(&input, 7, sizeof input);
+    status(rathonsi_sync_answer(it, image, size, &question, answer));
     add(answer, sizeof answer);
+    status(rathonsi_sync_answer_input(it, image, size, &question, &input));
+    add_number(input.counter);
+    add(input.bytes, sizeof input.bytes);
+    if (one_in(2)) { /* the answer to the route of the other direction, which the same unit has here */
+        other.direction ^= 3;
+        open_by_hand(&other, freshness());
+        status(rathonsi_sync_answer_input(&other, image, size, &question, &input));
+        status(rathonsi_cmac(keys[it->slot < SLOTS ? it->slot : 4], 16, input.bytes, sizeof input.bytes, mac));
+        if (one_in(9)) flip(input.bytes, sizeof input.bytes);
+        status(rathonsi_sync_answer_mac(&input, mac, answer));
+        other.direction ^= 3;
+    }
     if (one_in(3)) flip(answer, sizeof answer);
     open_by_hand(&other, freshness());
-    add_verdict(rathonsi_sync_take(&other, image, size, nonce, answer));
+    if (one_in(2)) add_verdict(rathonsi_sync_take(&other, image, size, &question, answer));
+    else {
+        status(rathonsi_sync_take_input(&other, image, size, &question, answer, &input));
+        add(input.bytes, sizeof input.bytes);
+        status(rathonsi_cmac(keys[it->slot < SLOTS ? it->slot : 4], 16, input.bytes, sizeof input.bytes, mac));
+        if (one_in(9)) flip(input.bytes, sizeof input.bytes);
+        add_verdict(rathonsi_sync_take_mac(&other, image, size, &question, answer, &input, mac));
+    }
+    add_route(&other);
+    const uint64_t bound = freshness();
+    open_with(&other, bound, (uint8_t)(1 + below(2))); /* fresh, or a call moved its counter */
+    if (one_in(2)) add_verdict(rathonsi_sync_rejoin(&other, image, size, &question, answer));
+    else add_verdict(rathonsi_sync_rejoin_mac(&other, image, size, &question, answer, &input, mac));
+    add_route(&other);
+    other.freshness_only = (uint8_t)below(2);
+    open_by_hand(&other, freshness());
+    status(rathonsi_sync_nonce(&other, image, size, question.asker, mac));
+    add(mac, sizeof mac);
     add_route(&other);
 }
 

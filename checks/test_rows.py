@@ -198,7 +198,7 @@ class Row:
         answers = self.bytes_of(step["answers"])
         totals, status = watch_model.totals(mapped, logged, answers)
         assert str(status) == self.names.filled(str(step.get("status", status))), f"{status} is counted"
-        told = {"": answers + totals, " --json": watch_model.objects(answers + totals)}
+        told = {"": answers + totals, " --json": watch_model.objects(answers + totals, mapped)}
         for option, text in told.items():
             times = (" --time", watch_model.timed(text, logged)) if "times" in step else ("", text)
             yield {"run": f"watch{option}{times[0]} {words}", "input": given, "output": times[1], "status": status}
@@ -297,7 +297,8 @@ class Row:
     def wrongly_made(self, step, folder, there):
         """What is wrong with the files that were made: the owner alone may read one, and it has no other name."""
         made = {name: os.lstat(folder / name) for name in set(os.listdir(folder)) - there}
-        if set(made) != ({self.names.filled(step["makes"])} if "makes" in step else set()):
+        # SQLite's log stands beside a database that is made
+        if {name.removesuffix("-wal") for name in made} != ({self.names.filled(step["makes"])} if "makes" in step else set()):
             yield f"files that were made: {sorted(made)}"
         for name, it in made.items():
             if (it.st_mode, it.st_nlink) != (0o100600, 1):
@@ -403,7 +404,8 @@ class Run:
                 time.sleep(0.005)
                 first = time.monotonic()
             status = child.wait(SECONDS)
-            assert first - begun <= time.monotonic() - first, "the first line comes late"
+            told = "the first line comes late; on a busy machine this may be chance: run the row alone"
+            assert first - begun <= time.monotonic() - first, told
         finally:
             child.kill()
             child.wait()

@@ -71,7 +71,7 @@ extern "C" {
 
 /* The version of this header, of rathonsi_store.h and of rathonsi_flash.h: major times 65536, plus
  * minor times 256, plus patch. */
-#define RATHONSI_VERSION 0x001300u
+#define RATHONSI_VERSION 0x001400u
 
 /* The version of the library that is linked, to be compared with RATHONSI_VERSION. */
 uint32_t rathonsi_version(void);

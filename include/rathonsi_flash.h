@@ -167,8 +167,9 @@
  *   - A bank that is worn out, or has one line of the copy that can't be programmed. Each start fails
  *     there, and none ends: stop() must not begin again for ever. The store can still be read from a
  *     dump, by the layout below.
- *   - A store that grows. rathonsi_flash_put refuses the plan of rathonsi_store_grow. A route more
- *     takes rathonsi_flash_take of a larger image, and a cut within that may leave no store.
+ *   - A store that gets a cell more. rathonsi_flash_put refuses the plan of rathonsi_store_grow, unless
+ *     it claims a spare cell, which the line left. Without one a route more takes rathonsi_flash_take
+ *     of a larger image, and a cut within that may leave no store.
  *   - Two callers at once, and a caller that writes the flash otherwise.
  *
  * Layout, for who reads a dump. All numbers have their high byte first.
@@ -325,7 +326,7 @@ int32_t rathonsi_flash_did(RathonsiFlash *flash, RathonsiCell *cells, size_t cel
 /* Begins the put of a plan of rathonsi_store.h. It is durable once rathonsi_flash_next answers NONE;
  * then the caller says so to rathonsi_store_done. An empty plan puts nothing.
  * RATHONSI_BAD_VALUE: as for rathonsi_flash_next, or the plan is none of a put to one of the cells, as
- * that of rathonsi_store_grow.
+ * that of rathonsi_store_grow for a cell more, or of rathonsi_store_mend.
  * RATHONSI_BUSY: an operation comes next, or the store isn't ready.
  * RATHONSI_EXHAUSTED: as for rathonsi_flash_next, and the bank is full; the store stays as it is. */
 RATHONSI_CHECKED

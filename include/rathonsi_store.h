@@ -23,7 +23,11 @@
  * drop with the calls below. A route may have any key, window, reserve and boot, in this life and
  * the next.
  *   - The freshness sent under a Data ID strictly rises. So does the freshness accepted. Both stay
- *     at most the bound on the device. This holds across a software update that adds a route.
+ *     at most the bound on the device. This holds over software updates that add routes, and over
+ *     roll-backs, at any moment and in any order.
+ *   - Of a unit in which one receiver rejoins after a reset, what that receiver accepts strictly
+ *     rises, under two conditions: see rathonsi_sync_rejoin. The other points speak of units that
+ *     don't rejoin.
  *   - After a receiver took an answer of its sender, it accepts what the sender sends after the
  *     answer, within its window. An answer that somebody made without the key moves no counter.
  *   - An update that was confirmed stays in its slot, and the same reply confirms it. This lasts
@@ -53,14 +57,16 @@
  *   D-12 A route has the same Data ID, direction and cell in every life. Slot, window, reserve and
  *     booted may change. The caller zeroes opened at power-up, and never sets it.
  *   D-13 While a plan is pending, routes send and receive as before. A new plan answers RATHONSI_BUSY.
- *   D-14 A nonce is drawn by the caller, and none is used twice. See rathonsi_sync_take.
+ *   D-14 A nonce is drawn by the caller, and none is used twice. One for rathonsi_sync_rejoin is drawn
+ *     since the route was opened, and nobody could foretell it. See both calls. A unit answers only
+ *     questions whose answerer is its own name, and asks under its own alone: the library can't know it.
  *
  *   Power-up
  *   D-15 The caller zeroes the plan as each power-up begins, and whenever all begins again as at
  *     power-up. It does so whatever was planned before, also if the plan's memory outlives a reset.
- *   D-16 Software with routes that the production line didn't make calls rathonsi_store_grow for each
- *     of them, as said there. It does so at each power-up, whatever rathonsi_store_size says. Then
- *     it asks rathonsi_store_size, as does the first software of a unit that may get an update.
+ *   D-16 Software of a unit that may get an update calls rathonsi_store_mend at each power-up, the
+ *     first software, too. Then it calls rathonsi_store_grow for each route that the production line
+ *     didn't make, as said there. Then it asks rathonsi_store_size.
  *   D-17 What is read at power-up is durable, and reads the same ever after. A device with a cache is
  *     synced before it is read. Otherwise what a failed write left may be read, relied on, and then
  *     be gone.
@@ -108,9 +114,9 @@
  *     void power_up(void) {
  *         memset(&plan, 0, sizeof plan);
  *         read_device(image, sizeof image);
- *         // A unit that may get an update has a longer array. Here it calls rathonsi_store_grow
- *         // for each route that the production line didn't make. Then check and open take the
- *         // size that rathonsi_store_size tells, not sizeof image. See both calls.
+ *         // A unit that may get an update has a longer array. Here it calls rathonsi_store_mend,
+ *         // and rathonsi_store_grow for each route that the production line didn't make. Then
+ *         // check and open take the size that rathonsi_store_size tells, not sizeof image.
  *         if (rathonsi_store_check(image, sizeof image) != RATHONSI_OK)
  *             stop();
  *         if (rathonsi_routes_open(routes, 2u, image, sizeof image, &which) != RATHONSI_OK)
@@ -263,17 +269,19 @@ typedef struct RathonsiRoute {
     uint8_t direction;
     /* 1 after a secure boot that succeeded in this life, else 0. */
     uint8_t booted;
-    /* 1 once rathonsi_route_open or rathonsi_routes_open has opened the route. They alone set it, and
-     * zero it if they fail. With another value, or another check value, the route isn't open. */
+    /* 1 once rathonsi_route_open or rathonsi_routes_open has opened the route, and 2 once a call moved
+     * its counter since. The calls alone set it, and an opening that fails zeroes it. A route that is
+     * open keeps its 2 if it is opened again. With another value, or another check value, the route
+     * isn't open. */
     uint8_t opened;
     /* 1 if another module makes and checks the authenticators, and asks for the freshness alone: see
      * rathonsi_freshness.h. Else 0. The same in every life. */
     uint8_t freshness_only;
     /* The check value of an open route: 1 + (counter + 3 * who) mod 16777213 in three bytes, big-endian.
-     * who is direction * 2^32 + cell * 2^16 + data_id. The calls alone write it. An open route is refused
-     * if one of these four alone was set by hand, unless the counter was moved by a multiple of
+     * who is opened * 2^40 + direction * 2^32 + cell * 2^16 + data_id. The calls alone write it. An open
+     * route is refused if one of these five alone was set by hand, unless the counter was moved by a multiple of
      * 16,777,213: that is proved. A struct of zeros or of bytes ff is never open, and one of random
-     * bytes is in one of 2^32. */
+     * bytes is in one of 2^31. */
     uint8_t check[3];
 } RathonsiRoute;
 
@@ -336,59 +344,71 @@ int32_t rathonsi_store_check(const uint8_t *image, size_t image_length);
 RATHONSI_CHECKED
 int32_t rathonsi_store_look(const uint8_t *image, size_t image_length, uint16_t *cell);
 
-/* Tells the size in bytes of the store that begins with these 32 bytes. Software of a unit that may
- * get an update asks it at each power-up. The first software does so, too: a roll-back may bring it
- * back. It asks after all calls of rathonsi_store_grow, never to decide whether to make them.
- * This many bytes are then its image, for check, open and all later calls. After a roll-back they
- * are more than the routes of the older software need, and all calls work in them. The software
- * stops if they are more than its image array has. So size that array for later software.
- * RATHONSI_NO_STORE: they are not the header of a store of up to 256 routes. */
+/* Tells the size in bytes of the store that image begins with: its header, and as many cells as have a
+ * copy that counts, from the first on. image is what the device holds, with room for later software.
+ * The number of cells in the header has no twin: a cut within its write leaves anything there. So the
+ * call believes it only if the cells say the same. Software of a unit that may get an update calls it
+ * at each power-up, after rathonsi_store_mend and rathonsi_store_grow. The first software does so,
+ * too: a roll-back may bring it back. So many bytes are then its image, for check, open and all later
+ * calls. After a roll-back they are more than its routes need, and all calls work in them.
+ * A cell of a new store doesn't count before its bound is whole, wherever the power goes. A cell that
+ * a fault erased whole can't be told from one that isn't there yet, if no cell after it counts.
+ * RATHONSI_BAD_LENGTH: image_length is below RATHONSI_STORE_SIZE(0).
+ * RATHONSI_NO_STORE: the other bytes of the header aren't those of a store.
+ * RATHONSI_BAD_LENGTH, after these: every cell of the image counts, and the number in the header is
+ * another. So the store has more cells than the image.
+ * RATHONSI_DAMAGED: the number is another, and what is after the cells isn't erased, or a later cell
+ * counts. So a cell of the store has no copy that counts. Or so few or so many cells count as no
+ * store has. rathonsi_store_look names the cell, if it gets the right size. */
 RATHONSI_CHECKED
-int32_t rathonsi_store_size(const uint8_t head[32], uint32_t *size);
+int32_t rathonsi_store_size(const uint8_t *image, size_t image_length, uint32_t *size);
 
-/* For a software update that adds a route: plans the cell of the route as one more at the end of
- * the store. The cell holds this bound at once: the store never counts a cell without an owner. The
- * bound is 0, unless a counter is taken over. The plan's last write is the number of cells in the
- * header. A store on NOR flash doesn't grow: rathonsi_flash_put refuses the plan.
+/* Plans the number of cells in the header, if it isn't what the cells say: a growth was cut, by this
+ * software or by any other. The plan stays empty if it is. Any software of a unit that may get an
+ * update calls it at each power-up, does the plan, and calls rathonsi_store_done. It needs no route
+ * of the software that grew the store, so a roll-back at any moment opens. This is proved.
+ * If the power goes within the plan, the same call plans it again.
+ * RATHONSI_BUSY.
+ * RATHONSI_BAD_LENGTH, RATHONSI_NO_STORE, RATHONSI_DAMAGED: as for rathonsi_store_size. */
+RATHONSI_CHECKED
+int32_t rathonsi_store_mend(const uint8_t *image, size_t image_length, RathonsiPlan *plan);
+
+/* For a software update that adds a route: plans the cell of the route. It holds this bound at once,
+ * which is 0, unless a counter is taken over.
+ *   - The store has the cell, and it holds zero bytes: nobody has claimed it. The plan puts the bound
+ *     into it. rathonsi_flash_put takes this plan, so a store on NOR flash takes a route more, if the
+ *     production line left a cell spare.
+ *   - The cell is the next one: it becomes one more at the end of the store. The plan writes the copy
+ *     behind its gate, the gate, and the number of cells. rathonsi_flash_put refuses it.
+ *   - The store has the cell, and it holds a bound of this route, however far it has counted. The plan
+ *     stays empty.
+ *   - The number of cells isn't what the cells say: the plan is that of rathonsi_store_mend.
  *
  * The caller makes the calls at each power-up, before it opens the routes. It makes them for each
  * route that the production line didn't make, in the order of their cells. A route that went is one
  * of them, with the Data ID and direction that it had. For each route the caller calls, does the
  * plan and calls rathonsi_store_done. It does so until the plan stays empty: the lengths of all
- * three writes are 0. The unit stops if a call answers another status than RATHONSI_OK.
- * The caller makes the calls whatever rathonsi_store_size says. A cut within the last write may
- * leave any number of cells: a smaller one, a larger one, or one that no store has. Only the call
- * for the new cell puts the number right. A caller that skips it because of the size may be stuck:
- * RATHONSI_NO_STORE or RATHONSI_DAMAGED comes at each power-up. Whatever the number, each call of a
- * caller that makes all of them answers RATHONSI_OK. This is proved.
- * After a power cut the same call goes on, with the same route and bound, on the bytes that the
- * device holds. It plans the number alone if the cut left neither the old nor the new one. It finds
- * both copies of the cell as it wrote them.
- * The plan stays empty if the store has this cell already. It does so, too, while the growth of a
- * later cell is cut and the number is torn. The status is RATHONSI_OK if the cell holds a bound of
- * this route, however far it has counted.
+ * three writes are 0. The third call plans nothing, at the latest. The unit stops if a call answers
+ * another status than RATHONSI_OK. After a power cut the same call goes on, with the same route and
+ * bound. If the power goes anywhere, the cell is whole, or it isn't there yet. This is proved.
  *
- * image is what the device holds, with room for this cell and one more. The device has room for this
- * cell. Bytes of the image that the device hasn't are ff.
- * The room behind the store is erased: all bytes 00, or all ff. The production line does that, over
- * 68 bytes for each later route, and 68 more as far as the device goes. The call looks at the 68
- * bytes after this cell. It plans nothing if they are neither all 00 nor all ff. The store then has
- * a later cell, or is to get one, or a cell is damaged, or nobody erased these bytes.
- * So the store of newer software stays as it is. So does a store whose number of cells was cut as a
- * later cell was added: only software with that cell puts the number right.
- * If nobody erased them, the new software stops at each power-up, and the older one works on. Such a
- * unit needs the room erased before its first growth. A later erase may take cells.
- * A cell that a fault erased whole can't be told from one that isn't there yet.
+ * image is what the device holds, with room for this cell and, if it is the next one, one more. The
+ * device has room for this cell. Bytes of the image that the device hasn't are ff.
+ * The room behind the store is erased, all 00 or all ff: the production line does that before
+ * rathonsi_store_make, over 68 bytes for each later route, and 68 more as far as the device goes. It
+ * does so, too, for a unit that never grows, if its image array is longer than the store. If nobody
+ * erased it, all software may stop, or find cells that an older store left there: of a Data ID that
+ * then stands twice rathonsi_store_look alone tells. A later erase may take cells.
  * RATHONSI_BUSY.
  * RATHONSI_BAD_VALUE: a number of the route is outside its range.
- * RATHONSI_BAD_LENGTH: image_length is below RATHONSI_STORE_SIZE(cell - RATHONSI_SLOT_CELLS + 2), or
- * the cell is above 269.
- * RATHONSI_NO_STORE: the image is no store of this layout, whatever its number of cells. Or all of
- * this holds: the number is neither that before this cell nor that with it; the 68 bytes after this
- * cell are erased; and this cell isn't as the call wrote it.
- * RATHONSI_DUPLICATE_ID: a cell before it has the Data ID and direction.
- * RATHONSI_WRONG_CELL, RATHONSI_DAMAGED: nothing is planned, as the store has this cell, or the 68
- * bytes after it aren't erased. rathonsi_route_open would answer this. */
+ * RATHONSI_BAD_LENGTH: the image ends before the cell does, or the cell is above 269.
+ * RATHONSI_BAD_LENGTH, RATHONSI_NO_STORE, RATHONSI_DAMAGED: as for rathonsi_store_size.
+ * RATHONSI_DUPLICATE_ID: another cell has the Data ID and direction.
+ * RATHONSI_WRONG_CELL: the store has the cell, and it holds something else. Or cells before it are
+ * missing.
+ * RATHONSI_BAD_LENGTH, after these: the cell is the next one, and the image has no room for one more.
+ * RATHONSI_DAMAGED, after these: the cell is the next one, and a gate at its place is open, or what
+ * is after it isn't erased. */
 RATHONSI_CHECKED
 int32_t rathonsi_store_grow(const RathonsiRoute *route, uint64_t bound, const uint8_t *image, size_t image_length,
                             RathonsiPlan *plan);
@@ -540,49 +560,111 @@ RathonsiVerdict rathonsi_route_receive(RathonsiRoute *route, const uint8_t *imag
 /* ---- A receiver that fell behind --------------------------------------------------------------
  *
  * A receiver that is more than its window behind accepts nothing, whatever comes. It gets back so:
- *   1. It draws a nonce of 16 random bytes, and sends it to the unit that sends under the Data ID.
- *   2. That unit makes the answer by rathonsi_sync_answer, and sends its 24 bytes back.
+ *   1. It draws a nonce of 16 random bytes, and asks the unit that sends under the Data ID.
+ *   2. That unit makes the answer by rathonsi_sync_answer, if the question names it, and sends its
+ *      24 bytes back.
  *   3. The receiver takes the answer by rathonsi_sync_take, and forgets the nonce.
+ * A sender that replaces another one gets above each receiver that it asks, by the same three steps:
+ * it asks, the receiver answers.
  * How nonce and answer travel is the caller's: plain PDUs will do. examples/c/resync.c does it.
- * An answer names no direction: a unit that sends and receives under one Data ID and key would take
- * its own. It makes no answers under that Data ID, or has another key for each direction.
  *
- * The library has no random numbers. The caller draws each nonce so that none comes twice. If one
- * does, an old answer to it is taken again. It moves the counter at most to where the sender was
- * then, and never down. So no PDU is accepted twice even then. But whoever kept an answer and knows
- * the next nonce could have made the sender answer before: the receiver is then still behind. */
+ * The library has no random numbers: draw them, or count them by rathonsi_sync_nonce, so that none
+ * comes twice. If one does, an old answer to it is taken again. By rathonsi_sync_take it moves the
+ * counter at most to where the sender was then, and never down: no PDU is accepted twice even then.
+ * By rathonsi_sync_rejoin it does go down: PDUs of former lives are accepted again. After each
+ * opening, also one in the same life, forget the nonces of before. Whoever kept an answer and knows
+ * the next nonce could have made the sender answer before: the receiver is then still behind.
+ *
+ * A nonce has a life: forget it after a second, and after eight wrong answers, and draw another. An
+ * attacker who holds back the answer, and all PDUs after it, can play them later in their order, and
+ * they are accepted. A nonce that lives a second leaves a second for the answer. PDUs that are held
+ * back later are accepted late as ever: a counter knows no time. A wrong answer is taken once in
+ * 2^128 tries.
+ *
+ * Answers of Rathonsi 0.19 and before had no names and no direction. They are refused, as are these
+ * by such a unit: RATHONSI_VERIFICATION_FAILURE. PDUs are the same. */
 
 /* The bytes of a nonce and of an answer. */
 #define RATHONSI_NONCE 16u
 #define RATHONSI_ANSWER 24u
 
-/* For a route that sends: writes the answer to a nonce. It tells the route's counter, with a CMAC
- * of the nonce, the Data ID and the counter under the route's key. All freshness that the route
- * sends later, in this life and every other, is above that counter. Nothing is reserved.
- * RATHONSI_BAD_VALUE, RATHONSI_WRONG_CELL, RATHONSI_DAMAGED, RATHONSI_KEY_EMPTY,
- * RATHONSI_KEY_INVALID, RATHONSI_KEY_NOT_AVAILABLE: as for rathonsi_route_send, whatever
- * freshness_only is. */
-RATHONSI_CHECKED
-int32_t rathonsi_sync_answer(const RathonsiRoute *route, const uint8_t *image, size_t image_length, const uint8_t nonce[16],
-                             uint8_t answer[24]);
+/* Who asks whom for the counter of a route, and with which nonce. Each unit that has the key has a
+ * name of its own, a number that no other of them has. A unit asks and answers under its own name
+ * alone. Then it takes no answer that it made itself: that is proved, as long as no two messages
+ * have one CMAC under the key. */
+typedef struct RathonsiQuestion {
+    /* The name of the unit that asks. */
+    uint32_t asker;
+    /* The name of the unit that is asked: another one. */
+    uint32_t answerer;
+    /* A nonce that the asker drew for this question. */
+    uint8_t nonce[16];
+} RathonsiQuestion;
 
-/* For a route that receives: takes the answer to this nonce. The nonce is one that this receiver
- * drew for this route and sent, and whose answer wasn't taken yet.
+/* Writes the answer of a route to the question of another unit. It tells the route's counter, with
+ * a CMAC of the question, the Data ID, the direction and the counter under the route's key. All
+ * freshness that the route sends or accepts later, in this life and every other, is above that
+ * counter, unless the route rejoins later. Nothing is reserved.
+ * RATHONSI_BAD_VALUE: asker and answerer are one, or as for rathonsi_route_send.
+ * RATHONSI_WRONG_CELL, RATHONSI_DAMAGED, RATHONSI_KEY_EMPTY, RATHONSI_KEY_INVALID,
+ * RATHONSI_KEY_NOT_AVAILABLE: as for rathonsi_route_send, whatever direction and freshness_only
+ * are. */
+RATHONSI_CHECKED
+int32_t rathonsi_sync_answer(const RathonsiRoute *route, const uint8_t *image, size_t image_length,
+                             const RathonsiQuestion *question, uint8_t answer[24]);
+
+/* Takes the answer to a question that this unit asked. A receiver that fell behind takes its
+ * sender's answer, and a sender that was put in place of another one takes its receiver's. The nonce
+ * is one that was drawn for this question, and whose answer wasn't taken yet.
  * RATHONSI_OK: the counter that the answer tells became the counter of the route. payload_length is
  * 0, and freshness is that counter. PDUs that were sent after the answer are accepted, within the
  * window.
- * RATHONSI_BAD_VALUE, RATHONSI_WRONG_CELL, RATHONSI_DAMAGED, RATHONSI_KEY_EMPTY,
- * RATHONSI_KEY_INVALID, RATHONSI_KEY_NOT_AVAILABLE: as for rathonsi_route_receive, whatever
- * freshness_only is.
- * RATHONSI_VERIFICATION_FAILURE: it is no answer to this nonce under this key and Data ID.
- * RATHONSI_FRESHNESS_FAILURE: it is, and its counter isn't above the route's. The receiver isn't
+ * RATHONSI_BAD_VALUE: asker and answerer are one, or as for rathonsi_route_receive.
+ * RATHONSI_WRONG_CELL, RATHONSI_DAMAGED, RATHONSI_KEY_EMPTY, RATHONSI_KEY_INVALID,
+ * RATHONSI_KEY_NOT_AVAILABLE: as for rathonsi_route_receive, whatever direction and freshness_only
+ * are.
+ * RATHONSI_VERIFICATION_FAILURE: it isn't the answer of that unit to this question, under this key,
+ * by the route of this Data ID and the other direction.
+ * RATHONSI_FRESHNESS_FAILURE: it is, and its counter isn't above the route's. The route isn't
  * behind.
  * RATHONSI_RESERVE: it is, and the bound in the image doesn't cover its counter yet. freshness is
  * that counter. Reserve it by rathonsi_route_advance, since it may be further ahead than
  * rathonsi_route_reserve plans. Do the plan, and make the same call again. */
 RATHONSI_CHECKED
-RathonsiVerdict rathonsi_sync_take(RathonsiRoute *route, const uint8_t *image, size_t image_length, const uint8_t nonce[16],
-                                   const uint8_t answer[24]);
+RathonsiVerdict rathonsi_sync_take(RathonsiRoute *route, const uint8_t *image, size_t image_length,
+                                   const RathonsiQuestion *question, const uint8_t answer[24]);
+
+/* Back at once after a reset. A route that is opened begins at its bound, so a receiver refuses what
+ * its sender sends up to there: with a reserve of 128 up to 127 PDUs. This call moves its counter down
+ * to the sender's, if no call moved it since rathonsi_route_open. The bound stays, so the first PDU
+ * needs no plan (a nonce of rathonsi_sync_nonce needs one at each power-up). Ask after the route was
+ * opened, by a nonce that nobody can foretell: see rathonsi_sync_nonce. Whoever foretells it asks the
+ * sender early, and lowers the counter later.
+ * What is accepted strictly rises over all lives, if each accepted PDU is one that this sender sent and
+ * each answer was made since the route was opened. Without that it rises from an opening to the next.
+ * So never rejoin under a key that another unit sent with before, or this one with a store that was made
+ * anew since: its recorded PDUs would be accepted again. Load another key on both sides first. The unit
+ * can't see it: the workshop that replaces a sender loads the keys, or tells the receivers not to rejoin.
+ * RATHONSI_OK: the counter that the answer tells became the counter of the route, up or down.
+ * RATHONSI_FRESHNESS_FAILURE: a call moved the route's counter since it was opened, and the answer's
+ * isn't above it.
+ * RATHONSI_BAD_VALUE: it doesn't receive, or as for rathonsi_sync_take.
+ * All others: as for rathonsi_sync_take. */
+RATHONSI_CHECKED
+RathonsiVerdict rathonsi_sync_rejoin(RathonsiRoute *route, const uint8_t *image, size_t image_length,
+                                     const RathonsiQuestion *question, const uint8_t answer[24]);
+
+/* Makes a nonce for the questions of this unit without a source of random numbers. The route sends
+ * nothing else: it has a Data ID that no PDU has, RATHONSI_SENDS, and freshness_only 1. asker is the
+ * unit's name. The nonce is the CMAC of the name and the route's next freshness under the key of its
+ * slot, and that freshness becomes the route's counter. Freshness strictly rises over all lives, so no
+ * unit makes two nonces of one count. Nobody without the key foretells one.
+ * RATHONSI_BAD_VALUE: freshness_only isn't 1, or as for rathonsi_route_send.
+ * RATHONSI_WRONG_CELL, RATHONSI_DAMAGED, RATHONSI_KEY_EMPTY, RATHONSI_KEY_INVALID,
+ * RATHONSI_KEY_NOT_AVAILABLE, RATHONSI_EXHAUSTED, RATHONSI_RESERVE: as for rathonsi_route_send. */
+RATHONSI_CHECKED
+int32_t rathonsi_sync_nonce(RathonsiRoute *route, const uint8_t *image, size_t image_length, uint32_t asker,
+                            uint8_t nonce[16]);
 
 /* ---- Keys outside the store -------------------------------------------------------------------
  *
@@ -590,8 +672,8 @@ RathonsiVerdict rathonsi_sync_take(RathonsiRoute *route, const uint8_t *image, s
  * the input of the MAC, the unit has its hardware make the MAC, and gives it back. Bounds and
  * counters are kept as ever; slots of the image aren't read. What is promised of PDUs then speaks
  * of the MACs that came: that they are the key's is the caller's word. rathonsi_route_send and
- * rathonsi_route_receive are these two steps with the library's own CMAC. Answers to a nonce have no
- * two steps: rathonsi_sync_answer and rathonsi_sync_take need the key in the store. */
+ * rathonsi_route_receive are these two steps with the library's own CMAC. So are rathonsi_sync_answer
+ * and rathonsi_sync_take. */
 
 /* What the MAC of a PDU covers: length bytes, 11 to 70. */
 typedef struct RathonsiInput {
@@ -638,6 +720,53 @@ int32_t rathonsi_receive_input(const RathonsiRoute *route, const uint8_t *image,
 RATHONSI_CHECKED
 RathonsiVerdict rathonsi_receive_mac(RathonsiRoute *route, const uint8_t *image, size_t image_length, const uint8_t *pdu,
                                      size_t pdu_length, const RathonsiInput *input, const uint8_t mac[16]);
+
+/* What the MAC of an answer covers: all 88 bytes. */
+typedef struct RathonsiAnswerInput {
+    /* The counter that the answer tells. */
+    uint64_t counter;
+    uint8_t bytes[88];
+} RathonsiAnswerInput;
+
+/* Tells the input of a route's answer to a question.
+ * RATHONSI_BAD_VALUE, RATHONSI_WRONG_CELL: as for rathonsi_sync_answer.
+ * RATHONSI_DAMAGED: no copy of its cell counts. */
+RATHONSI_CHECKED
+int32_t rathonsi_sync_answer_input(const RathonsiRoute *route, const uint8_t *image, size_t image_length,
+                                   const RathonsiQuestion *question, RathonsiAnswerInput *input);
+
+/* Writes the answer with this MAC. mac is the MAC of the input's bytes under the key of the route:
+ * all 16 bytes. The answer holds, whatever the route sent or accepted since the input was told.
+ * RATHONSI_BAD_VALUE: the input doesn't end in its counter, so no call told it. */
+RATHONSI_CHECKED
+int32_t rathonsi_sync_answer_mac(const RathonsiAnswerInput *input, const uint8_t mac[16], uint8_t answer[24]);
+
+/* Tells the input of an answer to a question of this unit: what its MAC covers if it is authentic.
+ * RATHONSI_BAD_VALUE, RATHONSI_WRONG_CELL: as for rathonsi_sync_take.
+ * RATHONSI_DAMAGED: no copy of its cell counts. */
+RATHONSI_CHECKED
+int32_t rathonsi_sync_take_input(const RathonsiRoute *route, const uint8_t *image, size_t image_length,
+                                 const RathonsiQuestion *question, const uint8_t answer[24], RathonsiAnswerInput *input);
+
+/* Takes an answer by this MAC, as rathonsi_sync_take does. mac is the MAC of the input's bytes under
+ * the key of the route: all 16 bytes.
+ * RATHONSI_BAD_VALUE, RATHONSI_WRONG_CELL, RATHONSI_DAMAGED: as for rathonsi_sync_take_input.
+ * RATHONSI_BAD_VALUE, after these: the input isn't that of this answer.
+ * RATHONSI_VERIFICATION_FAILURE, RATHONSI_FRESHNESS_FAILURE, RATHONSI_RESERVE: as for
+ * rathonsi_sync_take. */
+RATHONSI_CHECKED
+RathonsiVerdict rathonsi_sync_take_mac(RathonsiRoute *route, const uint8_t *image, size_t image_length,
+                                       const RathonsiQuestion *question, const uint8_t answer[24],
+                                       const RathonsiAnswerInput *input, const uint8_t mac[16]);
+
+/* Rejoins by this MAC, as rathonsi_sync_rejoin does. rathonsi_sync_take_input tells the input.
+ * RATHONSI_BAD_VALUE, RATHONSI_WRONG_CELL, RATHONSI_DAMAGED, RATHONSI_VERIFICATION_FAILURE: as for
+ * rathonsi_sync_take_mac.
+ * RATHONSI_FRESHNESS_FAILURE, RATHONSI_RESERVE: as for rathonsi_sync_rejoin. */
+RATHONSI_CHECKED
+RathonsiVerdict rathonsi_sync_rejoin_mac(RathonsiRoute *route, const uint8_t *image, size_t image_length,
+                                         const RathonsiQuestion *question, const uint8_t answer[24],
+                                         const RathonsiAnswerInput *input, const uint8_t mac[16]);
 
 /* ---- Secure boot ------------------------------------------------------------------------------
  *

@@ -4,8 +4,9 @@
 explain_model.py MAP LOG   what `explain MAP LOG` prints. It looks for no fault of the map
 explain_model.py --log     a log of the frames that standard input names, a line each:
                            CAN KEY ID PAYLOAD FRESH [HOW..]. FRESH is a sum such as 70000+2. HOW is swap_id,
-                           swap_freshness or last (how the PDU is made), bit=19 (inverted), to=9 (cut short),
-                           more=3 (bytes behind it), times=2 or classic. A line that begins with = is copied
+                           swap_freshness, no_id, short, last, turned_tag, turned_key, turned or cover=8 (how the PDU is
+                           made), low=1 (added to the freshness byte), bit=19 (inverted), to=9 (cut short), more=3 (bytes
+                           behind it), times=2 or classic. A line that begins with = is copied
 
 checks/drawn imports it.
 """
@@ -27,19 +28,32 @@ def cmac(key, message):
     return mac.finalize()
 
 
-def covered(data_id, payload, freshness, swap_id=False, swap_freshness=False):
+def covered(data_id, payload, freshness, swap_id=False, swap_freshness=False, no_id=False, short=False):
     """What the authenticator covers."""
     return (
-        data_id.to_bytes(2, "little" if swap_id else "big")
+        (b"" if no_id else data_id.to_bytes(2, "little" if swap_id else "big"))
         + payload
-        + freshness.to_bytes(8, "little" if swap_freshness else "big")
+        + ((freshness & 0xFFFFFFFF).to_bytes(4) if short else freshness.to_bytes(8, "little" if swap_freshness else "big"))
     )
 
 
-def pdu(key, data_id, payload, freshness, last=False, **swaps):
+def tag_of(mac, last=False, turned_tag=False):
+    """The three bytes of a CMAC that a PDU carries."""
+    tag = mac[-3:] if last else mac[:3]
+    return tag[::-1] if turned_tag else tag
+
+
+def padded(payload, cover):
+    """So many bytes of a payload and of zeros behind it."""
+    return (payload + bytes(60))[:cover]
+
+
+def pdu(key, data_id, payload, freshness, last=False, turned_tag=False, turned_key=False, turned=False, cover=None, low=0, **made):
     """A Secured PDU, made as the standard says or otherwise."""
-    mac = cmac(key, covered(data_id, payload, freshness, **swaps))
-    return payload + bytes([freshness & 0xFF]) + (mac[-3:] if last else mac[:3])
+    authentic = payload if cover is None else padded(payload, cover)
+    mac = cmac(key[::-1] if turned_key else key, covered(data_id, authentic, freshness, **made))
+    trailer = bytes([freshness + low & 0xFF]) + tag_of(mac, last, turned_tag)
+    return trailer + payload if turned else payload + trailer
 
 
 def inverted(data, bit):
@@ -83,13 +97,15 @@ class Search:
         self.mapping, self.accepted, self.line, self.data = mapping, accepted, line, data
         self.tries = 0
 
-    def fits(self, reason, key, data_id, size, data, freshness, last=False, **swaps):
+    def fits(self, reason, key, data_id, size, data, freshness, last=False, turned_tag=False, cover=None, any_low=False, **made):
         """Raises the reason if this frame verifies so."""
-        if not 1 <= size <= 60 or len(data) < size + 4 or freshness >= 1 << 64 or freshness & 0xFF != data[size]:
+        if not 1 <= size <= 60 or len(data) < size + 4 or freshness >= 1 << 64:
+            return
+        if not any_low and freshness & 0xFF != data[size]:
             return
         self.tries += 1
-        mac = cmac(key, covered(data_id, data[:size], freshness, **swaps))
-        if data[size + 1 : size + 4] == (mac[-3:] if last else mac[:3]):
+        mac = cmac(key, covered(data_id, padded(data[:size], cover or size), freshness, **made))
+        if data[size + 1 : size + 4] == tag_of(mac, last, turned_tag):
             raise Found(reason)
 
     def within(self, reason, line, data=None, **other):
@@ -106,11 +122,16 @@ class Search:
 
     def all(self):
         own, data = self.line, self.data
-        for number, line, freshness in reversed(self.accepted[-KEPT:]):
-            if line is own:
-                self.fits(f"replay of line {number}", own.key, own.data_id, own.size, data, freshness)
+        tag = data[own.size + 1 : own.size + 4]
+        for name, same in (("replay of line", True), ("freshness used again: that of line", False)):
+            for number, line, freshness, other in reversed(self.accepted[-KEPT:]):
+                if line is own and (tag == other) == same:
+                    self.fits(f"{name} {number}", own.key, own.data_id, own.size, data, freshness)
         # every 256th freshness has the low byte that the frame carries
         low = data[own.size] if own.size < len(data) else 0
+        for steps in range((own.counter - low) % 256, min(FAR, own.counter + 1), 256):
+            text = f"{steps} behind the last freshness, and not seen in the log"
+            self.fits(text, own.key, own.data_id, own.size, data, own.counter - steps)
         beyond = own.window + 1
         for steps in range(beyond + (low - own.counter - beyond) % 256, beyond + FAR, 256):
             text = f"{steps} ahead: the window is {own.window}, {steps - own.window} frames were missed beyond it"
@@ -127,7 +148,20 @@ class Search:
             self.within(f"verifies with the Data ID of line {line.number}", own, data_id=line.data_id)
         self.within("verifies with the Data ID's bytes in the other order", own, swap_id=True)
         self.within("verifies with the freshness's bytes in the other order", own, swap_freshness=True)
+        self.within("verifies without the Data ID", own, no_id=True)
+        self.within("verifies with a freshness of 32 bits", own, short=True)
         self.within("authenticator is the CMAC's last bytes", own, last=True)
+        self.within("authenticator's bytes are in the other order", own, turned_tag=True)
+        self.within("verifies with the key's bytes in the other order", own, key=own.key[::-1])
+        if len(data) >= own.size + 4:
+            turned = data[4 : own.size + 4] + data[:4]
+            self.within("verifies with freshness and authenticator before the payload", own, data=turned)
+        for cover in range(1, 61):
+            if cover != own.size:
+                self.within(f"authenticated length of the payload is {cover}", own, cover=cover)
+        for steps in range(1, own.window + 1):
+            text = f"freshness byte is another: ahead by {steps}"
+            self.fits(text, own.key, own.data_id, own.size, data, own.counter + steps, any_low=True)
         for bit in range(8 * (own.size + 4)):
             if bit // 8 < len(data):
                 self.within(f"bit {bit % 8} of byte {bit // 8} is flipped", own, data=inverted(data, bit))
@@ -170,7 +204,7 @@ def explained(map_text, log_text):
             Search(mapping, accepted, own, data).within("", own)
         except Found:
             own.counter += 1 + (data[own.size] - own.counter - 1) % 256
-            accepted.append((number, own, own.counter))
+            accepted.append((number, own, own.counter, data[own.size + 1 : own.size + 4]))
             continue
         failed = True
         reason = Search(mapping, accepted, own, data).reason()
@@ -245,7 +279,8 @@ def logged(text):
     """The lines of a log for a line that names a frame."""
     can, key, data_id, payload, fresh, *hows = text.split()
     how = dict(it.partition("=")[::2] for it in hows)
-    made = {name: True for name in ("swap_id", "swap_freshness", "last") if name in how}
+    names = ("swap_id", "swap_freshness", "no_id", "short", "last", "turned_tag", "turned_key", "turned")
+    made = {name: True for name in names if name in how} | {name: int(how[name]) for name in ("cover", "low") if name in how}
     data = pdu(bytes.fromhex(key), int(data_id, 16), bytes.fromhex(payload), sum(int(it, 0) for it in fresh.split("+")), **made)
     data = inverted(data, int(how["bit"])) if "bit" in how else data
     data = data[: int(how.get("to", 64))] + bytes(int(how.get("more", 0)))

@@ -14,7 +14,8 @@ CLASSIC = re.compile(rb"([0-9A-Fa-f]{3}|[0-9A-Fa-f]{8})#(([0-9A-Fa-f]{2}){0,8}|#
 REMOTE = re.compile(rb"([0-9A-Fa-f]{3}|[0-9A-Fa-f]{8})#R[^#]*|[0-9A-Fa-f]{5}#.*")
 TOTAL = re.compile(r"line (\d+) (\S+) (\S+) accepted (\d+) failed (\d+) missed (\d+) last (\S+)")
 COUNT = re.compile(r"(accepted|failed|unmapped|other frames|malformed) (\d+)")
-ANSWER = re.compile(rb'(\{"frame":)?(\d+)[ ,]')
+OVER = re.compile(r"over (?:line (\d+) (\S+) (\S+) )?(\S+) (\d+) limit (\d+)")
+ANSWER = re.compile(rb'(\{"kind":"frame",)?(?:"frame":)?(\d+)[ ,]')
 
 
 def map_lines(text):
@@ -31,6 +32,11 @@ def map_lines(text):
     return lines
 
 
+def words_of(line):
+    """The words of a line of a log: space and tab stand between them, and one carriage return at its end is no word."""
+    return [word for word in re.split(rb"[ \t]+", line[:-1] if line.endswith(b"\r") else line) if word]
+
+
 def kind(words):
     """What a line is that no line of the map hears."""
     if len(words) < 3 or not re.fullmatch(TIME, words[0]):
@@ -44,7 +50,30 @@ def kind(words):
     return "other frames" if len(frame[1]) == 8 and identifier < 0x40000000 else "malformed"
 
 
-def totals(map_text, log_text, answers):
+def limits_of(options):
+    """What each of these words of a command line allows at most; None if it is no limit."""
+    given = {"missed": None, "missed-share": None, "malformed": None, "unmapped": None}
+    for at, word in enumerate(options):
+        if word == "--unmapped":
+            given["unmapped"] = 0
+        elif word[2:] in given:
+            given[word[2:]] = int(options[at + 1])
+    if "--strict" in options:
+        for name in ("malformed", "unmapped", *(["missed"] if given["missed-share"] is None else [])):
+            given[name] = given[name] or 0
+    return given
+
+
+def over_lines(limits, counts, what=""):
+    """A line for each number that is more than its limit."""
+    return "".join(
+        f"over {what}{name} {number} limit {limits[name]}\n"
+        for name, number in counts.items()
+        if limits[name] is not None and number > limits[name]
+    )
+
+
+def totals(map_text, log_text, answers, options=()):
     """The text behind these answers, and the status."""
     mapping = map_lines(map_text)
     answered = {int(words[0]): words for words in map(bytes.split, answers.splitlines())}
@@ -52,7 +81,7 @@ def totals(map_text, log_text, answers):
     last = [int(words[3], 16) for _, words, _, _ in mapping]
     others = {"unmapped": 0, "other frames": 0, "malformed": 0}
     for number, line in enumerate(log_text.split(b"\n"), 1):
-        words = line.rstrip(b"\r").split() if line.endswith(b"\r") else line.split()
+        words = words_of(line)
         if len(line) > 4096:
             others["malformed"] += 1
         elif not words or words[0].startswith(b"#"):
@@ -71,33 +100,53 @@ def totals(map_text, log_text, answers):
                 failed[place] += 1
         else:
             others[kind(words)] += 1
-    text = ""
+    text, over, limits = "", "", limits_of(options)
     for place, (number, words, _, head) in enumerate(mapping):
-        missed = last[place] - int(words[3], 16) - accepted[place]
+        values = last[place] - int(words[3], 16)
+        missed = values - accepted[place]
+        share = -(-100 * missed // values) if values else 0
+        what = f"line {number} {head.decode()} {words[1].decode().lower()} "
+        over += over_lines(limits, {"missed": missed, "missed-share": share}, what)
         text += f"line {number} {head.decode()} {words[1].decode().lower()} accepted {accepted[place]}"
         text += f" failed {failed[place]} missed {missed} last {last[place]:016x}\n"
     text += f"accepted {sum(accepted)}\nfailed {sum(failed)}\n"
     text += "".join(f"{name} {count}\n" for name, count in others.items())
+    over += over_lines(limits, {name: others[name] for name in ("malformed", "unmapped")})
     silent = not mapping or any(not optional and not accepted[at] for at, (_, _, optional, _) in enumerate(mapping))
-    return text.encode(), 1 if sum(failed) else 3 if silent else 0
+    return (text + over).encode(), 1 if sum(failed) else 3 if silent or over else 0
 
 
-def object_of(line):
-    """The object of an answer or of a line of the map."""
-    total = TOTAL.fullmatch(line)
+def object_of(line, identifiers):
+    """The object of an answer, of a line of the map, or of what is over its limit. `identifiers` has the CAN identifier
+    of each line of the map by its number."""
+    total, over = TOTAL.fullmatch(line), OVER.fullmatch(line)
     if total:
         number, name, data_id, accepted, failed, missed, last = total.groups()
         counts = {"accepted": int(accepted), "failed": int(failed), "missed": int(missed)}
-        return {"line": int(number), "name": name, "id": data_id, **counts, "last": last}
+        head = {"line": int(number), "name": name, "can": identifiers[int(number)], "id": data_id}
+        return {"kind": "line", **head, **counts, "last": last}
+    if over:
+        number, name, data_id, what, count, limit = over.groups()
+        head = {"line": int(number), "name": name, "can": identifiers[int(number)], "id": data_id} if number else {}
+        return {"kind": "over", **head, "what": what, "number": int(count), "limit": int(limit)}
     number, name, verdict, *accepted = line.split()
-    return {"frame": int(number), "name": name, "verdict": verdict, **dict(zip(("freshness", "payload"), accepted))}
+    values = dict(zip(("freshness", "payload"), accepted))
+    return {"kind": "frame", "frame": int(number), "name": name, "verdict": verdict, **values}
 
 
-def objects(text):
-    """What `watch --json` prints in the place of a text of `watch`: the five numbers at its end are one object."""
-    lines = text.decode().splitlines()
-    counts = {it[1]: int(it[2]) for it in map(COUNT.fullmatch, lines) if it}
-    told = [object_of(line) for line in lines if not COUNT.fullmatch(line)] + ([counts] if counts else [])
+def objects(text, map_text):
+    """What `watch --json` prints in the place of a text of `watch`: the five numbers are one object."""
+    identifiers = {number: words[0].decode().lower() for number, words, _, _ in map_lines(map_text)}
+    told, counts = [], {}
+    for line in text.decode().splitlines():
+        count = COUNT.fullmatch(line)
+        if not count:
+            told.append(object_of(line, identifiers))
+            continue
+        if not counts:
+            counts["kind"] = "log"
+            told.append(counts)
+        counts[count[1].replace(" ", "_")] = int(count[2])
     return "".join(json.dumps(it, separators=(",", ":")) + "\n" for it in told).encode()
 
 
@@ -108,14 +157,16 @@ def string(word):
 
 def timed(text, log_text):
     """What `--time` makes of a text of `watch` or `watch --json`: before each answer stand the first two words of its
-    line of the log, or they are the first two members of its object."""
+    line of the log, or they stand behind the kind of its object."""
     log, lines = log_text.split(b"\n"), []
     for line in text.splitlines(keepends=True):
         answer = ANSWER.match(line)
         if answer:
             time, channel = re.split(rb"[ \t]+", log[int(answer[2]) - 1].strip(b" \t"))[:2]
             if answer[1]:
-                line = b'{"time":"%b","channel":"%b",%b' % (string(time[1:-1]), string(channel), line[1:])
+                line = b'%b"time":"%b","channel":"%b",%b' % (
+                    answer[1], string(time[1:-1]), string(channel), line[len(answer[1]) :]
+                )
             else:
                 line = b"%b %b %b" % (time, channel, line)
         lines.append(line)

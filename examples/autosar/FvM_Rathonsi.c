@@ -158,15 +158,17 @@ static void open_routes(void)
 {
     uint32_t which = FVM_ROUTES;
     uint16_t cell = FVM_NO_CELL;
-    int32_t status = rathonsi_store_size(FvM_Image, &FvM_Size);
+    int32_t status = rathonsi_store_size(FvM_Image, sizeof FvM_Image, &FvM_Size);
+    if (status == RATHONSI_DAMAGED) {
+        /* Its size isn't known. A store with the cells of this software has this one. */
+        const int32_t looked = rathonsi_store_look(FvM_Image, RATHONSI_STORE_SIZE(FVM_CELLS), &cell);
+        status = (looked == RATHONSI_WRONG_CELL) ? looked : status;
+    }
     if ((status == RATHONSI_OK) && (FvM_Size > sizeof FvM_Image)) {
         status = RATHONSI_BAD_LENGTH;
     }
     if (status == RATHONSI_OK) {
         status = rathonsi_store_check(FvM_Image, FvM_Size);
-        if (status == RATHONSI_DAMAGED) {
-            status = rathonsi_store_look(FvM_Image, FvM_Size, &cell);
-        }
     }
     if (status == RATHONSI_OK) {
         status = rathonsi_routes_open(FvM_Route, FVM_ROUTES, FvM_Image, FvM_Size, &which);
@@ -184,11 +186,12 @@ static boolean is_planned(void)
             || (FvM_Plan.writes[2].length != 0u)) ? 1u : 0u;
 }
 
-/* Asks for each cell that the production line didn't make, at each start and whatever the store says of its size: a cut may
- * leave any number there. A cell that is there plans nothing. Says whether there is a plan; if none is left, all opens. */
+/* Mends the number of cells: a cut may leave anything of it, also one within the growth of newer software. Then it asks for
+ * each cell that the production line didn't make, at each start. A cell that is there plans nothing. Says whether there is a
+ * plan; if none is left, all opens. */
 static boolean make_growth(void)
 {
-    int32_t status = RATHONSI_OK;
+    int32_t status = rathonsi_store_mend(FvM_Image, sizeof FvM_Image, &FvM_Plan);
     while ((FvM_Cell < FVM_CELLS) && (status == RATHONSI_OK) && (is_planned() == 0u)) {
         const RathonsiRoute route = route_of_cell(FvM_Cell);
         status = rathonsi_store_grow(&route, 0u, FvM_Image, sizeof FvM_Image, &FvM_Plan);
@@ -196,7 +199,9 @@ static boolean make_growth(void)
             FvM_Cell++;
         }
     }
-    if (status != RATHONSI_OK) {
+    if (status == RATHONSI_DAMAGED) {
+        open_routes();
+    } else if (status != RATHONSI_OK) {
         /* The loop is past the cell. */
         stop_cell(status, (uint16)((RATHONSI_SLOT_CELLS + FvM_Cell) - 1u));
     } else if (is_planned() == 0u) {
@@ -514,26 +519,86 @@ boolean FvM_IsBehind(uint16 freshnessId)
     return ((i < FVM_ROUTES) && (FvM_Missed[i] == FVM_MISSES)) ? 1u : 0u;
 }
 
-Std_ReturnType FvM_MakeAnswer(uint16 freshnessId, const uint8 nonce[16], uint8 answer[24])
+/* The question of one unit to another one. */
+static RathonsiQuestion question_of(uint32 asker, uint32 answerer, const uint8 nonce[16])
+{
+    RathonsiQuestion question;
+    question.asker = asker;
+    question.answerer = answerer;
+    (void)memcpy(question.nonce, nonce, RATHONSI_NONCE);
+    return question;
+}
+
+/* The MAC of an answer's input: by the key in the slot of the route, or by a job of Csm. */
+static Std_ReturnType answer_mac(uint32 i, const RathonsiAnswerInput *input, uint8 mac[16])
+{
+    const uint32 bytes = (uint32)sizeof input->bytes;
+#ifdef FVM_ANSWER_JOB
+    uint32 length = 16u;
+    Std_ReturnType result =
+        Csm_MacGenerate(FVM_ANSWER_JOB, CRYPTO_OPERATIONMODE_SINGLECALL, input->bytes, bytes, mac, &length);
+    (void)i;
+    if (result == CRYPTO_E_BUSY) {
+        result = E_BUSY;
+    } else if ((result != E_OK) || (length != 16u)) {
+        result = E_NOT_OK;
+    } else {
+        /* E_OK */
+    }
+    return result;
+#else
+    const int32_t status = FvM_MakeMac(FvM_Routes[i].slot, input->bytes, bytes, mac);
+    return (status == RATHONSI_BUSY) ? E_BUSY : answer_of(status);
+#endif
+}
+
+Std_ReturnType FvM_MakeAnswer(uint16 freshnessId, uint8 direction, uint32 asker, const uint8 nonce[16], uint8 answer[24])
 {
     Std_ReturnType result = E_NOT_OK;
-    const uint32 i = route_of(freshnessId, RATHONSI_SENDS);
-    /* A unit that receives under the ID, too, would take its own answer for one of the other unit. */
-    if ((i < FVM_ROUTES) && (route_of(freshnessId, RATHONSI_RECEIVES) == FVM_ROUTES)) {
+    const uint32 i = route_of(freshnessId, direction);
+    if (i < FVM_ROUTES) {
+        const RathonsiQuestion question = question_of(asker, FVM_NAME, nonce);
+        RathonsiAnswerInput input;
+        uint8 mac[16];
         FVM_ENTER();
         result = answer_down();
         if (FvM_State == FVM_UP) {
-            result = answer_of(rathonsi_sync_answer(&FvM_Route[i], FvM_Image, FvM_Size, nonce, answer));
+            result = answer_of(rathonsi_sync_answer_input(&FvM_Route[i], FvM_Image, FvM_Size, &question, &input));
         }
         FVM_LEAVE();
+        if (result == E_OK) {
+            result = answer_mac(i, &input, mac);
+        }
+        if (result == E_OK) {
+            result = answer_of(rathonsi_sync_answer_mac(&input, mac, answer));
+        }
     }
     return result;
 }
 
-/* Takes an answer for a route, on whose candidate no verdict is out. */
-static Std_ReturnType take_answer(uint32 i, const uint8 nonce[16], const uint8 answer[24])
+/* What a call on an answer says before it looks at the answer: E_OK if all routes are open, and no verdict is out on a
+ * candidate of this one. */
+static Std_ReturnType answer_ready(uint32 i)
 {
-    const RathonsiVerdict verdict = rathonsi_sync_take(&FvM_Route[i], FvM_Image, FvM_Size, nonce, answer);
+    Std_ReturnType result = E_OK;
+    if (FvM_State != FVM_UP) {
+        result = answer_down();
+    } else if (FvM_Candidate[i] != 0u) {
+        result = E_BUSY;
+    } else {
+        /* It is ready. */
+    }
+    return result;
+}
+
+/* Takes an answer with this MAC for a route, or rejoins by it. */
+static Std_ReturnType take_answer(uint32 i, boolean rejoins, const RathonsiQuestion *question, const uint8 answer[24],
+                                  const RathonsiAnswerInput *input, const uint8 mac[16])
+{
+    RathonsiRoute *const route = &FvM_Route[i];
+    const RathonsiVerdict verdict =
+        (rejoins != 0u) ? rathonsi_sync_rejoin_mac(route, FvM_Image, FvM_Size, question, answer, input, mac)
+                        : rathonsi_sync_take_mac(route, FvM_Image, FvM_Size, question, answer, input, mac);
     if (verdict.status == RATHONSI_RESERVE) {
         want(i, verdict.freshness);
     } else if ((verdict.status == RATHONSI_OK) || (verdict.status == RATHONSI_FRESHNESS_FAILURE)) {
@@ -545,22 +610,44 @@ static Std_ReturnType take_answer(uint32 i, const uint8 nonce[16], const uint8 a
     return answer_of(verdict.status);
 }
 
-Std_ReturnType FvM_TakeAnswer(uint16 freshnessId, const uint8 nonce[16], const uint8 answer[24])
+/* The answer of that unit to this nonce, for a route. */
+static Std_ReturnType take_of(uint32 i, boolean rejoins, uint32 answerer, const uint8 nonce[16], const uint8 answer[24])
 {
-    Std_ReturnType result = E_NOT_OK;
-    const uint32 i = route_of(freshnessId, RATHONSI_RECEIVES);
-    if (i < FVM_ROUTES) {
+    const RathonsiQuestion question = question_of(FVM_NAME, answerer, nonce);
+    RathonsiAnswerInput input;
+    uint8 mac[16];
+    Std_ReturnType result;
+    FVM_ENTER();
+    result = answer_ready(i);
+    if (result == E_OK) {
+        result = answer_of(rathonsi_sync_take_input(&FvM_Route[i], FvM_Image, FvM_Size, &question, answer, &input));
+    }
+    FVM_LEAVE();
+    if (result == E_OK) {
+        result = answer_mac(i, &input, mac);
+    }
+    if (result == E_OK) {
         FVM_ENTER();
-        if (FvM_State != FVM_UP) {
-            result = answer_down();
-        } else if (FvM_Candidate[i] != 0u) {
-            result = E_BUSY;
-        } else {
-            result = take_answer(i, nonce, answer);
+        result = answer_ready(i);
+        if (result == E_OK) {
+            result = take_answer(i, rejoins, &question, answer, &input, mac);
         }
         FVM_LEAVE();
     }
     return result;
+}
+
+Std_ReturnType FvM_TakeAnswer(uint16 freshnessId, uint8 direction, uint32 answerer, const uint8 nonce[16],
+                              const uint8 answer[24])
+{
+    const uint32 i = route_of(freshnessId, direction);
+    return (i < FVM_ROUTES) ? take_of(i, 0u, answerer, nonce, answer) : E_NOT_OK;
+}
+
+Std_ReturnType FvM_Rejoin(uint16 freshnessId, uint32 answerer, const uint8 nonce[16], const uint8 answer[24])
+{
+    const uint32 i = route_of(freshnessId, RATHONSI_RECEIVES);
+    return (i < FVM_ROUTES) ? take_of(i, 1u, answerer, nonce, answer) : E_NOT_OK;
 }
 
 /* ---- Keys, for the Crypto driver -------------------------------------------------------------------------------------- */

@@ -77,21 +77,35 @@ uint16 FvM_GetFaultCell(void);
 void FvM_VerificationStatus(SecOC_VerificationStatusType status);
 
 /* A receiver that is more than its window behind accepts nothing, until it takes an answer of its sender. It draws a
- * nonce of 16 random bytes, never the same one twice, and sends it. The other unit calls FvM_MakeAnswer, and sends the
- * 24 bytes back. The receiver calls FvM_TakeAnswer with them, and forgets the nonce. Both keep one key in the slot that
- * is configured. Nonce and answer may travel in plain PDUs. */
+ * nonce of 16 random bytes, never the same one twice, and sends it with its name, FVM_NAME. The other unit calls
+ * FvM_MakeAnswer with them, and sends the 24 bytes back. The receiver calls FvM_TakeAnswer with them and the other unit's
+ * name, and forgets the nonce, at the latest after a second or eight wrong answers. A sender that was put in place of
+ * another one asks its receiver in the same way. A unit answers under its own name alone, so it takes no answer of its own.
+ * Nonce and answer may travel in plain PDUs. The direction is that of this unit's route: RATHONSI_SENDS or _RECEIVES. */
 
 /* Says whether three or more PDUs of this ID weren't verified in a row: time to ask. PDUs count, too, that SecOC didn't
  * verify, or that came while the store was read. */
 boolean FvM_IsBehind(uint16 freshnessId);
 
-/* E_BUSY: the store is being read. E_NOT_OK: no sender has this ID, a receiver has it too, or no key is in the slot. */
-Std_ReturnType FvM_MakeAnswer(uint16 freshnessId, const uint8 nonce[16], uint8 answer[24]);
+/* E_BUSY: the store is being read, or the crypto stack is busy. E_NOT_OK: no route has this ID and direction, the asker
+ * has the name of this unit, or there is no key. */
+Std_ReturnType FvM_MakeAnswer(uint16 freshnessId, uint8 direction, uint32 asker, const uint8 nonce[16],
+                              uint8 answer[24]);
 
-/* E_OK: PDUs that were sent after the answer are accepted, within the window. E_BUSY: a bound is being written, the store
- * is being read, or SecOC verifies a PDU of this ID; call again with the same bytes. E_NOT_OK: it is no answer to this
- * nonce, the receiver isn't behind, or no key is in the slot. */
-Std_ReturnType FvM_TakeAnswer(uint16 freshnessId, const uint8 nonce[16], const uint8 answer[24]);
+/* E_OK: PDUs that were sent after the answer are accepted, within the window, if SecOC's attempts last
+ * until the bounds of other routes are written. E_BUSY: a bound is being written, the store
+ * is being read, the crypto stack is busy, or SecOC verifies a PDU of this ID; call again with the same bytes. E_NOT_OK:
+ * it is no answer of this unit to this nonce, the route isn't behind, or there is no key. */
+Std_ReturnType FvM_TakeAnswer(uint16 freshnessId, uint8 direction, uint32 answerer, const uint8 nonce[16],
+                              const uint8 answer[24]);
+
+/* Back at once after a reset: a receiver begins at its bound, and refuses what it had reserved. This moves its counter down
+ * to the sender's, if SecOC verified no PDU of this ID in this life yet. The nonce was drawn since FvM_GetState was FVM_UP,
+ * and nobody could foretell it: else PDUs of former lives are accepted again. Never rejoin to a sender that was put in place
+ * of another one, or whose store was made anew, unless the key of its PDUs is new, too: recorded PDUs would be accepted
+ * again. E_OK, E_BUSY: as for FvM_TakeAnswer. E_NOT_OK: it is no answer of this unit to this nonce, there is no key, or the
+ * receiver isn't behind, and SecOC verified a PDU. */
+Std_ReturnType FvM_Rejoin(uint16 freshnessId, uint32 answerer, const uint8 nonce[16], const uint8 answer[24]);
 
 /* What Crypto_Rathonsi.c asks. RATHONSI_BUSY: the store is being read, or written; ask again. FVM_NOT_UP: FvM_GetState
  * is FVM_STOPPED or FVM_MAKING; only FvM_Init helps. A key is durable before FvM_ConfirmKey confirms it. */

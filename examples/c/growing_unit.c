@@ -1,17 +1,17 @@
 /*
  * Two control units, of which one sends what the other receives, under one to eight Data IDs: new software adds routes, and the store
- * grows. Power goes at any byte of any write, and between writes. The older software may start in between, or come back later. The receiver
- * sleeps, falls behind and takes an answer of the sender. An attacker repeats PDUs and answers, and alters answers. No freshness may come
- * twice, no key may be lost, no receiver may stay locked out, and no unit may stay down.
+ * grows, or a spare cell becomes a route's. Power goes at any byte of any write, and between writes. Older software may start in between,
+ * within a growth that was cut, or come back later. The receiver sleeps, falls behind and takes an answer of the sender. An attacker
+ * repeats PDUs and answers, and alters answers. No freshness may come twice, no key may be lost, no receiver may stay locked out, and no
+ * unit may stay down.
  *
  *     growing_unit EVENTS [DUTY]
  *
- * With DUTY a unit breaks a duty of rathonsi_store_grow, and the program ends well if some units never come up again:
+ * With DUTY a unit breaks a duty, and the program ends well if some units never come up again:
  *
- *     asks_size         it asks rathonsi_store_size first, and calls no growth if the store has as many routes as its software, or more
- *     checks_larger     it asks first, too: the store is whole if it has as many routes, or more and rathonsi_store_check says OK
- *     stops_without     it stops if rathonsi_store_size says that there is no store
- *     grows_once        it calls the growths at the first power-up after an update alone
+ *     stops_without     it doesn't call rathonsi_store_mend or rathonsi_store_grow if the number of cells in the header is none
+ *     grows_once        it calls rathonsi_store_grow at the first power-up after an update alone
+ *     believes_number   it takes the number of cells in the header for the size, and mends nothing
  */
 #include <stdio.h>
 #include <stdlib.h>
@@ -20,8 +20,8 @@
 #include "rathonsi_store.h"
 
 enum { MOST = 8, SLOT = 4, PAYLOAD = 8, PDU = PAYLOAD + RATHONSI_TRAILER, KEPT = 64, MISSES = 3, IN_A_ROW = 3000 };
-enum duty { KEEPS_ALL, ASKS_SIZE, CHECKS_LARGER, STOPS_WITHOUT, GROWS_ONCE, DUTIES };
-static const char *const duty_names[DUTIES] = {"", "asks_size", "checks_larger", "stops_without", "grows_once"};
+enum duty { KEEPS_ALL, STOPS_WITHOUT, GROWS_ONCE, BELIEVES_NUMBER, DUTIES };
+static const char *const duty_names[DUTIES] = {"", "stops_without", "grows_once", "believes_number"};
 static enum duty broken;
 
 /* What comes of a try to come up. */
@@ -34,9 +34,8 @@ struct unit {
     uint32_t size; /* of the store, which may have more routes than its software */
     RathonsiPlan plan;
     RathonsiRoute routes[MOST];
-    unsigned count;  /* how many routes its software has */
-    unsigned before; /* how many the software before it has */
-    int is_new;      /* whether its software never came up */
+    unsigned count; /* how many routes its software has */
+    int is_new;     /* whether its software never came up */
 };
 
 static struct unit sender, receiver;
@@ -52,7 +51,7 @@ static uint8_t old_pdus[MOST][KEPT][PDU];
 static uint8_t old_answers[MOST][RATHONSI_ANSWER];
 static unsigned asleep; /* for so many PDUs */
 static int is_lost; /* a unit never comes up again */
-static long units, lost, sent, accepted, refused, replays, cuts, grown, counted, answers, taken, rolled_back, stopped;
+static long units, lost, sent, accepted, refused, replays, cuts, grown, claimed, mended, answers, taken, rolled_back, stopped;
 static const char *harm;
 static uint32_t random_state = 2463534242u;
 
@@ -114,31 +113,36 @@ static void look_for_key(const struct unit *unit) {
     expect(memcmp(&reply, &first_reply, sizeof reply) == 0, "a key is lost");
 }
 
-/* Whether the unit breaks a duty, and calls no growth now. */
-static int leaves_out(const struct unit *unit) {
-    uint32_t size = 0;
-    int is_store = rathonsi_store_size(unit->image, &size) == RATHONSI_OK;
-    switch (broken) {
-    case ASKS_SIZE: return is_store && size >= RATHONSI_STORE_SIZE(unit->count);
-    case CHECKS_LARGER:
-        return is_store && (size == RATHONSI_STORE_SIZE(unit->count)
-                            || (size > RATHONSI_STORE_SIZE(unit->count) && size <= sizeof unit->image
-                                && rathonsi_store_check(unit->image, size) == RATHONSI_OK));
-    case STOPS_WITHOUT: return !is_store;
-    case GROWS_ONCE: return !unit->is_new;
-    default: return 0;
-    }
+/* The number of cells in the header. */
+static uint32_t number_in(const struct unit *unit) {
+    return ((uint32_t)unit->image[10] << 8) + unit->image[11];
 }
 
-/* The store gets the cell of this route, unless it has it. Then the call plans nothing, also while the number of cells is torn. */
+/* Whether the unit breaks a duty, and takes the number in the header for the size. */
+static int believes(const struct unit *unit) {
+    return broken == BELIEVES_NUMBER && number_in(unit) >= RATHONSI_SLOT_CELLS + unit->count;
+}
+
+/* The number of cells is what the cells say, whatever a cut left of it. */
+static enum outcome mend_store(struct unit *unit) {
+    if (broken == STOPS_WITHOUT && (number_in(unit) < RATHONSI_SLOT_CELLS || number_in(unit) > 270u))
+        return STOPPED;
+    if (rathonsi_store_mend(unit->image, sizeof unit->image, &unit->plan) != RATHONSI_OK)
+        return STOPPED;
+    mended += unit->plan.writes[2].length != 0u;
+    return do_plan(unit, 8) ? UP : CUT;
+}
+
+/* The store gets the cell of this route, unless it has it: then the call plans nothing. */
 static enum outcome grow_by(struct unit *unit, const RathonsiRoute *route) {
-    for (;;) {
+    for (unsigned calls = 1;; calls++) {
         if (rathonsi_store_grow(route, 0, unit->image, sizeof unit->image, &unit->plan) != RATHONSI_OK)
             return STOPPED;
         if (unit->plan.writes[2].length == 0u) /* nothing is planned: the last write of a growth is never empty */
             return UP;
-        counted += unit->plan.writes[0].length == 0u;
-        grown += unit->plan.writes[0].length != 0u;
+        expect(calls < 3, "a third call plans something");
+        grown += unit->plan.writes[1].length == 1u;
+        claimed += unit->plan.writes[1].length == 33u;
         if (!do_plan(unit, 8))
             return CUT;
     }
@@ -148,7 +152,7 @@ static enum outcome grow_by(struct unit *unit, const RathonsiRoute *route) {
 static enum outcome grow_store(struct unit *unit) {
     enum outcome outcome = UP;
     for (unsigned i = 1; i < unit->count && outcome == UP; i++)
-        if (!leaves_out(unit))
+        if (broken != GROWS_ONCE || unit->is_new)
             outcome = grow_by(unit, &unit->routes[i]);
     unit->is_new = 0;
     return outcome;
@@ -161,8 +165,9 @@ static enum outcome open_store(struct unit *unit) {
         unit->routes[i].opened = 0;
         unit->routes[i].reserve = (uint16_t)(1 + draw(128)); /* another one in each life */
     }
-    if (rathonsi_store_size(unit->image, &unit->size) != RATHONSI_OK || unit->size > sizeof unit->image
-        || rathonsi_store_check(unit->image, unit->size) != RATHONSI_OK
+    unit->size = 32u + 68u * number_in(unit);
+    if ((!believes(unit) && rathonsi_store_size(unit->image, sizeof unit->image, &unit->size) != RATHONSI_OK)
+        || unit->size > sizeof unit->image || rathonsi_store_check(unit->image, unit->size) != RATHONSI_OK
         || rathonsi_routes_open(unit->routes, unit->count, unit->image, unit->size, &which) != RATHONSI_OK)
         return STOPPED;
     return UP;
@@ -181,7 +186,11 @@ static void look_at(const struct unit *unit) {
 static enum outcome come_up(struct unit *unit) {
     memset(&unit->plan, 0, sizeof unit->plan);
     memcpy(unit->image, unit->device, sizeof unit->image);
-    enum outcome outcome = grow_store(unit);
+    enum outcome outcome = UP;
+    if (!believes(unit))
+        outcome = mend_store(unit);
+    if (outcome == UP && !believes(unit))
+        outcome = grow_store(unit);
     if (outcome == UP)
         outcome = open_store(unit);
     if (outcome == UP)
@@ -189,16 +198,17 @@ static enum outcome come_up(struct unit *unit) {
     return outcome;
 }
 
-/* The software before this one starts once, over a store that may be in the middle of a growth. It finds all that it had, or stops. */
-static void try_older(struct unit *unit) {
+/* Older software starts once, over a store that may be in the middle of a growth. It finds all that it had. */
+static enum outcome try_older(struct unit *unit) {
     unsigned count = unit->count;
     int is_new = unit->is_new;
-    unit->count = unit->before;
+    unit->count = 1u + draw(count);
     enum outcome outcome = come_up(unit);
     stopped += outcome == STOPPED;
     rolled_back += outcome == UP;
     unit->count = count;
     unit->is_new = is_new;
+    return outcome;
 }
 
 static void power_up(struct unit *unit) {
@@ -232,7 +242,6 @@ static void add_route(struct unit *unit) {
 
 /* New software, with one route more, or with two. */
 static void update(struct unit *unit) {
-    unit->before = unit->count;
     add_route(unit);
     if (unit->count < MOST && draw(2) == 0)
         add_route(unit);
@@ -240,22 +249,22 @@ static void update(struct unit *unit) {
     power_up(unit);
 }
 
-/* The software before this one comes back, for a while or until the next update. The store keeps its cells. */
+/* Older software comes back, for a while or until the next update. The store keeps its cells. */
 static void roll_back(struct unit *unit) {
-    unit->count = unit->before;
+    unit->count = 1u + draw(unit->count);
     rolled_back++;
     power_up(unit);
 }
 
 /* ---- The production line ---- */
 
-/* Makes a unit of one route, with all the room behind its store erased. A device that began with old bytes there couldn't grow. */
+/* Makes a unit of one route and up to three spare cells, with all the room behind its store erased. A device that began with old bytes
+ * there couldn't grow. */
 static void make_unit(struct unit *unit) {
     unit->count = 0;
     add_route(unit);
-    unit->before = unit->count;
     unit->is_new = 0;
-    unit->size = RATHONSI_STORE_SIZE(1);
+    unit->size = RATHONSI_STORE_SIZE(1u + draw(4)); /* some cells are spare */
     memset(&unit->plan, 0, sizeof unit->plan);
     fill(unit->image, unit->size); /* old bytes */
     memset(unit->image + unit->size, 0xff, sizeof unit->image - unit->size);
@@ -344,25 +353,26 @@ static int send_one(unsigned which, uint8_t *pdu) {
 
 /* The receiver asks the sender for its counter. The attacker comes first, with an old answer and an altered one. */
 static void ask(unsigned which) {
-    uint8_t nonce[RATHONSI_NONCE], answer[RATHONSI_ANSWER], altered[RATHONSI_ANSWER], pdu[PDU];
+    uint8_t answer[RATHONSI_ANSWER], altered[RATHONSI_ANSWER], pdu[PDU];
+    RathonsiQuestion question = {2, 1, {0}}; /* the receiver, which is unit 2, asks unit 1 */
     RathonsiRoute *route = &receiver.routes[which];
     RathonsiVerdict verdict;
-    fill(nonce, sizeof nonce);
-    verdict = rathonsi_sync_take(route, receiver.image, receiver.size, nonce, old_answers[which]);
+    fill(question.nonce, sizeof question.nonce);
+    verdict = rathonsi_sync_take(route, receiver.image, receiver.size, &question, old_answers[which]);
     expect(verdict.status == RATHONSI_VERIFICATION_FAILURE, "an old answer is taken");
-    expect(rathonsi_sync_answer(&sender.routes[which], sender.image, sender.size, nonce, answer) == RATHONSI_OK, "no answer is made");
+    expect(rathonsi_sync_answer(&sender.routes[which], sender.image, sender.size, &question, answer) == RATHONSI_OK, "no answer is made");
     memcpy(old_answers[which], answer, sizeof answer);
     memcpy(altered, answer, sizeof answer);
     altered[draw(RATHONSI_ANSWER)] ^= (uint8_t)(1u << draw(8));
-    verdict = rathonsi_sync_take(route, receiver.image, receiver.size, nonce, altered);
+    verdict = rathonsi_sync_take(route, receiver.image, receiver.size, &question, altered);
     expect(verdict.status == RATHONSI_VERIFICATION_FAILURE, "an altered answer is taken");
     answers++;
-    verdict = rathonsi_sync_take(route, receiver.image, receiver.size, nonce, answer);
+    verdict = rathonsi_sync_take(route, receiver.image, receiver.size, &question, answer);
     if (verdict.status == RATHONSI_RESERVE) {
         expect(verdict.freshness == sender.routes[which].counter, "another counter is to be reserved");
         if (!reserve(&receiver, which, verdict.freshness, 1))
             return;
-        verdict = rathonsi_sync_take(route, receiver.image, receiver.size, nonce, answer);
+        verdict = rathonsi_sync_take(route, receiver.image, receiver.size, &question, answer);
     }
     if (verdict.status == RATHONSI_FRESHNESS_FAILURE) { /* it isn't behind: it refuses what it reserved before a cut */
         expect(route->counter >= sender.routes[which].counter, "a receiver that is behind is told that it isn't");
@@ -444,11 +454,11 @@ int main(int count, char **words) {
             make_units();
         }
     }
-    printf("%ld pairs of units: sent %ld, accepted %ld, refused %ld, repeated %ld, power cuts %ld, cells grown %ld and %ld once more for the "
-           "count, older software up %ld and stopped %ld, answers %ld, taken %ld\n", units, sent, accepted, refused, replays, cuts, grown,
-           counted, rolled_back, stopped, answers, taken);
+    printf("%ld pairs of units: sent %ld, accepted %ld, refused %ld, repeated %ld, power cuts %ld, cells grown %ld and claimed %ld, numbers "
+           "mended %ld, older software up %ld and stopped %ld, answers %ld, taken %ld\n", units, sent, accepted, refused, replays, cuts,
+           grown, claimed, mended, rolled_back, stopped, answers, taken);
     printf("%s%s%s, units lost %ld\n", duty_names[broken], broken == KEEPS_ALL ? "" : ": ", harm != NULL ? harm : "no harm", lost);
     if (broken != KEEPS_ALL)
         return harm == NULL && lost > 0 ? 0 : 1;
-    return harm == NULL && lost == 0 && grown > 0 && counted > 0 && taken > 0 && rolled_back > 0 && stopped > 0 ? 0 : 1;
+    return harm == NULL && lost == 0 && grown > 0 && claimed > 0 && mended > 0 && taken > 0 && rolled_back > 0 && stopped == 0 ? 0 : 1;
 }

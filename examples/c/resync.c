@@ -83,13 +83,13 @@ static int32_t receive_pdu(struct unit *unit, const uint8_t pdu[PDU]) {
     return verdict.status;
 }
 
-static int32_t take_answer(struct unit *unit, const uint8_t nonce[16], const uint8_t answer[24]) {
-    RathonsiVerdict verdict = rathonsi_sync_take(&unit->route, unit->image, SIZE, nonce, answer);
+static int32_t take_answer(struct unit *unit, const RathonsiQuestion *question, const uint8_t answer[24]) {
+    RathonsiVerdict verdict = rathonsi_sync_take(&unit->route, unit->image, SIZE, question, answer);
     if (verdict.status == RATHONSI_RESERVE) {
         /* the counter may be far ahead: rathonsi_route_advance, not rathonsi_route_reserve */
         expect(rathonsi_route_advance(&unit->route, verdict.freshness, unit->image, SIZE, &unit->plan) == RATHONSI_OK, "an advance");
         do_plan(unit);
-        verdict = rathonsi_sync_take(&unit->route, unit->image, SIZE, nonce, answer);
+        verdict = rathonsi_sync_take(&unit->route, unit->image, SIZE, question, answer);
     }
     return verdict.status;
 }
@@ -98,8 +98,8 @@ int main(void) {
     static struct unit sender, receiver;
     uint8_t pdu[PDU], old[PDU], answer[24], altered[24];
     /* A unit draws its nonces with a generator of random numbers; these two stand for what it drew. */
-    static const uint8_t nonce[16] = {0x51, 0x0e, 0x52, 0x7f, 0x9b, 0x05, 0x68, 0x8c, 0x1f, 0x83, 0xd9, 0xab, 0x5b, 0xe0, 0xcd, 0x19};
-    static const uint8_t other[16] = {0x6a, 0x09, 0xe6, 0x67, 0xbb, 0x67, 0xae, 0x85, 0x3c, 0x6e, 0xf3, 0x72, 0xa5, 0x4f, 0xf5, 0x3a};
+    static const RathonsiQuestion question = {2, 1, {0x51, 0x0e, 0x52, 0x7f, 0x9b, 0x05, 0x68, 0x8c, 0x1f, 0x83, 0xd9, 0xab, 0x5b, 0xe0, 0xcd, 0x19}};
+    static const RathonsiQuestion other = {2, 1, {0x6a, 0x09, 0xe6, 0x67, 0xbb, 0x67, 0xae, 0x85, 0x3c, 0x6e, 0xf3, 0x72, 0xa5, 0x4f, 0xf5, 0x3a}};
     int lost = 0;
 
     make_unit(&sender, RATHONSI_SENDS);
@@ -117,14 +117,14 @@ int main(void) {
     }
     printf("away for %d PDUs: of the next 1000, %d are refused\n", MISSED, lost);
 
-    expect(rathonsi_sync_answer(&sender.route, sender.image, SIZE, nonce, answer) == RATHONSI_OK, "an answer is made");
+    expect(rathonsi_sync_answer(&sender.route, sender.image, SIZE, &question, answer) == RATHONSI_OK, "an answer is made");
     memcpy(altered, answer, sizeof altered);
     altered[7] ^= 1;
-    expect(take_answer(&receiver, other, answer) == RATHONSI_VERIFICATION_FAILURE, "an answer to another nonce is refused");
-    expect(take_answer(&receiver, nonce, altered) == RATHONSI_VERIFICATION_FAILURE, "another counter is refused");
-    expect(take_answer(&receiver, nonce, answer) == RATHONSI_OK, "the answer is taken");
+    expect(take_answer(&receiver, &other, answer) == RATHONSI_VERIFICATION_FAILURE, "an answer to another nonce is refused");
+    expect(take_answer(&receiver, &question, altered) == RATHONSI_VERIFICATION_FAILURE, "another counter is refused");
+    expect(take_answer(&receiver, &question, answer) == RATHONSI_OK, "the answer is taken");
     expect(receiver.route.counter == sender.route.counter, "the counters agree");
-    expect(take_answer(&receiver, nonce, answer) == RATHONSI_FRESHNESS_FAILURE, "it is taken once");
+    expect(take_answer(&receiver, &question, answer) == RATHONSI_FRESHNESS_FAILURE, "it is taken once");
     expect(receive_pdu(&receiver, old) != RATHONSI_OK, "an old PDU is refused");
     lost = 0;
     for (int i = 0; i < 1000; i++) {

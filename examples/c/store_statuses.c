@@ -224,7 +224,8 @@ static void busy_and_wrong(struct unit *unit) {
     booted_twice(unit);
 }
 static void not_open(struct unit *unit) { unit->route.opened = 0; }
-static void open_twice(struct unit *unit) { unit->route.opened = 2; }
+static void open_twice(struct unit *unit) { unit->route.opened = 3; }
+static void mark_by_hand(struct unit *unit) { unit->route.opened = 1; }
 static void before_the_last(struct unit *unit) { unit->freshness = UINT64_MAX - 8; }
 static void no_place(struct unit *unit) { unit->freshness = UINT64_MAX - 7; }
 static void last_freshness(struct unit *unit) { unit->freshness = UINT64_MAX; }
@@ -405,7 +406,8 @@ static const struct {
     {SEND, 0, low_cell, RATHONSI_BAD_VALUE, "cell 13"},
     {SEND, 1, nothing, RATHONSI_BAD_VALUE, "a route that receives"},
     {SEND, 0, not_open, RATHONSI_BAD_VALUE, "a route that isn't open"},
-    {SEND, 0, open_twice, RATHONSI_BAD_VALUE, "opened 2"},
+    {SEND, 0, open_twice, RATHONSI_BAD_VALUE, "opened 3"},
+    {SEND, 0, mark_by_hand, RATHONSI_BAD_VALUE, "a mark that was set by hand"},
     {SEND, 0, other_id, RATHONSI_WRONG_CELL, "another Data ID"},
     {SEND, 0, damaged_bound, RATHONSI_DAMAGED, "a damaged bound"},
     {SEND, 0, damaged_slot, RATHONSI_DAMAGED, "a damaged slot"},

@@ -15,7 +15,7 @@ enum { ROUTES = 2, SLOT = 4, SIZE = RATHONSI_STORE_SIZE(ROUTES), GROWN = SIZE + 
 static const uint8_t uid[15] = {1};
 static const uint8_t master[16] = {15, 14, 13, 12, 11, 10, 9, 8, 7, 6, 5, 4, 3, 2, 1, 0};
 static const uint8_t key[16] = {0x2b, 0x7e, 0x15, 0x16, 0x28, 0xae, 0xd2, 0xa6, 0xab, 0xf7, 0x15, 0x88, 0x09, 0xcf, 0x4f, 0x3c};
-static const uint8_t nonce[16] = {1, 2, 3};
+static RathonsiQuestion question = {7, 8, {1, 2, 3}};
 static const uint8_t payload[PAYLOAD] = {9, 8, 7};
 static uint8_t made[ROOM], image[ROOM];
 static RathonsiRoute routes[ROUTES];
@@ -165,11 +165,8 @@ static void grows(const RathonsiRoute *route, size_t length, int32_t status, con
 }
 
 static void grow(void) {
-    uint32_t size = 77;
     RathonsiRoute route = route_of(ROUTES);
     begin();
-    expect(rathonsi_store_size(image, &size), RATHONSI_OK, "size");
-    expect((long)size, SIZE, "size: of the store");
     plan.writes[0].length = 1;
     grows(&route, ROOM, RATHONSI_BUSY, "grow: a plan");
     plan = no_plan;
@@ -186,7 +183,7 @@ static void grow(void) {
     }
     route = route_of(ROUTES);
     grows(&route, ROOM, RATHONSI_OK, "grow: a cell");
-    expect(plan.writes[0].length + plan.writes[1].length + plan.writes[2].length, 34 + 34 + 2, "grow: three writes");
+    expect(plan.writes[0].length + plan.writes[1].length + plan.writes[2].length, 33 + 1 + 2, "grow: three writes");
     expect(rathonsi_store_done(image, GROWN, &plan), RATHONSI_OK, "grow: done");
     grows(&route, ROOM, RATHONSI_OK, "grow: it has the cell");
     same(&plan, &no_plan, sizeof plan, "grow: nothing is planned then");
@@ -201,12 +198,86 @@ static void grow(void) {
     gates_closed(route.cell);
     grows(&route, ROOM, RATHONSI_DAMAGED, "grow: the cell is damaged");
     begin();
-    image[11]--;
-    grows(&route, ROOM, RATHONSI_NO_STORE, "grow: a store of a cell less");
+    route = route_of(ROUTES + 1);
+    grows(&route, ROOM, RATHONSI_WRONG_CELL, "grow: the cell before it is missing");
+    route = route_of(ROUTES);
+    image[GROWN + 5] = 1;
+    grows(&route, ROOM, RATHONSI_DAMAGED, "grow: what is after it isn't erased");
+    begin();
+    image[SIZE + 34] = 0xa7;
+    image[SIZE + 35] = 3;
+    grows(&route, ROOM, RATHONSI_DAMAGED, "grow: a gate is open there");
+    begin();
+    grows(&route, GROWN - 1, RATHONSI_BAD_LENGTH, "grow: the image ends before the cell does");
     image[0] = 's';
     grows(&route, ROOM, RATHONSI_NO_STORE, "grow: no store");
-    expect(rathonsi_store_size(image, &size), RATHONSI_NO_STORE, "size: no store");
-    expect((long)size, SIZE, "size: nothing is told");
+}
+
+/* A spare cell becomes a route's by one put, wherever it is. */
+static void claims(void) {
+    RathonsiRoute route = route_of(0);
+    begin();
+    memset(image + 32 + 68 * route.cell + 2, 0, 32);
+    memset(image + 66 + 68 * route.cell + 2, 0, 32);
+    expect(rathonsi_route_open(&route, image, SIZE), RATHONSI_WRONG_CELL, "claim: it is nobody's");
+    RathonsiRoute twice = route_of(1);
+    twice.cell = route.cell;
+    grows(&twice, SIZE, RATHONSI_DUPLICATE_ID, "claim: a later cell has the Data ID");
+    grows(&route, SIZE, RATHONSI_OK, "claim: a cell of zero bytes");
+    expect(plan.writes[0].length + plan.writes[1].length + plan.writes[2].length, 1 + 33 + 1, "claim: one put");
+    expect(rathonsi_store_done(image, SIZE, &plan), RATHONSI_OK, "claim: done");
+    grows(&route, SIZE, RATHONSI_OK, "claim: it is the route's");
+    same(&plan, &no_plan, sizeof plan, "claim: nothing is planned then");
+    expect(rathonsi_route_open(&route, image, SIZE), RATHONSI_OK, "claim: the route opens");
+    expect((long)route.counter, 6, "claim: at its bound");
+    route.data_id += 5;
+    grows(&route, SIZE, RATHONSI_WRONG_CELL, "claim: the cell is another's");
+}
+
+static void sizes(size_t length, int32_t status, long told, const char *what) {
+    uint32_t size = 77;
+    expect(rathonsi_store_size(image, length, &size), status, what);
+    expect((long)size, told, what);
+    if (status != RATHONSI_OK) {
+        expect(rathonsi_store_mend(image, length, &plan), status, what);
+        same(&plan, &no_plan, sizeof plan, what);
+    }
+}
+
+static void number(unsigned count) {
+    image[10] = (uint8_t)(count >> 8);
+    image[11] = (uint8_t)count;
+}
+
+/* The size is what the cells say, and the number in the header is mended. */
+static void size(void) {
+    begin();
+    sizes(ROOM, RATHONSI_OK, SIZE, "size");
+    sizes(SIZE, RATHONSI_OK, SIZE, "size: no room after the store");
+    sizes(RATHONSI_STORE_SIZE(0) - 1, RATHONSI_BAD_LENGTH, 77, "size: no fourteen cells");
+    sizes(SIZE - 1, RATHONSI_BAD_LENGTH, 77, "size: the image ends before the store does");
+    plan.writes[1].length = 1;
+    expect(rathonsi_store_mend(image, ROOM, &plan), RATHONSI_BUSY, "mend: a plan");
+    plan = no_plan;
+    expect(rathonsi_store_mend(image, ROOM, &plan), RATHONSI_OK, "mend: the number is right");
+    same(&plan, &no_plan, sizeof plan, "mend: nothing is planned then");
+    number(300);
+    sizes(ROOM, RATHONSI_OK, SIZE, "size: another number");
+    sizes(SIZE, RATHONSI_BAD_LENGTH, 77, "size: another number, and no room after the store");
+    image[SIZE + 3] = 1;
+    sizes(ROOM, RATHONSI_DAMAGED, 77, "size: another number, and what is after the cells isn't erased");
+    begin();
+    gates_closed(routes[1].cell);
+    sizes(ROOM, RATHONSI_DAMAGED, 77, "size: the last cell is damaged");
+    begin();
+    memset(image + 32 + 68 * routes[0].cell, 0xff, 68);
+    sizes(ROOM, RATHONSI_DAMAGED, 77, "size: a cell counts after an erased one");
+    begin();
+    gates_closed(3);
+    sizes(ROOM, RATHONSI_DAMAGED, 77, "size: a slot's cell is damaged");
+    begin();
+    image[20] = 1;
+    sizes(ROOM, RATHONSI_NO_STORE, 77, "size: no store");
 }
 
 /* An old copy of the plan of a growth, once the cell has counted, is stale. So is that of a cell that isn't the last. */
@@ -221,6 +292,8 @@ static void old_growth(void) {
     expect(rathonsi_route_open(&route, image, GROWN), RATHONSI_OK, "old: it opens");
     expect(rathonsi_route_reserve(&route, 7, image, GROWN, &plan), RATHONSI_OK, "old: it counts");
     expect(rathonsi_store_done(image, GROWN, &plan), RATHONSI_OK, "old: its bound is there");
+    expect(rathonsi_route_reserve(&route, 20, image, GROWN, &plan), RATHONSI_OK, "old: it counts on, in the copy that the growth wrote");
+    expect(rathonsi_store_done(image, GROWN, &plan), RATHONSI_OK, "old: that bound is there");
     for (int i = 0; i < 2; i++) {
         uint8_t before[ROOM];
         memcpy(before, image, sizeof before);
@@ -234,22 +307,28 @@ static void old_growth(void) {
     }
 }
 
-/* Each of the 65,536 numbers of cells that a cut may leave is put right by the same call. */
+/* Each of the 65,536 numbers of cells that a cut may leave is put right: by software without the new route, and by the growth. */
 static void torn_counts(void) {
     RathonsiRoute route = route_of(ROUTES);
     uint8_t grown[GROWN];
+    uint32_t size = 0;
     long wrong = 0;
     begin();
     grows(&route, ROOM, RATHONSI_OK, "torn: a cell");
     expect(rathonsi_store_done(image, GROWN, &plan), RATHONSI_OK, "torn: done");
     memcpy(grown, image, sizeof grown);
-    for (unsigned count = 0; count < 65536u; count++) {
-        image[10] = (uint8_t)(count >> 8);
-        image[11] = (uint8_t)count;
-        wrong += rathonsi_store_grow(&route, 6, image, ROOM, &plan) != RATHONSI_OK;
-        wrong += rathonsi_store_done(image, ROOM, &plan) != RATHONSI_OK;
-        wrong += memcmp(image, grown, sizeof grown) != 0;
-    }
+    for (unsigned count = 0; count < 65536u; count++)
+        for (int grows_it = 0; grows_it < 2; grows_it++) {
+            number(count);
+            wrong += rathonsi_store_size(image, ROOM, &size) != RATHONSI_OK || size != GROWN;
+            if (grows_it)
+                wrong += rathonsi_store_grow(&route, 6, image, ROOM, &plan) != RATHONSI_OK;
+            else
+                wrong += rathonsi_store_mend(image, ROOM, &plan) != RATHONSI_OK;
+            wrong += plan.writes[0].length + plan.writes[1].length != 0u;
+            wrong += rathonsi_store_done(image, ROOM, &plan) != RATHONSI_OK;
+            wrong += memcmp(image, grown, sizeof grown) != 0;
+        }
     expect(wrong, 0, "torn: numbers that weren't put right");
 }
 
@@ -268,22 +347,22 @@ static void torn_counts_of_two(void) {
     expect(rathonsi_store_done(image, ROOM, &plan), RATHONSI_OK, "two: done again");
     memcpy(grown, image, sizeof grown);
     for (unsigned count = 0; count < 65536u; count++) {
-        image[10] = (uint8_t)(count >> 8);
-        image[11] = (uint8_t)count;
-        wrong += rathonsi_store_grow(&first, 6, image, ROOM, &plan) != RATHONSI_OK;
-        wrong += memcmp(&plan, &no_plan, sizeof plan) != 0;
-        wrong += rathonsi_store_grow(&second, 6, image, ROOM, &plan) != RATHONSI_OK;
-        wrong += rathonsi_store_done(image, ROOM, &plan) != RATHONSI_OK;
-        wrong += memcmp(image, grown, sizeof grown) != 0;
+        number(count);
+        for (int i = 0; i < 3; i++) {
+            wrong += rathonsi_store_grow(i < 2 ? &first : &second, 6, image, ROOM, &plan) != RATHONSI_OK;
+            wrong += i > 0 && memcmp(&plan, &no_plan, sizeof plan) != 0;
+            wrong += rathonsi_store_done(image, ROOM, &plan) != RATHONSI_OK;
+            wrong += memcmp(image, grown, sizeof grown) != 0;
+        }
     }
     expect(wrong, 0, "two: numbers that weren't put right");
 }
 
-/* A store has the cells of two new routes, and the second one's is damaged, in any bit or whole: the first one's growth plans nothing. */
+/* A store has the cells of two new routes, and the second one's is damaged, in any bit or whole: no growth plans anything. */
 static void damaged_after_it(void) {
     RathonsiRoute first = route_of(ROUTES), second = route_of(ROUTES + 1);
     uint8_t *cell = image + 32 + 68 * second.cell;
-    long wrong = 0;
+    long wrong = 0, damaged = 0, twice = 0;
     begin();
     grows(&first, ROOM, RATHONSI_OK, "damaged: a cell");
     expect(rathonsi_store_done(image, ROOM, &plan), RATHONSI_OK, "damaged: done");
@@ -291,14 +370,18 @@ static void damaged_after_it(void) {
     expect(rathonsi_store_done(image, ROOM, &plan), RATHONSI_OK, "damaged: done again");
     for (unsigned bit = 0; bit < 68 * 8; bit++) {
         cell[bit / 8] ^= (uint8_t)(1u << bit % 8);
-        wrong += rathonsi_store_grow(&first, 6, image, ROOM, &plan) != RATHONSI_OK;
+        int32_t status = rathonsi_store_grow(&first, 6, image, ROOM, &plan);
+        damaged += status == RATHONSI_DAMAGED;
+        twice += status == RATHONSI_DUPLICATE_ID;
+        wrong += status != RATHONSI_OK && status != RATHONSI_DAMAGED && status != RATHONSI_DUPLICATE_ID;
         wrong += memcmp(&plan, &no_plan, sizeof plan) != 0;
         cell[bit / 8] ^= (uint8_t)(1u << bit % 8);
     }
     expect(wrong, 0, "damaged: a bit");
+    expect(damaged, 8 + 6, "damaged: the bits of the gate, and of the mark but the lowest two");
+    expect(twice, 1, "damaged: the bit that makes its Data ID the first one's");
     gates_closed(second.cell);
-    grows(&first, ROOM, RATHONSI_OK, "damaged: whole");
-    same(&plan, &no_plan, sizeof plan, "damaged: nothing is planned");
+    grows(&first, ROOM, RATHONSI_DAMAGED, "damaged: whole");
     grows(&second, ROOM, RATHONSI_DAMAGED, "damaged: it is told");
 }
 
@@ -306,19 +389,168 @@ static void damaged_after_it(void) {
 
 static void answers(int32_t status, const char *what) {
     uint8_t answer[24] = {0}, none[24] = {0};
-    expect(rathonsi_sync_answer(&routes[0], image, SIZE, nonce, answer), status, what);
+    expect(rathonsi_sync_answer(&routes[0], image, SIZE, &question, answer), status, what);
     if (status != RATHONSI_OK)
         same(answer, none, sizeof answer, what);
 }
 
 static void takes(const uint8_t answer[24], int32_t status, const char *what) {
     RathonsiRoute before = routes[1];
-    RathonsiVerdict verdict = rathonsi_sync_take(&routes[1], image, SIZE, nonce, answer);
+    RathonsiVerdict verdict = rathonsi_sync_take(&routes[1], image, SIZE, &question, answer);
     expect(verdict.status, status, what);
     expect(verdict.freshness != 0, status == RATHONSI_OK || status == RATHONSI_RESERVE, what);
     expect(verdict.payload_length, 0, what);
     if (status != RATHONSI_OK)
         same(&before, &routes[1], sizeof before, what);
+}
+
+/* The unit answers what it asks itself: under its own name, or by a route of the same direction. */
+static void own_answer(void) {
+    uint8_t answer[24];
+    const RathonsiQuestion asked = question;
+    question.asker = asked.answerer;
+    question.answerer = asked.asker; /* the name of this unit, which asks below */
+    expect(rathonsi_sync_answer(&routes[0], image, SIZE, &question, answer), RATHONSI_OK, "take: an answer of its own");
+    question = asked;
+    takes(answer, RATHONSI_VERIFICATION_FAILURE, "take: an answer of its own");
+    RathonsiRoute receiver = routes[1];
+    open_by_hand(&receiver, 1000);
+    expect(rathonsi_sync_answer(&receiver, image, SIZE, &question, answer), RATHONSI_OK, "take: a receiver's answer");
+    takes(answer, RATHONSI_VERIFICATION_FAILURE, "take: a receiver's answer to a receiver");
+    RathonsiRoute behind = routes[0];
+    open_by_hand(&behind, 4);
+    RathonsiVerdict verdict = rathonsi_sync_take(&behind, image, SIZE, &question, answer);
+    expect(verdict.status, RATHONSI_OK, "take: a receiver's answer to a sender");
+    expect((long)behind.counter, 1000, "take: the sender's counter");
+}
+
+/* A receiver that is fresh goes down to what the answer tells, once; one whose counter a call moved doesn't. */
+static void rejoins(const uint8_t *answer) {
+    RathonsiAnswerInput input;
+    RathonsiVerdict verdict;
+    uint8_t mac[16];
+    RathonsiRoute route = routes[1], before;
+    route.opened = 0;
+    expect(rathonsi_route_make(&route, 100, image, SIZE), RATHONSI_OK, "rejoin: a bound far above");
+    expect(rathonsi_route_open(&route, image, SIZE), RATHONSI_OK, "rejoin: the route opens");
+    before = route;
+    expect(rathonsi_sync_take(&route, image, SIZE, &question, answer).status, RATHONSI_FRESHNESS_FAILURE, "rejoin: a take doesn't go down");
+    same(&before, &route, sizeof route, "rejoin: nothing is written");
+    expect(rathonsi_sync_take_input(&route, image, SIZE, &question, answer, &input), RATHONSI_OK, "rejoin: its input");
+    expect(rathonsi_cmac(key, 16, input.bytes, sizeof input.bytes, mac), RATHONSI_OK, "rejoin: the MAC of the input");
+    verdict = rathonsi_sync_rejoin_mac(&before, image, SIZE, &question, answer, &input, mac);
+    expect(verdict.status, RATHONSI_OK, "rejoin_mac");
+    verdict = rathonsi_sync_rejoin(&route, image, SIZE, &question, answer);
+    expect(verdict.status, RATHONSI_OK, "rejoin");
+    expect((long)route.counter, 4, "rejoin: the counter that was told");
+    same(&before, &route, sizeof route, "rejoin: both leave one route");
+    expect(rathonsi_sync_rejoin(&route, image, SIZE, &question, answer).status, RATHONSI_FRESHNESS_FAILURE, "rejoin: once");
+    expect(rathonsi_route_open(&route, image, SIZE), RATHONSI_OK, "rejoin: opened again");
+    expect((long)route.counter, 100, "rejoin: at its bound");
+    expect(rathonsi_sync_rejoin(&route, image, SIZE, &question, answer).status, RATHONSI_FRESHNESS_FAILURE, "rejoin: not in this life again");
+    expect(rathonsi_sync_rejoin(&routes[0], image, SIZE, &question, answer).status, RATHONSI_BAD_VALUE, "rejoin: a route that sends");
+    expect(rathonsi_route_make(&route, 4, image, SIZE), RATHONSI_OK, "rejoin: the bound of before");
+}
+
+/* The same answer by two steps, and what the steps refuse. */
+static void answer_in_two_steps(const uint8_t *answer) {
+    RathonsiAnswerInput input, wrong;
+    uint8_t mac[16], two[24], none[24] = {0};
+    RathonsiVerdict verdict;
+    RathonsiRoute ahead = routes[1], before;
+    expect(rathonsi_sync_answer_input(&routes[0], image, SIZE, &question, &input), RATHONSI_OK, "answer_input");
+    expect(input.counter == routes[0].counter, 1, "answer_input: its counter");
+    expect(rathonsi_cmac(key, 16, input.bytes, sizeof input.bytes, mac), RATHONSI_OK, "the MAC of the input");
+    expect(rathonsi_sync_answer_mac(&input, mac, two), RATHONSI_OK, "answer_mac");
+    same(two, answer, sizeof two, "two steps make the answer of one");
+    wrong = input;
+    wrong.counter++;
+    memset(two, 0, sizeof two);
+    expect(rathonsi_sync_answer_mac(&wrong, mac, two), RATHONSI_BAD_VALUE, "answer_mac: another counter");
+    same(two, none, sizeof two, "answer_mac: nothing is written");
+    question.asker = 8;
+    expect(rathonsi_sync_answer_input(&routes[0], image, SIZE, &question, &input), RATHONSI_BAD_VALUE, "answer_input: one name");
+    expect(rathonsi_sync_take_input(&ahead, image, SIZE, &question, answer, &input), RATHONSI_BAD_VALUE, "take_input: one name");
+    question.asker = 7;
+    open_by_hand(&ahead, 3);
+    expect(rathonsi_sync_take_input(&ahead, image, SIZE, &question, answer, &wrong), RATHONSI_OK, "take_input");
+    same(&wrong, &input, sizeof input, "both sides have one input");
+    before = ahead;
+    wrong.bytes[60] ^= 1;
+    verdict = rathonsi_sync_take_mac(&ahead, image, SIZE, &question, answer, &wrong, mac);
+    expect(verdict.status, RATHONSI_BAD_VALUE, "take_mac: another input");
+    mac[15] ^= 1;
+    verdict = rathonsi_sync_take_mac(&ahead, image, SIZE, &question, answer, &input, mac);
+    expect(verdict.status, RATHONSI_VERIFICATION_FAILURE, "take_mac: another MAC");
+    mac[15] ^= 1;
+    same(&before, &ahead, sizeof before, "take_mac: nothing is written");
+    verdict = rathonsi_sync_take_mac(&ahead, image, SIZE, &question, answer, &input, mac);
+    expect(verdict.status, RATHONSI_OK, "take_mac");
+    expect((long)ahead.counter, 4, "take_mac: its counter");
+    verdict = rathonsi_sync_take_mac(&ahead, image, SIZE, &question, answer, &input, mac);
+    expect(verdict.status, RATHONSI_FRESHNESS_FAILURE, "take_mac: the same again");
+    rejoins(answer);
+    ahead.opened = 0;
+    expect(rathonsi_sync_answer_input(&ahead, image, SIZE, &question, &input), RATHONSI_BAD_VALUE, "answer_input: not open");
+    expect(rathonsi_sync_take_input(&ahead, image, SIZE, &question, answer, &input), RATHONSI_BAD_VALUE, "take_input: not open");
+    verdict = rathonsi_sync_take_mac(&ahead, image, SIZE, &question, answer, &input, mac);
+    expect(verdict.status, RATHONSI_BAD_VALUE, "take_mac: not open");
+}
+
+static void makes(int32_t status, const char *what) {
+    uint8_t nonce[16] = {0}, none[16] = {0};
+    const RathonsiRoute before = routes[0];
+    expect(rathonsi_sync_nonce(&routes[0], image, SIZE, 0x01020304, nonce), status, what);
+    if (status != RATHONSI_OK) {
+        same(nonce, none, sizeof nonce, what);
+        same(&before, &routes[0], sizeof before, what);
+        return;
+    }
+    static const char label[] = "RATHONSI NONCE OF THIS UNIT: A COUNT THAT IS DURABLE BEFORE IT IS.";
+    uint8_t input[80] = {0}, mac[16];
+    memcpy(input, label, 66);
+    input[66] = (uint8_t)(routes[0].data_id >> 8);
+    input[67] = (uint8_t)routes[0].data_id;
+    for (unsigned i = 0; i < 4; i++)
+        input[68 + i] = (uint8_t)(i + 1);
+    input[79] = (uint8_t)routes[0].counter; /* a small one */
+    expect(rathonsi_cmac(key, 16, input, sizeof input, mac), RATHONSI_OK, what);
+    same(nonce, mac, sizeof mac, what);
+    expect((long)(routes[0].counter - before.counter), 1, what);
+}
+
+static void make_nonces(void) {
+    begin();
+    makes(RATHONSI_BAD_VALUE, "nonce: a route with PDUs");
+    routes[0].freshness_only = 1;
+    expect(rathonsi_route_open(&routes[0], image, SIZE), RATHONSI_OK, "nonce: its bound");
+    makes(RATHONSI_RESERVE, "nonce: nothing is reserved");
+    expect(rathonsi_route_reserve_next(&routes[0], image, SIZE, &plan), RATHONSI_OK, "nonce: a reserve");
+    expect(rathonsi_store_done(image, SIZE, &plan), RATHONSI_OK, "nonce: it is done");
+    makes(RATHONSI_OK, "nonce: one");
+    makes(RATHONSI_OK, "nonce: and another");
+    open_by_hand(&routes[0], UINT64_MAX);
+    makes(RATHONSI_EXHAUSTED, "nonce: the last counter");
+    routes[0].opened = 0;
+    makes(RATHONSI_BAD_VALUE, "nonce: not open");
+    routes[0].data_id++;
+    open_by_hand(&routes[0], 3);
+    makes(RATHONSI_WRONG_CELL, "nonce: another Data ID");
+    begin();
+    routes[0].freshness_only = 1;
+    gates_closed(SLOT);
+    makes(RATHONSI_DAMAGED, "nonce: a damaged slot");
+    begin();
+    routes[0].freshness_only = 1;
+    routes[0].slot = 13;
+    makes(RATHONSI_KEY_EMPTY, "nonce: an empty slot");
+    routes[0].slot = 5;
+    makes(RATHONSI_KEY_INVALID, "nonce: a key for ciphers");
+    routes[0].slot = 6;
+    makes(RATHONSI_KEY_NOT_AVAILABLE, "nonce: a key behind the boot");
+    routes[1].freshness_only = 1;
+    routes[0] = routes[1];
+    makes(RATHONSI_BAD_VALUE, "nonce: a route that receives");
 }
 
 static void answer_nonce(void) {
@@ -346,22 +578,38 @@ static void answer_nonce(void) {
     answers(RATHONSI_KEY_NOT_AVAILABLE, "answer: a key behind the boot");
 
     begin();
+    question.answerer = question.asker;
+    answers(RATHONSI_BAD_VALUE, "answer: asker and answerer are one");
+    takes(answer, RATHONSI_BAD_VALUE, "take: asker and answerer are one");
+    question.answerer = 8;
+    begin();
     routes[0].data_id = routes[1].data_id; /* a sender of the same Data ID, whose cell is made for it */
     expect(rathonsi_route_make(&routes[0], 1000, image, SIZE), RATHONSI_OK, "take: a sender");
     open_by_hand(&routes[0], 4);
-    expect(rathonsi_sync_answer(&routes[0], image, SIZE, nonce, answer), RATHONSI_OK, "take: its answer");
+    expect(rathonsi_sync_answer(&routes[0], image, SIZE, &question, answer), RATHONSI_OK, "take: its answer");
     takes(answer, RATHONSI_OK, "take: within the bound");
     takes(answer, RATHONSI_FRESHNESS_FAILURE, "take: the same again");
     routes[1].opened = 0;
     takes(answer, RATHONSI_BAD_VALUE, "take: not open");
-    routes[1].opened = 1;
+    routes[1].opened = 2;
     answer[8] ^= 1;
     takes(answer, RATHONSI_VERIFICATION_FAILURE, "take: another MAC");
     answer[8] ^= 1;
+    question.answerer = 9;
+    takes(answer, RATHONSI_VERIFICATION_FAILURE, "take: the answer of another unit");
+    question.answerer = 8;
+    question.asker = 9;
+    takes(answer, RATHONSI_VERIFICATION_FAILURE, "take: the answer to another unit");
+    question.asker = 7;
+    question.nonce[15] ^= 1;
+    takes(answer, RATHONSI_VERIFICATION_FAILURE, "take: the answer to another nonce");
+    question.nonce[15] ^= 1;
+    own_answer();
+    answer_in_two_steps(answer);
     answer[0] = 1;
     takes(answer, RATHONSI_VERIFICATION_FAILURE, "take: another counter");
     open_by_hand(&routes[0], 1000);
-    expect(rathonsi_sync_answer(&routes[0], image, SIZE, nonce, answer), RATHONSI_OK, "take: an answer far ahead");
+    expect(rathonsi_sync_answer(&routes[0], image, SIZE, &question, answer), RATHONSI_OK, "take: an answer far ahead");
     takes(answer, RATHONSI_RESERVE, "take: above the bound");
     expect(rathonsi_route_reserve(&routes[1], 1000, image, SIZE, &plan), RATHONSI_BAD_VALUE, "take: too far for a reserve");
     expect(rathonsi_route_advance(&routes[1], 1000, image, SIZE, &plan), RATHONSI_OK, "take: an advance");
@@ -395,7 +643,7 @@ static void faults(void) {
             if (field == 5) route.direction = (uint8_t)(low ? 0 : 3);
             if (field == 6) route.booted = (uint8_t)(low ? 2 : 255);
             if (field == 7) route.freshness_only = (uint8_t)(low ? 2 : 255);
-            if (field == 8) route.opened = (uint8_t)(low ? 0 : 2);
+            if (field == 8) route.opened = (uint8_t)(low ? 0 : 3);
             expect((long)rathonsi_route_fault(&route), (long)field, "fault: the field");
             if (field < 8) route.opened = 0;
             expect((long)rathonsi_route_fault(&route), field == 0 ? 8 : (long)field, "fault: before the opening");
@@ -544,11 +792,14 @@ int main(void) {
     open_all();
     look();
     grow();
+    claims();
+    size();
     old_growth();
     torn_counts();
     torn_counts_of_two();
     damaged_after_it();
     answer_nonce();
+    make_nonces();
     faults();
     two_steps();
     pieces();

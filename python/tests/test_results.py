@@ -87,7 +87,8 @@ def told(path: Path, map_file: Path, **more: Any) -> tuple[str, int, LogResults]
             if verdict.refused is not None:
                 names = {"VerificationFailure": "VERIFICATIONFAILURE", "FreshnessFailure": "FRESHNESSFAILURE"}
                 kind = type(verdict.refused).__name__
-                objects.append({"frame": verdict.number, "name": verdict.line.title, "verdict": names.get(kind, kind)})
+                head = {"kind": "frame", "frame": verdict.number, "name": verdict.line.title}
+                objects.append(head | {"verdict": names.get(kind, kind)})
     except NothingJudged:
         pass
     results = verdicts.results

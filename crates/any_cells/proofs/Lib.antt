@@ -1,4 +1,5 @@
 pub mod MigratingLaws
 pub mod LookingLaws
+pub mod CountingLaws
 pub mod OpeningLaws
 pub mod CallerLemmas

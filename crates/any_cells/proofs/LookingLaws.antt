@@ -5,17 +5,13 @@ use Rattle.std.proofs.lemmas.Bool.{cases_Bool}
 use Rattle.std.proofs.lemmas.Slice.Eq.{bytes_eq-Decides}
 use Rattle.std.specs.Str.{bytes_eq}
 use Rattle.std.proofs.lemmas.List.{length-take, length-drop, length-replicate}
-use Rattle.cut_disk.specs.Calls.{Rose}
-use Rattle.cut_disk.specs.State.{DiskState}
-use Rattle.cut_disk.proofs.CallerLemmas.{runs_none, runs_more, runs_join}
 use Rattle.cell_store.specs.declared.kinds.Kind.{Kind}
 use Rattle.cell_store.specs.declared.kinds.Version.{Version}
 use Rattle.cell_store.specs.declared.kinds.Version.TheVariants.{One, Two}
 use Rattle.cell_store.specs.declared.kinds.Probe.{Probe}
 use Rattle.cell_store.specs.declared.kinds.Probe.TheVariants as probe
 use Rattle.cell_store.specs.Layout.{layout, header, part, base, from_base}
-use Rattle.cell_store.specs.Reading.{ReadOnly, ReadFailed}
-use Rattle.cell_store.proofs.CallerLemmas.{stays_none, stays_join, length-header, header-number, header-kind, header-not_blank}
+use Rattle.cell_store.proofs.CallerLemmas.{length-header, header-number, header-kind, header-not_blank}
 use Rattle.cell_store.specs.Store.{FewCells, Probes, HasHeader}
 use Rattle.any_cells.specs.declared.looking.Found.{Found}
 use Rattle.any_cells.specs.declared.looking.Found.TheVariants as found
@@ -64,32 +60,6 @@ short-probe version x short =
       λ blank. absurd (let no : ⊥ = omega (arith, less, ap (λ (l : List ℕ). length l) blank, length-replicate {A = ℕ} 32 0) in no),
       λ kind n few head. absurd (let no : ⊥ = omega (arith, less, ap (λ (l : List ℕ). length l) head, length-header (layout kind version) n) in no),
     )
-
--- ---- reads, one after another
-
-pub read-none : (s : DiskState) → ReadOnly 1 s s
-read-none s = record { runs = runs_more 1 (omega arith) (runs_none s); told = refl; faults = refl; stops = λ none. none; stays = stays_none s }
-
-pub read-both : (a b c : DiskState) → ReadOnly 1 a b → ReadOnly 1 b c → ReadOnly 2 a c
-read-both a b c one two = record {
-  runs = runs_join one.runs two.runs;
-  told = two.told ∙ one.told;
-  faults = two.faults ∙ one.faults;
-  stops = λ none. two.stops (one.stops none);
-  stays = stays_join one.runs one.told one.stays two.runs two.stays;
-}
-
-pub failed-first : (a b : DiskState) → ReadFailed 1 a b → ReadFailed 2 a b
-failed-first a b one = record { runs = runs_more 2 (omega arith) one.runs; told = one.told; rose = one.rose; stops = one.stops; stays = one.stays }
-
-pub failed-second : (a b c : DiskState) → ReadOnly 1 a b → ReadFailed 1 b c → ReadFailed 2 a c
-failed-second a b c one two = record {
-  runs = runs_join one.runs two.runs;
-  told = two.told ∙ one.told;
-  rose = subst (λ n. Rose n c.faults) one.faults two.rose;
-  stops = λ none. two.stops (one.stops none);
-  stays = stays_join one.runs one.told one.stays two.runs two.stays;
-}
 
 -- ---- one thing is found
 

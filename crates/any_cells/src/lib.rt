@@ -4,12 +4,13 @@
 //! image at each exit stands for the same list in the version that counts there. Only room, memory or the disk refuses
 //! the move. Then no bytes but those of the store of version 2 change, and after Ok every image counts as version 2.
 //! Other refusals are exact by told bytes. `look` says what a disk has for a store: blank, standing, older, or else;
-//! exactly, in at most two reads. `open_store` makes one on a blank disk and attaches one that stands; a refusal leaves
-//! a disk that isn't blank as it was. `store_size` is where a store ends, `store_fault_text` its fault's text.
-//! `put_first` can't fail.
+//! exactly, in at most two reads. `find_store` says which store counts there, of any kind, version and number of cells.
+//! `open_store` makes one on a blank disk and attaches one that stands; a refusal leaves a disk that isn't blank as it
+//! was. `store_size` is where a store ends, `store_fault_text` its fault's text. `put_first` can't fail.
 #![tactic(auto)]
 
 mod faults;
+mod finding;
 mod fronts;
 pub mod laws;
 mod looking;
@@ -29,6 +30,7 @@ use cell_store::{
 };
 use cut_disk::{CutDisk, Disk, Torn};
 pub use faults::store_fault_text;
+pub use finding::{CountingStore, find_store};
 pub use fronts::put_first;
 pub use looking::{Found, look};
 pub use migrating::migrate;

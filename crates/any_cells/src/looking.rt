@@ -7,7 +7,7 @@ ghost use Rattle.cell_store.specs.declared.kinds.Version.TheVariants.{One, Two};
 ghost use Rattle.cell_store.specs.declared.kinds.Probe.TheVariants.{Blank, Store};
 ghost use Rattle.cell_store.specs.Layout.{part, from_base};
 ghost use Rattle.cell_store.specs.Reading.{ReadOnly, ReadFailed};
-ghost use Rattle.cell_store.specs.Store.{FewCells, Probes, store_size};
+ghost use Rattle.cell_store.specs.Store.{FewCells, FindsFew, Probes, store_size};
 ghost use Rattle.any_cells.specs.declared.looking.Found.{Found};
 ghost use Rattle.any_cells.specs.Either.{layout};
 ghost use Rattle.any_cells.specs.Looking.{IsFound};
@@ -52,7 +52,8 @@ pub fn look<D: Disk>(
 }
 
 /// What the 32 bytes at the base of this version are, if the disk has them; else no header.
-fn header_at<D: Disk>(disk: &mut D, version: Version) -> Result<Probe, DiskFailed>
+pub(crate) fn header_at<D: Disk>(disk: &mut D, version: Version) -> Result<Probe, DiskFailed>
+    ensures few { IfOk result FindsFew }
     ensures found { IfOk result (λ probe. (t : Told) → (D.state disk.old).told ≡ Some t
         → Probes version (part 0 32 (from_base version t.bytes)) probe) }
     ensures as_before { OnOk result (ReadOnly 1 (D.state disk.old) (D.state disk.new)) }

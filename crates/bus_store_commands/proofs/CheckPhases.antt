@@ -17,7 +17,7 @@ use Rattle.slot_commands.specs.Checked.{Checked}
 use Rattle.slot_commands.specs.Stores.{NoStoreIn}
 use Rattle.bus_store_commands.specs.NodeBuses.{ReadsNodeBus, LacksNodeBus, other_nodes}
 use Rattle.bus_store_commands.specs.BusWords.{asks_over_bus}
-use Rattle.key_commands.specs.declared.finding.CountingStore.{CountingStore}
+use Rattle.any_cells.specs.declared.finding.CountingStore.{CountingStore}
 use Rattle.bus_store_commands.specs.CheckRows.{BusCheckInputs, AsksBusCheck, wanted_store, ChecksNodeStore, DoesBusCheck, found_nothing, found, not_checked, bus_check_usage}
 use Rattle.bus_store_commands.specs.CheckRows.{ComesOfBusCheck, no_form, no_node, done, AnswersBusCheck}
 use Rattle.bus_store_commands.specs.CheckRows as rows

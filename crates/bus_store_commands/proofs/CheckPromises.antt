@@ -7,7 +7,7 @@ use Rattle.program_edge.specs.Inputs.{IsUnread, Offers, SourceFailed, GivesTooMu
 use Rattle.program_edge.proofs.CallerLemmas.{Offers-whole, EndsInRow-at, EndsInRow-front, EndsInRow-rose, EndsInRow-only, EndsInRow-may, EndsInRow-done}
 use Rattle.program_edge.specs.Endings.{Ending, PrintsWhole, EndsInRow, MayEndIn}
 use Rattle.cell_store.specs.Layout.{layout}
-use Rattle.key_commands.specs.declared.finding.CountingStore.{CountingStore}
+use Rattle.any_cells.specs.declared.finding.CountingStore.{CountingStore}
 use Rattle.any_cells.specs.declared.looking.Found.TheVariants.{Standing}
 use Rattle.any_cells.specs.Looking.{IsFound}
 use Rattle.key_commands.specs.Opening.{layout_of}

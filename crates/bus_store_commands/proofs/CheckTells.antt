@@ -15,8 +15,8 @@ use Rattle.cell_store.specs.Layout.{layout}
 use Rattle.cell_store.proofs.CallerLemmas.{header-not_blank}
 use Rattle.any_cells.specs.declared.looking.Found.TheVariants.{Standing}
 use Rattle.any_cells.specs.Looking.{IsFound}
-use Rattle.key_commands.specs.declared.finding.CountingStore.{CountingStore}
-use Rattle.key_commands.specs.Counting.{StoreThatCounts, counting_store, moved_up, not_moved, only_second, no_store}
+use Rattle.any_cells.specs.declared.finding.CountingStore.{CountingStore}
+use Rattle.any_cells.specs.Counting.{StoreThatCounts, counting_store, moved_up, not_moved, only_second, no_store}
 use Rattle.key_commands.specs.Opening.{layout_of}
 use Rattle.slot_commands.specs.Stores.{HasStoreToCheck}
 use Rattle.slot_commands.proofs.CallerLemmas.{checked_once, check_clash, no_store_row, same_found, has_store, good_layout, good_number}

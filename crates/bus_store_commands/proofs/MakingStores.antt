@@ -35,10 +35,6 @@ use Rattle.bus_store_commands.specs.declared.making.MakeFault.{MakeFault}
 use Rattle.bus_store_commands.specs.declared.making.MakeFault.TheVariants as fault
 use Rattle.bus_store_commands.specs.NodeStores.{made, stood, StoreMade, StoreUnmade, FailedToMake, LeftAsItWas, IsNotTaken, fault_of_cells, AllZeros, IsUnused, ZerosUnread, NamesOther}
 
--- a disk with room for a store has room for a header
-pub head_room : (kind : Kind) (version : Version) (n size : ℕ) → store_size (layout kind version) n ≤ size → 32 ≤ size
-head_room kind version n size room = grind arith
-
 -- ---- what a look finds
 
 -- a look only reads
@@ -187,10 +183,6 @@ module _ (kind : Kind) (version : Version) (config : Config) where
     pub other_named : (after : DiskState) (f : MakeFault) → ((t : Told) → before.told ≡ Some t → IsNotTaken kind version config t.bytes)
         → NamesOther mid after f → StoreUnmade kind version config before after f
     other_named after f not_taken h = grind (arith, left_after, failed_after)
-
-    pub not_taken_found : (what : Found) → FindsTold before what → ¬ (what ≡ Blank) → ¬ (what ≡ Standing)
-        → (t : Told) → before.told ≡ Some t → IsNotTaken kind version config t.bytes
-    not_taken_found what finds not_blank not_standing t tells = refused_found what t.bytes (finds t tells) not_blank not_standing
 
   pub zeros_unread : (before mid : DiskState) (f : StoreFault) → ZerosUnread before mid f → StoreUnmade kind version config before mid (fault.Store f)
   zeros_unread before mid f h = grind arith

@@ -7,8 +7,8 @@ use Rattle.program_edge.specs.Rows.{Row, row_of, input_row}
 use Rattle.program_edge.specs.Inputs.{Reading, IsUnread, ReadsWhole, Lacks}
 use Rattle.bus_config.specs.Buses.{NamedBus}
 use Rattle.bus_programs.specs.BusRoutes.{routes_of}
-use Rattle.key_commands.specs.declared.finding.CountingStore.{CountingStore}
-use Rattle.key_commands.specs.Counting.{counting_store}
+use Rattle.any_cells.specs.declared.finding.CountingStore.{CountingStore}
+use Rattle.any_cells.specs.Counting.{counting_store}
 use Rattle.slot_commands.specs.Cells.{slot_count}
 use Rattle.slot_commands.specs.Stores.{NoStoreIn, ChecksStore}
 use Rattle.bus_store_commands.specs.NodeBuses.{ReadsNodeBus, LacksNodeBus}

@@ -9,7 +9,7 @@ use Rattle.bus_config.specs.BusFile.{bus_of}
 use Rattle.bus_config.specs.Buses.{NamedBus}
 use Rattle.bus_programs.specs.BusFiles.{OffersBus}
 use Rattle.cell_store.specs.Layout.{layout}
-use Rattle.key_commands.specs.declared.finding.CountingStore.{CountingStore}
+use Rattle.any_cells.specs.declared.finding.CountingStore.{CountingStore}
 use Rattle.any_cells.specs.declared.looking.Found.TheVariants.{Standing}
 use Rattle.any_cells.specs.Looking.{IsFound}
 use Rattle.key_commands.specs.Opening.{layout_of}

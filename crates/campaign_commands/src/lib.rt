@@ -27,7 +27,7 @@ mod writing;
 pub use kinds::CommandKind;
 pub use laws::campaigns_are_runs;
 pub use opening::{NoLedger, NoLedgerCause, open_ledger};
-pub use reader::read_campaign;
+pub use reader::{CommandReader, read_campaign};
 pub use run::run_campaign;
 pub use start::campaign_words;
 pub use station::Station;

@@ -16,7 +16,7 @@ use Rattle.bus_machine.specs.declared.lines.Line.{Line}
 use Rattle.bus_config.specs.Buses.{NamedBus}
 use Rattle.bus_world.specs.Worlds.{BusState, BusTurn}
 use Rattle.bus_world.specs.WorldTurns.{TurnsLeaveDisks, StartsSetUp}
-use Rattle.chart_svg.specs.ChartTexts.{chart_text}
+use Rattle.chart_commands.specs.ChartTexts.{chart_text}
 use Rattle.bus_programs.specs.Inputs.{BusInputs}
 use Rattle.chart_commands.specs.Inputs.{SetsChart}
 use Rattle.bus_world.specs.StartAnswers.{DiskStates}

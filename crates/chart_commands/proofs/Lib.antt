@@ -4,3 +4,14 @@ pub mod Promised
 pub mod Preparing
 pub mod Drawing
 pub mod OfWords
+pub mod Arrows
+pub mod Turning
+pub mod Heights
+pub mod ChartDrawing
+pub mod Pieces
+pub mod Contents
+pub mod Joined
+pub mod Elements
+pub mod Told
+pub mod RowElements
+pub mod ChartElements

@@ -27,7 +27,7 @@ use Rattle.bus_world.specs.StartAnswers as answer
 use Rattle.bus_world.proofs.CallerLemmas.{Comes-leaves, start_status, start_memory, start_without_room, start_complete, none_counted, failure_told}
 use Rattle.bus_programs.specs.BusFiles.{IsConfigFault}
 use Rattle.bus_programs.proofs.CallerLemmas.{told_fault, told_too_much}
-use Rattle.chart_svg.specs.ChartTexts.{chart_text}
+use Rattle.chart_commands.specs.ChartTexts.{chart_text}
 use Rattle.bus_programs.specs.Inputs.{BusInputs}
 use Rattle.chart_commands.specs.Inputs.{AsksChart, chart_usage, NoChartConfig, NoChartScript, HasBadEvent, OverChart}
 use Rattle.chart_commands.specs.Rows.{ChartInputRow, config_refused, DoneChart, ChartRow, without_disks, not_started, all_done, done_without_memory, EndsChart}

@@ -4,3 +4,13 @@ pub mod Rows
 pub mod Promises
 pub mod Steps
 pub mod Named
+pub mod Marks
+pub mod Places
+pub mod Lifelines
+pub mod MarkLaws
+pub mod Counts
+pub mod Labels
+pub mod ChartTexts
+pub mod LifeSteps
+pub mod Grammar
+pub mod GrammarLaws

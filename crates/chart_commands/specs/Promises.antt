@@ -20,7 +20,7 @@ use Rattle.bus_world.specs.Starts.{HasRoom, FindsRoom}
 use Rattle.bus_world.specs.StartRows.{start_row, StoreCause, LeavesEach}
 use Rattle.bus_world.specs.StartAnswers.{DiskStates, BusHasDisks, CountsDiskFault, failed_row}
 use Rattle.bus_programs.specs.BusFiles.{IsConfigFault}
-use Rattle.chart_svg.specs.ChartTexts.{chart_text}
+use Rattle.chart_commands.specs.ChartTexts.{chart_text}
 use Rattle.bus_programs.specs.Inputs.{BusInputs}
 use Rattle.chart_commands.specs.Inputs.{AsksChart, chart_usage, NoChartConfig, NoChartScript, HasBadEvent}
 use Rattle.chart_commands.specs.Inputs.{OverChart, OffersChart}

@@ -16,7 +16,7 @@ use Rattle.bus_world.specs.WorldTurns.{seen}
 use Rattle.bus_world.specs.declared.start.Start.TheVariants.{Format}
 use Rattle.bus_world.specs.StartAnswers.{DiskStates, ComesOfStart}
 use Rattle.bus_programs.specs.BusFiles.{IsConfigFault}
-use Rattle.chart_svg.specs.ChartTexts.{chart_text}
+use Rattle.chart_commands.specs.ChartTexts.{chart_text}
 use Rattle.bus_programs.specs.Inputs.{BusInputs}
 use Rattle.chart_commands.specs.Inputs.{AsksChart, chart_usage, NoChartConfig, NoChartScript, HasBadEvent}
 use Rattle.chart_commands.specs.Inputs.{OverChart}

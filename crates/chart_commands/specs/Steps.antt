@@ -11,7 +11,7 @@ use Rattle.bus_config.specs.Buses.{NamedBus, IsNamedBus}
 use Rattle.bus_world.specs.declared.start.Start.TheVariants.{Format}
 use Rattle.bus_world.specs.StartAnswers.{DiskStates, ComesUnstarted}
 use Rattle.bus_programs.specs.Scripts.{AreEvents}
-use Rattle.chart_svg.specs.ChartTexts.{chart_text}
+use Rattle.chart_commands.specs.ChartTexts.{chart_text}
 use Rattle.chart_commands.specs.declared.job.ChartJob.{ChartJob}
 use Rattle.bus_programs.specs.Inputs.{BusInputs}
 use Rattle.chart_commands.specs.Inputs.{SetsChart}

@@ -5,13 +5,13 @@ ghost use Rattle.bus_config.specs.Buses.{IsNamedBus};
 ghost use Rattle.bus_programs.specs.Scripts.{AreEvents};
 ghost use Rattle.chart_commands.specs.Steps.{AnswersChart, ToldOfLines, AreOfEvents, kept_lines};
 
+use crate::charts::chart_of;
 use crate::keeping::lines_of_run;
 use crate::laws::charts_are_runs;
 use bus_config::BusConfig;
 use bus_machine::{Event, Line};
 use bus_port::Sink;
 use bus_world::{Start, World, start_refusal, starts_are_set_up, turns_leave_disks};
-use chart_svg::chart_of;
 use cut_disk::CutDisk;
 use program_edge::{DONE, Refusal, tell, tell_refusal};
 use std::alloc::{AllocError, Global};

@@ -19,4 +19,6 @@ mod routes;
 #[cfg(test)]
 mod slots;
 #[cfg(test)]
+mod transport;
+#[cfg(test)]
 mod updates;

@@ -14,10 +14,10 @@ use Rattle.bus_config.specs.Buses.{NamedBus}
 use Rattle.bus_programs.specs.BusFiles.{ReadsBus, OffersBus}
 use Rattle.bus_programs.specs.Scripts.{ReadsLinesAs}
 use Rattle.bus_programs.proofs.CallerLemmas.{same_bus, bus_or_fault, offered_no_fault, memory_status, ReadsCalmly, calm_unread, calm_whole, RowTells, told_first, told_second, told_fault, told_too_much}
-use Rattle.bus_world.specs.declared.start.Start.TheVariants.{Attach}
 use Rattle.bus_world.specs.Starts.{HasRoom}
-use Rattle.bus_world.proofs.CallerLemmas.{no_room_fault, start_without_room, start_complete}
-use Rattle.bus_world.specs.StartAnswers.{DiskStates, ComesOfStart, disks_refused, store_refused, start_without_memory, BusHasDisks}
+use Rattle.bus_world.specs.StartAnswers.{DiskStates}
+use Rattle.kept_starts.specs.KeepRows.{ComesKept, BusKeepsDisk}
+use Rattle.kept_starts.proofs.CallerLemmas.{kept_complete, kept_with_room, kept_without_room}
 use Rattle.bus_programs.specs.BusRoutes.{routes_of}
 use Rattle.endpoint_commands.specs.declared.rules.FrameRule.{FrameRule}
 use Rattle.endpoint_commands.specs.Rules.{rules_of}
@@ -94,10 +94,10 @@ module _ (i : EndpointInputs) where
   -- ---- rows of both kinds
 
   over_inputs : (P : Row → Type 0) (same : Type 0) (d : DiskStates) → ((row : Row) → ComesBeforeLog i row → P row)
-      → ((bus : NamedBus) (rules : List FrameRule) (image : Option (List ℕ)) (row : Row) → SetsEndpoint i bus rules image → ComesOfStart Attach bus d row → P row)
+      → ((bus : NamedBus) (rules : List FrameRule) (image : Option (List ℕ)) (row : Row) → SetsEndpoint i bus rules image → ComesKept same bus d row → P row)
       → (row : Row) → ComesUnlogged same i d row → P row
   over_inputs P same d early start row (of_inputs _ comes before) = early row comes
-  over_inputs P same d early start row (unstarted _ (bus, rules, image, sets, (comes, nine)) log) = start bus rules image row sets comes
+  over_inputs P same d early start row (unstarted _ (bus, rules, image, sets, comes) log) = start bus rules image row sets comes
 
   -- ---- malformed words
 
@@ -286,20 +286,16 @@ module _ (i : EndpointInputs) where
     -- without room on the disk it is 9, or 7
     pub room_only : (same : Type 0) (d : DiskStates) → ¬ HasRoom bus d.before → (row : Row) → ComesUnlogged same i d row → (row.status ≡ 9) ⊎ (row.status ≡ 7)
     room_only same d none = over_inputs (λ row. (row.status ≡ 9) ⊎ (row.status ≡ 7)) same d (λ row comes. inr (early_valid row comes))
-        (λ found some had row sets comes. start_without_room Attach bus d row
-        (subst (λ (b : NamedBus). ComesOfStart Attach b d row) (valid_bus found some had sets) comes) none)
-
-    start_with_room : (d : DiskStates) → HasRoom bus d.before → (row : Row) → ComesOfStart Attach bus d row → (row.status ≡ 10) ⊎ (row.status ≡ 7)
-    start_with_room d room _ (disks_refused fault finds left) = absurd (no_room_fault bus d.before fault room finds)
-    start_with_room d room _ (store_refused fault also cause leaves) = inl refl
-    start_with_room d room _ (start_without_memory fault may refused calm) = inr refl
+        (λ found some had row sets comes. kept_without_room same bus d row
+        (subst (λ (b : NamedBus). ComesKept same b d row) (valid_bus found some had sets) comes) none)
 
     -- with room it is 10, or 7
     pub store_only : (same : Type 0) (d : DiskStates) → HasRoom bus d.before → (row : Row) → ComesUnlogged same i d row → (row.status ≡ 10) ⊎ (row.status ≡ 7)
     store_only same d room = over_inputs (λ row. (row.status ≡ 10) ⊎ (row.status ≡ 7)) same d (λ row comes. inr (early_valid row comes))
-        (λ found some had row sets comes. start_with_room d room row (subst (λ (b : NamedBus). ComesOfStart Attach b d row) (valid_bus found some had sets) comes))
+        (λ found some had row sets comes. kept_with_room same bus d row (subst (λ (b : NamedBus). ComesKept same b d row) (valid_bus found some had sets) comes) room)
 
     -- over a disk that serves it is 7
-    pub valid_7 : (same : Type 0) (d : DiskStates) → BusHasDisks Attach bus d → (row : Row) → ComesUnlogged same i d row → row.status ≡ 7
+    pub valid_7 : (same : Type 0) (d : DiskStates) → BusKeepsDisk bus d → (row : Row) → ComesUnlogged same i d row → row.status ≡ 7
     valid_7 same d able = over_inputs (λ row. row.status ≡ 7) same d early_valid
-        (λ found some had row sets comes. start_complete Attach bus d row (subst (λ (b : NamedBus). ComesOfStart Attach b d row) (valid_bus found some had sets) comes) able)
+        (λ found some had row sets comes. kept_complete same bus d (let one : length bus.nodes ≡ 1 = offered.0.0.2 in omega (arith, one)) row
+        (subst (λ (b : NamedBus). ComesKept same b d row) (valid_bus found some had sets) comes) able)

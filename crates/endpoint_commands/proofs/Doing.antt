@@ -1,5 +1,5 @@
 -- What was done over a disk, put together
-use Rattle.std.proofs.Common.{◌≡◌, ℕ, List, [], ◌∷◌, ◌++◌, length, drop, get_or, refl, sym, ap, subst, arith, append-nil, length-append}
+use Rattle.std.proofs.Common.{◌≡◌, ℕ, List, [], ◌∷◌, ◌++◌, length, drop, get_or, refl, sym, ap, ◌∙◌, subst, arith, append-nil, length-append}
 use Rattle.std.specs.Prelude.{Option, None, Some}
 use Rattle.bus_port.specs.Sink.{SinkState}
 use Rattle.bus_port.proofs.CallerLemmas.{Appended-nothing}
@@ -16,7 +16,13 @@ use Rattle.bus_script.specs.EventForms.{node_line_at, no_node}
 use Rattle.bus_script.specs.LineTexts.{told_words}
 use Rattle.secoc_node.specs.State.{NodeState}
 use Rattle.bus_world.specs.declared.start.Start.TheVariants.{Attach}
-use Rattle.bus_world.specs.Starts.{OpensNodes, Opened}
+use Rattle.bus_world.specs.declared.start.StartFault.{StartFault}
+use Rattle.bus_world.specs.Starts.{OpensNodes, Opened, HasRoom, NotStarted}
+use Rattle.bus_world.specs.StartRows.{start_row}
+use Rattle.bus_world.specs.declared.start.StartFault.TheVariants as start_fault
+use Rattle.bus_world.proofs.CallerLemmas.{no_room_fault}
+use Rattle.kept_starts.specs.LookedAt.{LookedAt}
+use Rattle.kept_starts.proofs.CallerLemmas.{look_rest, room_before, room_then}
 use Rattle.endpoint_commands.specs.declared.rules.FrameRule.{FrameRule}
 use Rattle.endpoint_commands.specs.Alone.{TurnsAlone}
 use Rattle.endpoint_commands.specs.Lines.{comment_text}
@@ -24,6 +30,19 @@ use Rattle.endpoint_commands.specs.Running.{LineMoment, TakesLine}
 use Rattle.endpoint_commands.specs.Logs.{EndsLines, done, failed, too_long, stopped, stopped_last}
 use Rattle.endpoint_commands.specs.Headline.{RanEndpoint, EndpointsAreRuns}
 use Rattle.endpoint_commands.specs.Promises.{opening_of, EndsBooted, not_opened, of_log, AnswersAll, DidEndpoint}
+
+-- ---- a start that is refused
+
+-- if there is room, its status isn't 9
+refused_not_9 : (bus : NamedBus) (before after : List DiskState) (f : StartFault)
+    → HasRoom bus before → NotStarted Attach bus before after f → (start_row f).status ≡ 9 → ⊥
+refused_not_9 bus before after start_fault.TooFew room refused is = no_room_fault bus before start_fault.TooFew room refused.0
+refused_not_9 bus before after (start_fault.TooSmall node) room refused is =
+    no_room_fault bus before (start_fault.TooSmall node) room refused.0
+refused_not_9 bus before after (start_fault.Store node cause) room refused is = omega (arith, is)
+refused_not_9 bus before after (start_fault.BadSlot node slot) room refused is = omega (arith, is)
+refused_not_9 bus before after (start_fault.BadBound node cell) room refused is = omega (arith, is)
+refused_not_9 bus before after start_fault.Memory room refused is = omega (arith, is)
 
 -- ---- a run, however it ended
 
@@ -97,29 +116,37 @@ opened_first bus before nodes node d one opens is =
     (opens.opened.opened 0 no_node d node (omega (arith, one))))
 
 -- the node was opened, answered, and its disk is back
-abbrev pub ran_endpoint : (bus : NamedBus) (rules : List FrameRule) (image : Option (List ℕ)) (before after : List DiskState) (nodes : List NodeState) (node now : NodeState) (log : Reading) (e : WatchEnding)
-    → IsNamedBus bus → length bus.nodes ≡ 1 → OpensNodes Attach bus before nodes → node ≡ get_or nodes 0 node → (a : AnswersAll image rules node log e now)
-    → after ≡ now.store.disk ∷ drop 1 before → RanEndpoint bus rules image before after a.told a.lines
-ran_endpoint bus rules image before after nodes node now log e is_bus one opens is a back = record {
+abbrev pub ran_endpoint : (bus : NamedBus) (rules : List FrameRule) (image : Option (List ℕ)) (before seen after : List DiskState) (nodes : List NodeState) (node now : NodeState) (log : Reading) (e : WatchEnding)
+    → IsNamedBus bus → length bus.nodes ≡ 1 → LookedAt bus before seen → OpensNodes Attach bus seen nodes → node ≡ get_or nodes 0 node → (a : AnswersAll image rules node log e now)
+    → after ≡ now.store.disk ∷ drop 1 seen → RanEndpoint bus rules image before after a.told a.lines
+ran_endpoint bus rules image before seen after nodes node now log e is_bus one look opens is a back = record {
   is_bus = is_bus;
   one = one;
-  room = opens.room;
+  room = room_before bus before seen look opens.room;
+  seen = seen;
+  look = look;
   start = node;
   booted = a.booted;
   now = now;
-  opened = λ d. opened_first bus before nodes node d one opens is;
+  opened = λ d. opened_first bus seen nodes node d one opens is;
   boots = a.boots;
   run = ran_booted rules a.booted (opening_of a.told) log e now a.lines a.ends;
-  disks = back;
+  disks = back ∙ ap (λ (rest : List DiskState). now.store.disk ∷ rest) (look_rest bus before seen look);
 }
 
-pub did_endpoint : (bus : NamedBus) (rules : List FrameRule) (image : Option (List ℕ)) (before after : List DiskState) (nodes : List NodeState) (node now : NodeState) (log : Reading) (e : WatchEnding)
-    → IsNamedBus bus → length bus.nodes ≡ 1 → OpensNodes Attach bus before nodes → node ≡ get_or nodes 0 node → AnswersAll image rules node log e now
-    → after ≡ now.store.disk ∷ drop 1 before → EndpointsAreRuns → DidEndpoint bus rules image log (record { before = before; after = after }) e
-did_endpoint bus rules image before after nodes node now log e is_bus one opens is a back law = record {
+pub did_endpoint : (bus : NamedBus) (rules : List FrameRule) (image : Option (List ℕ)) (before seen after : List DiskState) (nodes : List NodeState) (node now : NodeState) (log : Reading) (e : WatchEnding)
+    → IsNamedBus bus → length bus.nodes ≡ 1 → LookedAt bus before seen → OpensNodes Attach bus seen nodes → node ≡ get_or nodes 0 node → AnswersAll image rules node log e now
+    → after ≡ now.store.disk ∷ drop 1 seen → EndpointsAreRuns → DidEndpoint bus rules image log (record { before = before; after = after }) e
+did_endpoint bus rules image before seen after nodes node now log e is_bus one look opens is a back law = record {
   told = a.told;
   lines = a.lines;
-  ran = ran_endpoint bus rules image before after nodes node now log e is_bus one opens is a back;
+  ran = ran_endpoint bus rules image before seen after nodes node now log e is_bus one look opens is a back;
   ends = a.ends;
-  one_run = law bus rules image before after a.told a.lines (ran_endpoint bus rules image before after nodes node now log e is_bus one opens is a back);
+  one_run = law bus rules image before after a.told a.lines (ran_endpoint bus rules image before seen after nodes node now log e is_bus one look opens is a back);
 }
+
+-- a row of 9 comes only without room, and then no disk was looked at
+pub known_at_9 : (same : Type 0) (bus : NamedBus) (before seen after : List DiskState) (fault : StartFault) → LookedAt bus before seen → NotStarted Attach bus seen after fault
+    → ((¬ HasRoom bus before) → same) → (start_row fault).status ≡ 9 → same
+known_at_9 same bus before seen after fault look refused known nine =
+    known (λ room. refused_not_9 bus seen after fault (room_then bus before seen look room) refused nine)

@@ -19,6 +19,7 @@ use Rattle.bus_machine.specs.Steps.{NodeStep, boots}
 use Rattle.bus_world.specs.Turns.{TellsFaults}
 use Rattle.bus_world.specs.StartAnswers.{DiskStates}
 use Rattle.bus_world.proofs.CallerLemmas.{no_disk}
+use Rattle.kept_starts.proofs.CallerLemmas.{look_at, same_faults}
 use Rattle.bus_config.specs.Buses.{NamedBus}
 use Rattle.secoc_node.specs.State.{NodeState}
 use Rattle.endpoint_commands.specs.declared.rules.FrameRule.{FrameRule}
@@ -161,7 +162,7 @@ module _ (bus : NamedBus) (rules : List FrameRule) (image : Option (List ℕ)) (
   left_first disk = ap (λ (disks : List DiskState). (get_or disks 0 disk).faults) ran.disks
 
   booted_first : (disk : DiskState) → faults_of ran.booted ≡ (get_or d.before 0 disk).faults
-  booted_first disk = boots_calm image ran.start told ran.booted ran.boots ∙ (ran.opened disk).faults
+  booted_first disk = boots_calm image ran.start told ran.booted ran.boots ∙ ((ran.opened disk).faults ∙ same_faults bus d.before ran.seen ran.look 0 disk)
 
   pub ran_calm : Unfailed lines → (disk : DiskState) → (get_or d.after 0 disk).faults ≡ (get_or d.before 0 disk).faults
   ran_calm unfailed disk = left_first disk ∙ calm_lines rules ran.booted lines ran.now ran.run unfailed ∙ booted_first disk
@@ -177,7 +178,8 @@ module _ (bus : NamedBus) (rules : List FrameRule) (image : Option (List ℕ)) (
   ran_quiet quiet failed =
       let first : DiskState = get_or d.before 0 no_disk in
       let keeps : KeepsQuiet first ran.now.store.disk =
-      keeps_then first ran.start.store.disk ran.now.store.disk ((ran.opened no_disk).runs.quiet refl)
+      keeps_then first ran.start.store.disk ran.now.store.disk
+      (keeps_then first (get_or ran.seen 0 no_disk) ran.start.store.disk ((look_at bus d.before ran.seen ran.look 0 no_disk).runs.quiet refl) ((ran.opened no_disk).runs.quiet refl))
       (keeps_then ran.start.store.disk ran.booted.store.disk ran.now.store.disk (boot_keeps image ran.start told ran.booted ran.boots) (lines_keep rules ran.booted lines ran.now ran.run)) in
       let stays : StaysQuiet first ran.now.store.disk = keeps quiet in
       omega (arith, failed no_disk, left_first no_disk, stays.faults, quiet.below)

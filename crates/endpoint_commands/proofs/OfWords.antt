@@ -11,10 +11,11 @@ use Rattle.program_edge.specs.Inputs.{Reading}
 use Rattle.program_edge.specs.Endings.{EndsIn, EndsInRow}
 use Rattle.can_logs.specs.LogRuns.{IsUnwritten, WatchEnding, on_errors}
 use Rattle.bus_config.specs.Buses.{NamedBus}
-use Rattle.bus_world.specs.declared.start.Start.TheVariants.{Attach}
-use Rattle.bus_world.specs.StartAnswers.{DiskStates, ComesUnstarted}
+use Rattle.bus_world.specs.StartAnswers.{DiskStates}
 use Rattle.bus_world.specs.WorldTurns.{TellFirm}
-use Rattle.bus_world.proofs.CallerLemmas.{start_status, same_known}
+use Rattle.bus_world.proofs.CallerLemmas.{same_known}
+use Rattle.kept_starts.specs.KeepRows.{ComesKept}
+use Rattle.kept_starts.proofs.CallerLemmas.{kept_status}
 use Rattle.endpoint_commands.specs.declared.rules.FrameRule.{FrameRule}
 use Rattle.endpoint_commands.specs.declared.run.EndpointForm.{EndpointForm}
 use Rattle.endpoint_commands.specs.declared.run.EndpointForm.TheVariants.{Plain, Boots}
@@ -101,10 +102,10 @@ did_status bus rules image log d e x = elim (booted_tells rules x.ran.booted (op
 ]
 
 -- of one whose node wasn't started
-unstarted_status : (same : Type 0) (bus : NamedBus) (d : DiskStates) (e : WatchEnding) → EndsInRow (ComesUnstarted same Attach bus d) (on_errors e)
+unstarted_status : (same : Type 0) (bus : NamedBus) (d : DiskStates) (e : WatchEnding) → EndsInRow (ComesKept same bus d) (on_errors e)
     → (e.status ≡ 6) ⊎ (e.status ≡ 9) ⊎ (e.status ≡ 10) ⊎ (e.status ≡ 7)
 unstarted_status same bus d e ends = elim ends.told [
-  | inl (is, printed) ↦ inr (subst (λ (n : ℕ). (n ≡ 9) ⊎ (n ≡ 10) ⊎ (n ≡ 7)) (sym is) (start_status Attach bus d ends.row ends.comes.0))
+  | inl (is, printed) ↦ inr (subst (λ (n : ℕ). (n ≡ 9) ⊎ (n ≡ 10) ⊎ (n ≡ 7)) (sym is) (kept_status same bus d ends.row ends.comes))
   | inr (six, rose, part) ↦ inl six
 ]
 

@@ -1,5 +1,5 @@
 -- What was done of an endpoint over a disk that tells its bytes is a run of the machine, and what holds of it
-use Rattle.std.specs.Prelude.{◌≡◌, ℕ, ◌<◌, ◌≤◌, Option, Some, List, [], ◌∷◌, ◌++◌, length, map, drop, get_or, false, All}
+use Rattle.std.specs.Prelude.{◌≡◌, ℕ, ◌+◌, ◌<◌, ◌≤◌, Option, Some, List, [], ◌∷◌, ◌++◌, length, map, drop, get_or, false, All}
 use Rattle.std.proofs.Common.{refl, sym, ap, ◌∙◌, subst, arith, inl, inr}
 use Rattle.std.proofs.lemmas.List.{length-drop}
 use Rattle.basics.specs.FaultCount.{Rose}
@@ -7,7 +7,7 @@ use Rattle.machine_runs.specs.Run.{Run, commands_in, lines_in}
 use Rattle.machine_runs.proofs.CallerLemmas.{Run-seen_as}
 use Rattle.cut_disk.specs.State.{DiskState, Entry}
 use Rattle.cut_disk.specs.Calls.{IsQuiet, Later}
-use Rattle.cut_disk.proofs.CallerLemmas.{runs_none, later_of_runs, later_join}
+use Rattle.cut_disk.proofs.CallerLemmas.{runs_none, runs_join, later_of_runs, later_join, grows_after}
 use Rattle.cell_store.specs.declared.kinds.Layout.{Layout}
 use Rattle.any_cells.specs.Either.{layout}
 use Rattle.store_keeping.specs.DiskTurns.{OpenedDisk, TellsBytes, TracedSince, FailuresTold}
@@ -27,11 +27,12 @@ use Rattle.secoc_node.specs.State.{NodeState}
 use Rattle.bus_world.specs.declared.start.Start.TheVariants.{Attach}
 use Rattle.bus_world.specs.Turns.{Brings}
 use Rattle.bus_world.specs.Worlds.{BusState}
-use Rattle.bus_world.specs.Starts.{start_calls, Opened, Started}
+use Rattle.bus_world.specs.Starts.{start_calls, Opened, Started, StartsOver}
 use Rattle.bus_world.proofs.CallerLemmas.{no_disk}
 use Rattle.bus_world.specs.NodeDisks.{mark_at, most_at, tells_failure, fails_at, fits_at, DisksFollow}
 use Rattle.bus_world.specs.WorldRuns.{OneListOfLines}
 use Rattle.bus_world.specs.WorldTurns.{TellFirm, StartsGoOnFirst, GoesOnFirst}
+use Rattle.kept_starts.proofs.CallerLemmas.{firm_then, look_at, room_then, same_told}
 use Rattle.endpoint_commands.specs.declared.rules.FrameRule.{FrameRule}
 use Rattle.endpoint_commands.specs.Running.{LineMoment}
 use Rattle.endpoint_commands.specs.Headline.{RanEndpoint, DisksServe, OneEndpointRun, without_source, boot_events, events_asked}
@@ -134,23 +135,35 @@ module _ (laws : Laws) (bus : NamedBus) (rules : List FrameRule) (image : Option
   over = record { nodes = ran.start ∷ []; events = 0; most = 0; sent = [] }
 
   opened_at : (i : ℕ) (line : NodeLine) (d : DiskState) (n : NodeState) → i < length bus.nodes
-      → Opened Attach bus.kind bus.version (get_or bus.nodes i line).config (get_or before i d) (get_or (ran.start ∷ []) i n)
+      → Opened Attach bus.kind bus.version (get_or bus.nodes i line).config (get_or ran.seen i d) (get_or (ran.start ∷ []) i n)
   opened_at i line d n inside =
-      subst (λ (k : ℕ). Opened Attach bus.kind bus.version (get_or bus.nodes k line).config (get_or before k d) (get_or (ran.start ∷ []) k n))
+      subst (λ (k : ℕ). Opened Attach bus.kind bus.version (get_or bus.nodes k line).config (get_or ran.seen k d) (get_or (ran.start ∷ []) k n))
       (only_first i bus.nodes ran.one inside)
-      (subst (λ (x : NodeLine). Opened Attach bus.kind bus.version x.config (get_or before 0 d) ran.start) (sym (first_there bus.nodes line ran.one)) (ran.opened d))
+      (subst (λ (x : NodeLine). Opened Attach bus.kind bus.version x.config (get_or ran.seen 0 d) ran.start) (sym (first_there bus.nodes line ran.one)) (ran.opened d))
 
-  started : Started Attach bus 0 before over
+  started : Started Attach bus 0 ran.seen over
   started = record {
-    room = ran.room;
+    room = room_then bus before ran.seen ran.look ran.room;
     nodes = record { count = sym ran.one; opened = opened_at };
     no_event = refl;
     most_is = refl;
     nothing_sent = refl;
   }
 
-  first : GoesOnFirst bus before over
-  first = laws.go_on bus 0 before over ran.is_bus started tell
+  first : GoesOnFirst bus ran.seen over
+  first = laws.go_on bus 0 ran.seen over ran.is_bus started (firm_then bus before ran.seen ran.look tell)
+
+  -- the look changed no byte, so it goes on where the disk stood before it
+  goes_before : StartsOver bus before (alone_world (begun ran.start))
+  goes_before = record {
+    no_event = first.goes_on.no_event;
+    nothing_sent = first.goes_on.nothing_sent;
+    count = first.goes_on.count;
+    nodes = λ i line d inside. record {
+      just_powered = (first.goes_on.nodes i line d inside).just_powered;
+      kept = λ t tells. (first.goes_on.nodes i line d inside).kept t (same_told bus before ran.seen ran.look i d ∙ tells);
+    };
+  }
 
   alone : EndpointAlone rules image ran.start told lines ran.now
   alone = endpoint_alone rules image ran.start ran.booted told lines ran.now ran.boots ran.run
@@ -175,10 +188,13 @@ module _ (laws : Laws) (bus : NamedBus) (rules : List FrameRule) (image : Option
   disk_back d = ap (λ (disks : List DiskState). get_or disks 0 d) ran.disks ∙ sym disk_there
 
   abbrev calls : ℕ
-  calls = start_calls Attach bus.kind (node_line_at bus.nodes 0).config
+  calls = 3 + start_calls Attach bus.kind (node_line_at bus.nodes 0).config
 
   opened_disk : (d : DiskState) → OpenedDisk calls (get_or before 0 d) ran.start.store.disk
-  opened_disk d = let o = ran.opened d in record { runs = o.runs; grows = o.grows; faults = o.faults }
+  opened_disk d =
+      let o = ran.opened d in
+      let look = look_at bus before ran.seen ran.look 0 d in
+      record { runs = runs_join look.runs o.runs; grows = grows_after look.runs o.grows; faults = o.faults ∙ look.faults }
 
   failures_first : (d : DiskState) → FailuresTold (mark_at 0) (fails_at 0) (seen ms) (get_or before 0 d) (get_or after 0 d)
   failures_first d =
@@ -253,7 +269,7 @@ module _ (laws : Laws) (bus : NamedBus) (rules : List FrameRule) (image : Option
         first = world;
         moments = seen ms;
         last = last;
-        goes_on = first.goes_on;
+        goes_on = goes_before;
         begins = first.is_first;
         is_a_run = run;
         of_events = seen_commands ms ∙ alone.commands;

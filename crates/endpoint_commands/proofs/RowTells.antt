@@ -1,6 +1,6 @@
 -- What a row that comes before the log says, by its status
 use Rattle.std.specs.Prelude.{◌≡◌, ◌⊎◌, ◌≤◌, ℕ, ◌==◌, Bool, true, false, Option, Some, List, codes}
-use Rattle.std.proofs.Common.{refl, ap, subst, arith, inl, inr}
+use Rattle.std.proofs.Common.{refl, sym, ap, subst, arith, inl, inr}
 use Rattle.bus_port.specs.Source.{SourceState}
 use Rattle.text_lines.specs.Readings.{Fault}
 use Rattle.text_lines.specs.Texts.{line, fault_text_of}
@@ -11,12 +11,13 @@ use Rattle.program_edge.specs.Inputs.{IsUnread}
 use Rattle.bus_config.specs.declared.fault.ConfigFault.{ConfigFault}
 use Rattle.bus_config.specs.FaultTexts.{config_fault_text}
 use Rattle.bus_config.specs.Buses.{NamedBus}
-use Rattle.bus_world.specs.declared.start.Start.TheVariants.{Attach}
 use Rattle.bus_world.specs.declared.start.StartFault.{StartFault}
-use Rattle.bus_world.specs.Starts.{HasRoom, FindsRoom}
-use Rattle.bus_world.specs.StartRows.{start_row, StoreCause, LeavesEach}
-use Rattle.bus_world.specs.StartAnswers.{DiskStates, CountsDiskFault, failed_row, ComesOfStart, disks_refused, store_refused, start_without_memory}
-use Rattle.bus_world.proofs.CallerLemmas.{start_status, none_counted, failure_told}
+use Rattle.bus_world.specs.Starts.{FindsRoom}
+use Rattle.bus_world.specs.StartRows.{start_row}
+use Rattle.bus_world.specs.StartAnswers.{DiskStates, CountsDiskFault, failed_row}
+use Rattle.bus_world.proofs.CallerLemmas.{none_counted}
+use Rattle.kept_starts.specs.KeepRows.{ComesKept, RefusesDisk}
+use Rattle.kept_starts.proofs.CallerLemmas.{kept_7, kept_9, kept_10, kept_failure, kept_status}
 use Rattle.endpoint_commands.specs.declared.rules.FrameRule.{FrameRule}
 use Rattle.endpoint_commands.specs.Rows.{EndpointInputs, AsksEndpoint, endpoint_usage, SetsEndpoint, OverEndpoint, LacksEndpointInput, of_config, of_map, of_image}
 use Rattle.endpoint_commands.specs.Rows.{HasConfigFault, HasOtherNodes, HasMapFault, HasOtherImage, ComesBeforeLog, no_form, no_source, config_fault, other_nodes, map_fault, other_image, no_room}
@@ -52,8 +53,7 @@ module _ (same : Type 0) (i : EndpointInputs) (d : DiskStates) where
       (fault : StartFault) × FindsRoom bus d.before fault × (d.after ≡ d.before) × (row.text ≡ (start_row fault).text)) × same
 
   abbrev pub Tells10 : Row → Type 0
-  Tells10 row = IsUnread i.log × OverEndpoint i (λ bus rules image.
-      (fault : StartFault) × HasRoom bus d.before × StoreCause Attach bus d.before d.after fault × LeavesEach Attach bus d.before d.after × (row.text ≡ (start_row fault).text))
+  Tells10 row = IsUnread i.log × OverEndpoint i (λ bus rules image. RefusesDisk bus d (λ text. row.text ≡ text))
 
   abbrev pub TellsAt : ℕ → Row → Type 0
   TellsAt n row = pick (n == 2) (Tells2 row) (pick (n == 3) (Tells3 row) (pick (n == 4) (Tells4 row) (pick (n == 5) (Tells5 row)
@@ -76,15 +76,19 @@ module _ (same : Type 0) (i : EndpointInputs) (d : DiskStates) where
   input_tells _ (other_image has) before = (inr (inr (has, refl)), before)
   input_tells _ (no_room over log) before = (refl, log)
 
-  start_tells : (bus : NamedBus) (rules : List FrameRule) (image : Option (List ℕ)) → SetsEndpoint i bus rules image → (row : Row) → ComesOfStart Attach bus d row
-      → (row.status ≡ 9 → same) → IsUnread i.log → TellsAt row.status row
-  start_tells bus rules image sets _ (disks_refused fault finds left) nine log = (log, (bus, rules, image, sets, (fault, finds, left, refl)), nine refl)
-  start_tells bus rules image sets _ (store_refused fault room cause leaves) nine log = (log, (bus, rules, image, sets, (fault, room, cause, leaves, refl)))
-  start_tells bus rules image sets _ (start_without_memory fault may refused calm) nine log = (refl, log)
+  start_tells : (bus : NamedBus) (rules : List FrameRule) (image : Option (List ℕ)) → SetsEndpoint i bus rules image → (row : Row) → ComesKept same bus d row
+      → IsUnread i.log → TellsAt row.status row
+  start_tells bus rules image sets row comes log = elim (kept_status same bus d row comes) [
+    | inl nine ↦
+        let told = kept_9 same bus d row comes nine in
+        subst (λ (n : ℕ). TellsAt n row) (sym nine) (log, (bus, rules, image, sets, told.0), told.1)
+    | inr (inl ten) ↦ subst (λ (n : ℕ). TellsAt n row) (sym ten) (log, (bus, rules, image, sets, kept_10 same bus d row comes ten))
+    | inr (inr seven) ↦ subst (λ (n : ℕ). TellsAt n row) (sym seven) (kept_7 same bus d row comes seven, log)
+  ]
 
   pub row_tells : (row : Row) → ComesUnlogged same i d row → TellsAt row.status row
   row_tells row (of_inputs _ comes before) = input_tells row comes before
-  row_tells row (unstarted _ (bus, rules, image, sets, (comes, nine)) log) = start_tells bus rules image sets row comes nine log
+  row_tells row (unstarted _ (bus, rules, image, sets, comes) log) = start_tells bus rules image sets row comes log
 
   -- of a row with this status
   pub tells_at : (n : ℕ) (row : Row) → ComesUnlogged same i d row → row.status ≡ n → TellsAt n row
@@ -125,12 +129,12 @@ module _ (same : Type 0) (i : EndpointInputs) (d : DiskStates) where
 
   pub row_range : (row : Row) → ComesUnlogged same i d row → (2 ≤ row.status) × (row.status ≤ 11)
   row_range row (of_inputs _ comes before) = input_range row comes
-  row_range row (unstarted _ (bus, rules, image, sets, (comes, nine)) log) =
-      let status = start_status Attach bus d row comes in
+  row_range row (unstarted _ (bus, rules, image, sets, comes) log) =
+      let status = kept_status same bus d row comes in
       (omega (arith, status), omega (arith, status))
 
   -- ---- if the count of the disk rose, the row tells that it failed
 
   pub row_failure : (same → d.after ≡ d.before) → (row : Row) → ComesUnlogged same i d row → CountsDiskFault d 0 → row ≡ failed_row 0
   row_failure kept row (of_inputs _ comes before) rose = absurd (none_counted d 0 (kept before) rose)
-  row_failure kept row (unstarted _ (bus, rules, image, sets, (comes, nine)) log) rose = failure_told Attach bus d row 0 comes rose
+  row_failure kept row (unstarted _ (bus, rules, image, sets, comes) log) rose = kept_failure same bus d row comes rose

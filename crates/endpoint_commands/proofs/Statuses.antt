@@ -11,11 +11,12 @@ use Rattle.program_edge.specs.Endings.{EndsIn, EndsInRow, SinkFailed, CountsWrit
 use Rattle.program_edge.proofs.CallerLemmas.{EndsInRow-more, EndsInRow-at, EndsInRow-front, EndsInRow-rose, EndsInRow-well, EndsInRow-only, EndsInRow-may}
 use Rattle.can_logs.specs.LogRuns.{IsUnwritten, WatchEnding, on_output, on_errors}
 use Rattle.bus_config.specs.Buses.{NamedBus}
-use Rattle.bus_world.specs.declared.start.Start.TheVariants.{Attach}
 use Rattle.bus_world.specs.Starts.{HasRoom, FindsRoom}
 use Rattle.bus_world.specs.declared.start.StartFault.{StartFault}
-use Rattle.bus_world.specs.StartRows.{start_row, StoreCause, LeavesEach}
-use Rattle.bus_world.specs.StartAnswers.{DiskStates, CountsDiskFault, BusHasDisks}
+use Rattle.bus_world.specs.StartRows.{start_row}
+use Rattle.bus_world.specs.StartAnswers.{DiskStates, CountsDiskFault}
+use Rattle.kept_starts.specs.KeepRows.{BusKeepsDisk, RefusesDisk}
+use Rattle.kept_starts.proofs.CallerLemmas.{look_keeps, refuses_more, same_told}
 use Rattle.bus_world.proofs.CallerLemmas.{no_disk, no_line}
 use Rattle.endpoint_commands.specs.declared.rules.FrameRule.{FrameRule}
 use Rattle.endpoint_commands.specs.Rows.{EndpointInputs, OverEndpoint, SetsEndpoint, HasMapFault, ComesBeforeLog, OffersEndpoint}
@@ -95,10 +96,9 @@ module _ (same : Type 0) (i : EndpointInputs) (d : DiskStates) (e : WatchEnding)
   told_9 row (log, (bus, rules, image, sets, (fault, finds, left, text)), before) printed =
       (log, (bus, rules, image, sets, (fault, finds, left, subst (TellsText e) text printed)))
 
-  told_10 : (row : Row) → Tells10 same i d row → TellsText e row.text → IsUnread i.log × OverEndpoint i (λ bus rules image.
-      (fault : StartFault) × HasRoom bus d.before × StoreCause Attach bus d.before d.after fault × LeavesEach Attach bus d.before d.after × TellsText e (start_row fault).text)
-  told_10 row (log, (bus, rules, image, sets, (fault, room, cause, leaves, text))) printed =
-      (log, (bus, rules, image, sets, (fault, room, cause, leaves, subst (TellsText e) text printed)))
+  told_10 : (row : Row) → Tells10 same i d row → TellsText e row.text → IsUnread i.log × OverEndpoint i (λ bus rules image. RefusesDisk bus d (λ text. TellsText e text))
+  told_10 row (log, (bus, rules, image, sets, refuses)) printed =
+      (log, (bus, rules, image, sets, refuses_more bus d (λ text. row.text ≡ text) (λ text. TellsText e text) (λ text is. subst (TellsText e) is printed) refuses))
 
   row_disk : (same → d.after ≡ d.before) → TellsEndpointDisk same i d e
   row_disk kept = record {
@@ -227,8 +227,8 @@ module _ (same : Type 0) (i : EndpointInputs) (d : DiskStates) (e : WatchEnding)
   ]
 
   -- a disk that serves didn't fail
-  disk_serves : (other : NamedBus) (some : List FrameRule) (had : Option (List ℕ)) → OffersEndpoint i other some had → BusHasDisks Attach other d → FirstDiskFailed d → ⊥
-  disk_serves other some had offered able failed = elim (able.1 0 no_line no_disk (let inside : 0 < length other.nodes = omega (arith, offered.0.0.2) in inside)).1 [
+  disk_serves : (other : NamedBus) (some : List FrameRule) (had : Option (List ℕ)) → OffersEndpoint i other some had → BusKeepsDisk other d → FirstDiskFailed d → ⊥
+  disk_serves other some had offered able failed = elim (able.0.1 0 no_line no_disk (let inside : 0 < length other.nodes = omega (arith, offered.0.0.2) in inside)).1 [
     | inl quiet ↦ ran_quiet bus rules image d x.told x.lines x.ran quiet failed
     | inr calm ↦ calm (failed no_disk)
   ]
@@ -249,7 +249,10 @@ module _ (same : Type 0) (i : EndpointInputs) (d : DiskStates) (e : WatchEnding)
   holds_store : HoldsNoStore bus d.before → ⊥
   holds_store none =
       let (told, is, refused) = none no_disk in
-      refused (x.ran.start.node.kept, (x.ran.opened no_disk).kept told is)
+      refused (
+        look_keeps bus d.before x.ran.seen x.ran.look x.ran.room no_disk told is,
+        (x.ran.start.node.kept, (x.ran.opened no_disk).kept told (same_told bus d.before x.ran.seen x.ran.look 0 no_disk ∙ is)),
+      )
 
   -- a bus that is offered is this one
   did_room : (other : NamedBus) (some : List FrameRule) (had : Option (List ℕ)) → OffersEndpoint i other some had → HasRoom other d.before

@@ -28,6 +28,7 @@ use Rattle.bus_world.specs.Starts.{HasRoom, Opened, StartsOver}
 use Rattle.bus_world.specs.NodeDisks.{mark_at, fails_at, DisksFollow}
 use Rattle.bus_world.specs.WorldRuns.{IsFirstOf, OneListOfLines}
 use Rattle.bus_world.specs.WorldTurns.{TellFirm}
+use Rattle.kept_starts.specs.LookedAt.{LookedAt}
 use Rattle.endpoint_commands.specs.declared.rules.FrameRule.{FrameRule}
 use Rattle.endpoint_commands.specs.Alone.{TurnsAlone}
 use Rattle.endpoint_commands.specs.Asking.{asked_of, event_asked}
@@ -41,18 +42,20 @@ BootsWith None start told booted = (told ≡ []) × (booted ≡ start)
 BootsWith (Some image) start told booted =
     (line : Line) × (told ≡ line ∷ []) × TurnsAlone start (Boot 0 image) line booted
 
--- the node was opened over the first disk, where it stands; it booted, and took these lines; the disk is back in its
--- place
+-- the first disk was looked at, and the node was opened over it, where it stands; it booted, and took these lines; the
+-- disk is back in its place
 pub record RanEndpoint (bus : NamedBus) (rules : List FrameRule) (image : Option (List ℕ))
     (before after : List DiskState) (told : List Line) (lines : List LineMoment) : Type 0 where
   pub is_bus : IsNamedBus bus
   pub one : length bus.nodes ≡ 1
   pub room : HasRoom bus before
+  pub seen : List DiskState
+  pub look : LookedAt bus before seen
   pub start : NodeState
   pub booted : NodeState
   pub now : NodeState
   pub opened : (d : DiskState)
-      → Opened Attach bus.kind bus.version (node_line_at bus.nodes 0).config (get_or before 0 d) start
+      → Opened Attach bus.kind bus.version (node_line_at bus.nodes 0).config (get_or seen 0 d) start
   pub boots : BootsWith image start told booted
   pub run : Run (TakesLine rules) booted lines now
   pub disks : after ≡ now.store.disk ∷ drop 1 before

@@ -10,9 +10,9 @@ use Rattle.bus_config.specs.Buses.{NamedBus}
 use Rattle.bus_script.specs.LineTexts.{told_words}
 use Rattle.secoc_node.specs.State.{NodeState}
 use Rattle.can_logs.specs.LogRuns.{IsUnwritten, WatchEnding, on_output, on_errors}
-use Rattle.bus_world.specs.declared.start.Start.TheVariants.{Attach}
-use Rattle.bus_world.specs.StartAnswers.{DiskStates, ComesUnstarted}
+use Rattle.bus_world.specs.StartAnswers.{DiskStates}
 use Rattle.bus_world.specs.WorldTurns.{TellFirm}
+use Rattle.kept_starts.specs.KeepRows.{ComesKept}
 use Rattle.endpoint_commands.specs.declared.rules.FrameRule.{FrameRule}
 use Rattle.endpoint_commands.specs.Lines.{comment_text}
 use Rattle.endpoint_commands.specs.Running.{LineMoment}
@@ -56,15 +56,15 @@ pub record DidEndpoint (bus : NamedBus) (rules : List FrameRule) (image : Option
 -- the node isn't started, and the row that says why is printed on standard error; or it took the lines of the log
 pub data DoesEndpoint (same : Type 0) (bus : NamedBus) (rules : List FrameRule) (image : Option (List ℕ))
     (log : Reading) (d : DiskStates) (e : WatchEnding) : Type 0 where
-  not_started : EndsInRow (ComesUnstarted same Attach bus d) (on_errors e) → IsUnwritten e.output → IsUnread log
+  not_started : EndsInRow (ComesKept same bus d) (on_errors e) → IsUnwritten e.output → IsUnread log
       → DoesEndpoint same bus rules image log d e
   did : DidEndpoint bus rules image log d e → DoesEndpoint same bus rules image log d e
 
 -- the rows that come before anything is asked of the log: those of the inputs, at which every disk is as before; and
--- those of a node that isn't started over its disk
+-- those of a node that isn't started over its disk, for what a look or the start finds there
 pub data ComesUnlogged (same : Type 0) (i : EndpointInputs) (d : DiskStates) : Row → Type 0 where
   of_inputs : (row : Row) → ComesBeforeLog i row → same → ComesUnlogged same i d row
-  unstarted : (row : Row) → OverEndpoint i (λ bus rules image. ComesUnstarted same Attach bus d row) → IsUnread i.log
+  unstarted : (row : Row) → OverEndpoint i (λ bus rules image. ComesKept same bus d row) → IsUnread i.log
       → ComesUnlogged same i d row
 
 -- all but the log was read whole, and the node was started and took lines of the log

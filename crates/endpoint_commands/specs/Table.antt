@@ -20,8 +20,11 @@ use Rattle.bus_programs.specs.BusFiles.{OffersBus}
 use Rattle.bus_world.specs.declared.start.Start.TheVariants.{Attach}
 use Rattle.bus_world.specs.declared.start.StartFault.{StartFault}
 use Rattle.bus_world.specs.Starts.{HasRoom, FindsRoom}
-use Rattle.bus_world.specs.StartRows.{start_row, CanStart, StoreCause, LeavesEach}
-use Rattle.bus_world.specs.StartAnswers.{DiskStates, CountsDiskFault, failed_row, BusHasDisks}
+use Rattle.bus_world.specs.StartRows.{start_row, CanStart}
+use Rattle.bus_world.specs.StartAnswers.{DiskStates, CountsDiskFault, failed_row}
+use Rattle.disk_looks.specs.Looks.{CanKeep}
+use Rattle.kept_starts.specs.LookedAt.{cells_in_bus}
+use Rattle.kept_starts.specs.KeepRows.{RefusesDisk, BusKeepsDisk}
 use Rattle.bus_programs.specs.BusRoutes.{routes_of}
 use Rattle.can_logs.specs.LogRuns.{IsUnwritten, WritesWhole, WatchEnding, on_output, on_errors}
 use Rattle.endpoint_commands.specs.declared.rules.FrameRule.{FrameRule}
@@ -81,10 +84,15 @@ pub record StopsAtDisk (bus : NamedBus) (rules : List FrameRule) (image : Option
 abbrev pub FirstDiskFailed : DiskStates → Type 0
 FirstDiskFailed d = (disk : DiskState) → Rose (get_or d.before 0 disk).faults (get_or d.after 0 disk).faults
 
--- the first disk tells bytes over which the one node of the bus can't go on
+-- over these bytes the one node of the bus can go on: they are all zeros, or the node's store stands, and no other
+abbrev pub CanGoOn : NamedBus → List ℕ → Type 0
+CanGoOn bus x = CanKeep bus.kind bus.version (cells_in_bus bus) x
+    × CanStart Attach bus.kind bus.version (node_line_at bus.nodes 0).config x
+
+-- the first disk tells bytes over which it can't
 abbrev pub HoldsNoStore : NamedBus → List DiskState → Type 0
 HoldsNoStore bus disks = (disk : DiskState) → (told : Told) × ((get_or disks 0 disk).told ≡ Some told)
-    × ¬ CanStart Attach bus.kind bus.version (node_line_at bus.nodes 0).config told.bytes
+    × ¬ CanGoOn bus told.bytes
 
 -- ---- the table
 
@@ -164,11 +172,10 @@ pub record TellsEndpointDisk (same : Type 0) (i : EndpointInputs) (d : DiskState
       (fault : StartFault) × FindsRoom bus d.before fault × (d.after ≡ d.before) × TellsText e (start_row fault).text)
   pub disks_refused_only : (bus : NamedBus) (rules : List FrameRule) (image : Option (List ℕ))
       → OffersEndpoint i bus rules image → ¬ HasRoom bus d.before → MayEndIn 9 (on_errors e)
-  -- 10, both ways: the disk failed, and wasn't quiet; or it didn't fail, and its bytes are refused. It is left as an
-  -- unfinished start leaves it.
-  pub store_refused : e.status ≡ 10 → IsUnread i.log × OverEndpoint i (λ bus rules image.
-      (fault : StartFault) × HasRoom bus d.before × StoreCause Attach bus d.before d.after fault
-      × LeavesEach Attach bus d.before d.after × TellsText e (start_row fault).text)
+  -- 10, both ways: the disk failed, and wasn't quiet; or it didn't fail, and its bytes are refused. Another store is
+  -- named. At a look that is refused nothing was written; else it is left as an unfinished start leaves it.
+  pub store_refused : e.status ≡ 10 → IsUnread i.log
+      × OverEndpoint i (λ bus rules image. RefusesDisk bus d (λ text. TellsText e text))
   pub store_refused_only : (bus : NamedBus) (rules : List FrameRule) (image : Option (List ℕ))
       → OffersEndpoint i bus rules image → HasRoom bus d.before → HoldsNoStore bus d.before
       → MayEndIn 10 (on_errors e)
@@ -191,7 +198,7 @@ pub record RunsEndpoint (same : Type 0) (i : EndpointInputs) (d : DiskStates) (e
   -- What is valid ends with 0 or 7 on three conditions. The disk serves: it was quiet, or its count didn't rise. The
   -- counts of the log and both sinks neither rose nor are full. Fewer than 2^64 - 1 bytes came of the log.
   pub complete : (bus : NamedBus) (rules : List FrameRule) (image : Option (List ℕ)) → OffersEndpoint i bus rules image
-      → BusHasDisks Attach bus d → ¬ SourceFailed i.log → i.log.after.taken < last_count
+      → BusKeepsDisk bus d → ¬ SourceFailed i.log → i.log.after.taken < last_count
       → ¬ SinkFailed (on_output e) → ¬ SinkFailed (on_errors e) → (e.status ≡ 0) ⊎ (e.status ≡ 7)
   -- 2 to 4, 5 to 8, and 9 to 11.
   pub inputs : RefusesEndpoint i e

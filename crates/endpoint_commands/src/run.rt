@@ -23,6 +23,7 @@ use bus_programs::{bus_from, check_bus, node_routes};
 use bus_world::{Start, close_nodes, open_nodes, start_refusal};
 use cell_store::CutCells;
 use cut_disk::CutDisk;
+use kept_starts::{keep_refusal, look_first};
 use line_stream::{StreamFault, stream_lines};
 use program_edge::{InputFault, Refusal, WRITE_FAULT, tell_refusal};
 use std::alloc::{AllocError, Global};
@@ -74,7 +75,8 @@ fn boots(form: EndpointForm) -> bool
 
 /// Runs a node between the channels of a log, and gives the status that the program ends with. The arguments name the
 /// bus file, the map, the log, the disk and an image, if the node is to boot with one first. The node goes on over the
-/// first disk. Each complete line of the log is answered on `sink` before the log is read again. The usage line,
+/// first disk, if its store stands there; an unused disk, all of whose bytes are zeros, is formatted, and any other is
+/// refused. Each complete line of the log is answered on `sink` before the log is read again. The usage line,
 /// refusals and faults are told on `errors`, and nowhere else.
 ///
 /// The statuses are looked for in this order: 2; 5, 8 and 3 of the bus file; 5, 8 and 4 of the map; 5, 8 and 3 of the
@@ -170,7 +172,7 @@ fn prepare_inputs<S: Source, M: Source, I: Source>(
     }
 }
 
-/// Opens the node over the first disk, and lets it answer the log. The disk is handed back.
+/// Looks at the first disk, opens the node over it, and lets it answer the log. The disk is handed back.
 pub(crate) fn do_endpoint<T: Source, K: Sink, E: Sink, D: CutDisk>(
     alloc: Global,
     job: EndpointJob,
@@ -196,6 +198,9 @@ pub(crate) fn do_endpoint<T: Source, K: Sink, E: Sink, D: CutDisk>(
         room,
         image,
     } = job;
+    if let Err(fault) = look_first(alloc, &bus, disks) {
+        return tell_refusal(errors, &keep_refusal(alloc, fault));
+    }
     let mut nodes = match open_nodes(alloc, &bus, disks, Start::Attach) {
         Ok(nodes) => nodes,
         Err(fault) => return tell_refusal(errors, &start_refusal(alloc, &fault)),

@@ -14,7 +14,7 @@ use Rattle.explain_commands.specs.declared.recent.Accepted.{Accepted}
 use Rattle.explain_commands.specs.declared.answers.LineAnswer.{LineAnswer}
 use Rattle.explain_commands.specs.declared.answers.LineAnswer.TheVariants as answer
 use Rattle.explain_commands.specs.declared.kinds.Explained.{Explained}
-use Rattle.explain_commands.specs.Trials.{accepted_freshness}
+use Rattle.explain_commands.specs.Trials.{accepted_freshness, carried_tag}
 use Rattle.explain_commands.specs.Reasons.{Failing, receiver_of, explained}
 use Rattle.explain_commands.specs.ReasonTexts.{explained_line}
 
@@ -22,7 +22,12 @@ use Rattle.explain_commands.specs.ReasonTexts.{explained_line}
 
 -- a frame is accepted with a freshness, or it fails
 abbrev pub answer_by : Failing → ℕ → Option ℕ → LineAnswer
-answer_by f number (Some v) = answer.Accepted (record { number = number; place = f.place; freshness = v })
+answer_by f number (Some v) = answer.Accepted (record {
+  number = number;
+  place = f.place;
+  freshness = v;
+  tag = carried_tag f.receiver f.bytes;
+})
 answer_by f number None = answer.Failed number f.place (explained f)
 
 -- what was known before a line: the map, the counters of its lines, and the frames that were accepted last, the latest

@@ -23,6 +23,8 @@ flipped_text byte bit = codes "bit " ++ decimal bit ++ codes " of byte " ++ deci
 
 abbrev pub reason_text : Reason → List ℕ
 reason_text (reason.Replay number) = text_with_number (codes "replay of line ") number
+reason_text (reason.UsedAgain number) = text_with_number (codes "freshness used again: that of line ") number
+reason_text (reason.Behind steps) = decimal steps ++ codes " behind the last freshness, and not seen in the log"
 reason_text (reason.FarAhead steps window) = ahead_text steps window
 reason_text (reason.OtherLength size) = text_with_number (codes "verifies with a payload of ") size
 reason_text (reason.OtherLine number) = text_with_number (codes "verifies as line ") number
@@ -30,7 +32,14 @@ reason_text (reason.OtherKey number) = text_with_number (codes "verifies with th
 reason_text (reason.OtherId number) = text_with_number (codes "verifies with the Data ID of line ") number
 reason_text reason.SwappedId = codes "verifies with the Data ID's bytes in the other order"
 reason_text reason.SwappedFreshness = codes "verifies with the freshness's bytes in the other order"
+reason_text reason.NoId = codes "verifies without the Data ID"
+reason_text reason.ShortFreshness = codes "verifies with a freshness of 32 bits"
 reason_text reason.LastBytes = codes "authenticator is the CMAC's last bytes"
+reason_text reason.ReversedTag = codes "authenticator's bytes are in the other order"
+reason_text reason.ReversedKey = codes "verifies with the key's bytes in the other order"
+reason_text reason.TrailerFirst = codes "verifies with freshness and authenticator before the payload"
+reason_text (reason.OtherCover size) = text_with_number (codes "authenticated length of the payload is ") size
+reason_text (reason.OtherLow steps) = text_with_number (codes "freshness byte is another: ahead by ") steps
 reason_text (reason.FlippedBit byte bit) = flipped_text byte bit
 reason_text (reason.TooShort size) = text_with_number (codes "too short for a payload of ") size
 reason_text reason.NoReason = codes "no reason found: key, or contents"

@@ -52,6 +52,7 @@ fn answer_case(case: &Case<'_>, number: u64) -> LineAnswer
             number,
             place: case.place(),
             freshness,
+            tag: case.tag(),
         }),
         None => LineAnswer::Failed(number, case.place(), explain(case)),
     }

@@ -2,15 +2,17 @@
 ghost use Rattle.std.specs.Prelude.{◌≡◌, ◌<◌, ◌≤◌, ◌^◌, length, slice_get, option_map, unwrap_or, IfSome};
 ghost use Rattle.secured_pdu.specs.declared.frame.TheConstants.{WIDEST_WINDOW};
 ghost use Rattle.explain_commands.specs.declared.kinds.ReasonKind.TheVariants as kind;
-ghost use Rattle.explain_commands.specs.Trials.{accepted_freshness};
+ghost use Rattle.explain_commands.specs.Trials.{accepted_freshness, carried_tag};
 ghost use Rattle.explain_commands.specs.Explaining.{frame_at};
 ghost use Rattle.explain_commands.specs.Reasons.{receiver_of, trial_of, number_of_tries, reason_at, last_reason, beyond};
-ghost use Rattle.explain_commands.specs.Reasons.{flipped};
+ghost use Rattle.explain_commands.specs.Reasons.{flipped, number_at, passes_or_not, again_at};
 
 use crate::recent::{Accepted, Recent};
 use crate::trials::{
-    Comparison, KnownReceiver, Making, accepted_freshness, trial_ahead, trial_with, trial_within,
+    Comparison, KnownReceiver, Making, accepted_freshness, carried_tag, carries_tag, trial_ahead,
+    trial_behind, trial_covering, trial_turned, trial_unlike, trial_with, trial_within,
 };
+use basics::Block;
 use can_logs::{MapLine, WatchMap};
 use std::marker::Model;
 
@@ -23,8 +25,12 @@ const MOST_BYTES: usize = 64;
 /// A kind of reason. The kinds are looked for in this order.
 #[derive(Clone, Copy)]
 pub enum ReasonKind {
-    /// The freshness of a frame that was accepted.
+    /// The freshness and the authenticator of a frame that was accepted.
     Replay,
+    /// The freshness of a frame that was accepted, with another authenticator.
+    UsedAgain,
+    /// A freshness that isn't above the last one.
+    Behind,
     /// A freshness beyond the window.
     FarAhead,
     /// Another length of the payload.
@@ -39,8 +45,22 @@ pub enum ReasonKind {
     SwappedId,
     /// The bytes of the freshness in the other order.
     SwappedFreshness,
+    /// No Data ID under the authenticator.
+    NoId,
+    /// A freshness of 32 bits under the authenticator.
+    ShortFreshness,
     /// The last bytes of the CMAC in place of the first.
     LastBytes,
+    /// The bytes of the authenticator in the other order.
+    ReversedTag,
+    /// The bytes of the key in the other order.
+    ReversedKey,
+    /// Freshness and authenticator before the payload.
+    TrailerFirst,
+    /// Fewer bytes of the payload under the authenticator, or zeros behind it.
+    OtherCover,
+    /// Another freshness byte.
+    OtherLow,
     /// One bit of the PDU is another.
     FlippedBit,
 }
@@ -48,8 +68,12 @@ pub enum ReasonKind {
 /// Why a frame fails.
 #[derive(Clone, Copy)]
 pub enum Reason {
-    /// Its freshness was accepted before, with the frame of this line of the log.
+    /// Its freshness and its authenticator were accepted before, with the frame of this line of the log.
     Replay(u64),
+    /// Its freshness was accepted before, with the frame of this line of the log, which has another authenticator.
+    UsedAgain(u64),
+    /// Its freshness is so far behind the counter, and of no accepted frame that is kept.
+    Behind(usize),
     /// Its freshness is so far ahead of the counter, which is beyond this window.
     FarAhead(usize, u16),
     /// It verifies with a payload of so many bytes.
@@ -64,8 +88,22 @@ pub enum Reason {
     SwappedId,
     /// It verifies with the bytes of the freshness in the other order.
     SwappedFreshness,
+    /// It verifies without the Data ID.
+    NoId,
+    /// It verifies with a freshness of 32 bits.
+    ShortFreshness,
     /// It carries the last bytes of the CMAC in place of the first.
     LastBytes,
+    /// It carries the bytes of the authenticator in the other order.
+    ReversedTag,
+    /// It verifies with the bytes of the key in the other order.
+    ReversedKey,
+    /// It verifies with freshness and authenticator before the payload.
+    TrailerFirst,
+    /// It verifies if the authenticator covers so many bytes of the payload and of zeros behind it.
+    OtherCover(usize),
+    /// It verifies with the freshness so far ahead of the counter, of which it carries another low byte.
+    OtherLow(usize),
     /// It verifies if this bit of this byte is flipped. Both are counted from 0, the bits from the lowest.
     FlippedBit(usize, usize),
     /// None of these: it has too few bytes for a payload of so many.
@@ -175,13 +213,22 @@ impl<'a> Case<'a> {
         accepted_freshness(&self.receiver, self.bytes)
     }
 
+    /// The authenticator that it carries; zeros if it is too short.
+    pub fn tag(&self) -> [u8; 3]
+        ensures { result ≡ carried_tag self.now.receiver self.now.bytes }
+    {
+        carried_tag(&self.receiver, self.bytes)
+    }
+
     /// A try of a kind, counted from 0.
     pub fn trial(&self, kind: ReasonKind, at: usize) -> Comparison
         requires { at < number_of_tries self.now kind }
         ensures { result ≡ trial_of self.now kind at }
     {
         match kind {
-            ReasonKind::Replay => self.replay(at),
+            ReasonKind::Replay => self.again(at, true),
+            ReasonKind::UsedAgain => self.again(at, false),
+            ReasonKind::Behind => trial_behind(&self.receiver, self.bytes, at as u64),
             ReasonKind::FarAhead => self.far_ahead(at),
             ReasonKind::OtherLength => self.other_length(at),
             ReasonKind::OtherLine => self.other_line(at),
@@ -191,7 +238,20 @@ impl<'a> Case<'a> {
             ReasonKind::SwappedFreshness => {
                 trial_within(Making::SwappedFreshness, &self.receiver, self.bytes)
             }
+            ReasonKind::NoId => trial_within(Making::NoId, &self.receiver, self.bytes),
+            ReasonKind::ShortFreshness => {
+                trial_within(Making::ShortFreshness, &self.receiver, self.bytes)
+            }
             ReasonKind::LastBytes => trial_within(Making::LastBytes, &self.receiver, self.bytes),
+            ReasonKind::ReversedTag => trial_within(
+                Making::ReversedTag,
+                &self.receiver,
+                self.bytes,
+            ),
+            ReasonKind::ReversedKey => self.reversed_key(),
+            ReasonKind::TrailerFirst => trial_turned(&self.receiver, self.bytes),
+            ReasonKind::OtherCover => self.other_cover(at),
+            ReasonKind::OtherLow => trial_unlike(&self.receiver, self.bytes, at as u64 + 1),
             ReasonKind::FlippedBit => self.flipped_bit(at),
         }
     }
@@ -202,11 +262,19 @@ impl<'a> Case<'a> {
         ensures few { result ≤ 65536 }
     {
         match kind {
-            ReasonKind::Replay => self.recent.len(),
-            ReasonKind::FarAhead => FAR,
-            ReasonKind::OtherLength => 60,
+            ReasonKind::Replay | ReasonKind::UsedAgain => self.recent.len(),
+            ReasonKind::Behind | ReasonKind::FarAhead => FAR,
+            ReasonKind::OtherLength | ReasonKind::OtherCover => 60,
             ReasonKind::OtherLine | ReasonKind::OtherKey | ReasonKind::OtherId => self.lines.len(),
-            ReasonKind::SwappedId | ReasonKind::SwappedFreshness | ReasonKind::LastBytes => 1,
+            ReasonKind::SwappedId
+            | ReasonKind::SwappedFreshness
+            | ReasonKind::NoId
+            | ReasonKind::ShortFreshness
+            | ReasonKind::LastBytes
+            | ReasonKind::ReversedTag
+            | ReasonKind::ReversedKey
+            | ReasonKind::TrailerFirst => 1,
+            ReasonKind::OtherLow => usize::from(self.receiver.window),
             ReasonKind::FlippedBit => 8 * (self.receiver.size + 4),
         }
     }
@@ -218,6 +286,8 @@ impl<'a> Case<'a> {
     {
         match kind {
             ReasonKind::Replay => Reason::Replay(self.number_of_accepted(at)),
+            ReasonKind::UsedAgain => Reason::UsedAgain(self.number_of_accepted(at)),
+            ReasonKind::Behind => Reason::Behind(at),
             ReasonKind::FarAhead => Reason::FarAhead(self.beyond() + at, self.receiver.window),
             ReasonKind::OtherLength => Reason::OtherLength(at + 1),
             ReasonKind::OtherLine => Reason::OtherLine(self.numbers[at]),
@@ -225,7 +295,14 @@ impl<'a> Case<'a> {
             ReasonKind::OtherId => Reason::OtherId(self.numbers[at]),
             ReasonKind::SwappedId => Reason::SwappedId,
             ReasonKind::SwappedFreshness => Reason::SwappedFreshness,
+            ReasonKind::NoId => Reason::NoId,
+            ReasonKind::ShortFreshness => Reason::ShortFreshness,
             ReasonKind::LastBytes => Reason::LastBytes,
+            ReasonKind::ReversedTag => Reason::ReversedTag,
+            ReasonKind::ReversedKey => Reason::ReversedKey,
+            ReasonKind::TrailerFirst => Reason::TrailerFirst,
+            ReasonKind::OtherCover => Reason::OtherCover(at + 1),
+            ReasonKind::OtherLow => Reason::OtherLow(at + 1),
             ReasonKind::FlippedBit => Reason::FlippedBit(at / 8, at % 8),
         }
     }
@@ -251,7 +328,7 @@ impl<'a> Case<'a> {
 
     /// The number of the log's line of an accepted frame.
     fn number_of_accepted(&self, at: usize) -> u64
-        ensures { result ≡ unwrap_or (option_map (λ a. a.number) (slice_get self.now.recent at)) 0 }
+        ensures { result ≡ number_at self.now at }
     {
         match self.recent.get(at) {
             Some(accepted) => accepted.number,
@@ -259,9 +336,9 @@ impl<'a> Case<'a> {
         }
     }
 
-    /// The freshness of an accepted frame.
-    fn replay(&self, at: usize) -> Comparison
-        ensures { result ≡ trial_of self.now kind.Replay at }
+    /// The freshness of an accepted frame with the same authenticator, or with another.
+    fn again(&self, at: usize, same: bool) -> Comparison
+        ensures { result ≡ again_at same self.now at }
     {
         let Some(accepted) = self.recent.get(at) else {
             return Comparison::Skipped;
@@ -269,7 +346,33 @@ impl<'a> Case<'a> {
         if accepted.place != self.place {
             return Comparison::Skipped;
         }
+        if !passes_or_not(same, carries_tag(&self.receiver, self.bytes, &accepted.tag)) {
+            return Comparison::Skipped;
+        }
         trial_with(&self.receiver, self.bytes, accepted.freshness)
+    }
+
+    /// The bytes of the key in the other order.
+    fn reversed_key(&self) -> Comparison
+        ensures { result ≡ trial_of self.now kind.ReversedKey 0 }
+    {
+        let mut other = self.receiver;
+        let mut bytes = *other.key.bytes();
+        bytes.reverse();
+        other.key = Block::of(bytes);
+        trial_within(Making::Standard, &other, self.bytes)
+    }
+
+    /// Another length under the authenticator.
+    fn other_cover(&self, at: usize) -> Comparison
+        requires { at < 60 }
+        ensures { result ≡ trial_of self.now kind.OtherCover at }
+    {
+        let count = at + 1;
+        if count == self.receiver.size {
+            return Comparison::Skipped;
+        }
+        trial_covering(&self.receiver, count, self.bytes)
     }
 
     /// A freshness beyond the window.
@@ -342,6 +445,13 @@ impl<'a> Case<'a> {
         flip(bit, bytes);
         trial_within(Making::Standard, &self.receiver, bytes)
     }
+}
+
+/// Whether a test passes, or whether it doesn't.
+fn passes_or_not(passes: bool, test: bool) -> bool
+    ensures { result ≡ passes_or_not passes test }
+{
+    if passes { test } else { !test }
 }
 
 /// Flips one bit. Bits are counted from the first byte on, and in a byte from the lowest.

@@ -6,8 +6,10 @@ use crate::kinds::{Case, Explained, ReasonKind};
 use crate::trials::Comparison;
 
 /// The kinds in their order.
-const KINDS: [ReasonKind; 10] = [
+const KINDS: [ReasonKind; 19] = [
     ReasonKind::Replay,
+    ReasonKind::UsedAgain,
+    ReasonKind::Behind,
     ReasonKind::FarAhead,
     ReasonKind::OtherLength,
     ReasonKind::OtherLine,
@@ -15,7 +17,14 @@ const KINDS: [ReasonKind; 10] = [
     ReasonKind::OtherId,
     ReasonKind::SwappedId,
     ReasonKind::SwappedFreshness,
+    ReasonKind::NoId,
+    ReasonKind::ShortFreshness,
     ReasonKind::LastBytes,
+    ReasonKind::ReversedTag,
+    ReasonKind::ReversedKey,
+    ReasonKind::TrailerFirst,
+    ReasonKind::OtherCover,
+    ReasonKind::OtherLow,
     ReasonKind::FlippedBit,
 ];
 

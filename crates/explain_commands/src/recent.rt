@@ -17,6 +17,8 @@ pub struct Accepted {
     pub place: usize,
     /// Its freshness.
     pub freshness: u64,
+    /// Its authenticator.
+    pub tag: [u8; 3],
 }
 
 /// The frames that were accepted last, at most 65,536. A contract sees the list of them, the latest first.

@@ -27,7 +27,7 @@ Status 0: each mapped frame was accepted, and one at least for each line of MAP 
 ";
 
 /// What is printed for `--version`.
-const VERSION: &str = "explain (Rathonsi) 0.19.0\n";
+const VERSION: &str = "explain (Rathonsi) 0.20.0\n";
 
 /// What is printed if the log fails.
 const LOG_FAILED: &str = "log: read fault\n";

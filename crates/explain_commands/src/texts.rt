@@ -1,6 +1,7 @@
 //! The printed text of a reason. In room that a text has already no memory is taken.
 ghost use Rattle.std.specs.Prelude.{◌≡◌, ◌≤◌, ◌+◌, ◌++◌, length, OnOk, decimal};
 ghost use Rattle.text_lines.specs.Room.{AddsAtMost};
+ghost use Rattle.explain_commands.specs.declared.kinds.Reason.TheVariants as reason;
 ghost use Rattle.explain_commands.specs.ReasonTexts.{text_with_number, beyond_text, ahead_text, flipped_text};
 ghost use Rattle.explain_commands.specs.ReasonTexts.{reason_text, hedge, explained_line};
 
@@ -51,6 +52,10 @@ fn push_reason(text: &mut Vec<u8>, reason: &Reason) -> Result<(), AllocError>
 {
     match *reason {
         Reason::Replay(number) => push_with_number(text, b"replay of line ", number),
+        Reason::UsedAgain(number) => {
+            push_with_number(text, b"freshness used again: that of line ", number)
+        }
+        Reason::Behind(steps) => push_behind(text, steps),
         Reason::FarAhead(steps, window) => push_ahead(text, steps, window),
         Reason::OtherLength(size) => {
             push_with_number(text, b"verifies with a payload of ", size as u64)
@@ -68,13 +73,43 @@ fn push_reason(text: &mut Vec<u8>, reason: &Reason) -> Result<(), AllocError>
         Reason::SwappedFreshness => {
             text.extend_from_slice(b"verifies with the freshness's bytes in the other order")
         }
+        Reason::NoId => text.extend_from_slice(b"verifies without the Data ID"),
+        Reason::ShortFreshness => text.extend_from_slice(b"verifies with a freshness of 32 bits"),
         Reason::LastBytes => text.extend_from_slice(b"authenticator is the CMAC's last bytes"),
+        Reason::ReversedTag => {
+            text.extend_from_slice(b"authenticator's bytes are in the other order")
+        }
+        Reason::ReversedKey => {
+            text.extend_from_slice(b"verifies with the key's bytes in the other order")
+        }
+        Reason::TrailerFirst => text.extend_from_slice(
+            b"verifies with freshness and authenticator before the payload",
+        ),
+        Reason::OtherCover(size) => {
+            push_with_number(
+                text,
+                b"authenticated length of the payload is ",
+                size as u64,
+            )
+        }
+        Reason::OtherLow(steps) => {
+            push_with_number(text, b"freshness byte is another: ahead by ", steps as u64)
+        }
         Reason::FlippedBit(byte, bit) => push_flipped(text, byte, bit),
         Reason::TooShort(size) => {
             push_with_number(text, b"too short for a payload of ", size as u64)
         }
         Reason::NoReason => text.extend_from_slice(b"no reason found: key, or contents"),
     }
+}
+
+/// Adds how far behind a freshness is that isn't in the log.
+fn push_behind(text: &mut Vec<u8>, steps: usize) -> Result<(), AllocError>
+    ensures behind { OnOk result (text.new.items ≡ text.old.items ++ reason_text (reason.Behind steps)) }
+    ensures room { AddsAtMost 180 text.old text.new result }
+{
+    push_number(text, steps as u64)?;
+    text.extend_from_slice(b" behind the last freshness, and not seen in the log")
 }
 
 /// Adds how far ahead a freshness is, and how many frames too many were missed before it.

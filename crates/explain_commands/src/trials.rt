@@ -1,12 +1,17 @@
 //! A frame that is tried as a Secured I-PDU of a receiver.
-ghost use Rattle.std.specs.Prelude.{◌≡◌, ◌+◌, ◌%◌, ◌^◌, ◌<◌, ◌≤◌, length, take, drop, true, Some, None, if◌then◌else◌};
+ghost use Rattle.std.specs.Prelude.{◌≡◌, ◌+◌, ◌-◌, ◌%◌, ◌^◌, ◌<◌, ◌≤◌, ◌++◌, length, take, drop, replicate, true};
+ghost use Rattle.std.specs.Prelude.{Some, None, if◌then◌else◌};
 ghost use Rattle.secured_pdu.specs.Frame.{IsPayload};
 ghost use Rattle.explain_commands.specs.Trials.{tag_by, has_room, has_low, tag_trial, trial_with, candidate};
 ghost use Rattle.explain_commands.specs.Trials.{trial_within, agrees as is_agreement, accepted_freshness};
+ghost use Rattle.explain_commands.specs.Trials.{input_without_id, input_with_32_bits, payload_trial, trial_behind};
+ghost use Rattle.explain_commands.specs.Trials.{trial_unlike, carries_tag, carried_tag, trial_covering, trial_turned};
+ghost use Rattle.she_cmac.specs.Cmac.{cmac};
 
 use basics::Block;
 use secured_pdu::input_mac;
 use she_aes::{Schedule, expand};
+use she_cmac::cmac_of_parts;
 
 /// How a PDU may have been made.
 #[derive(Clone, Copy)]
@@ -17,8 +22,14 @@ pub enum Making {
     SwappedId,
     /// With the bytes of the full freshness in the other order.
     SwappedFreshness,
+    /// Without the Data ID under the authenticator.
+    NoId,
+    /// With a freshness of 32 bits under the authenticator.
+    ShortFreshness,
     /// With the last three bytes of the CMAC in place of the first.
     LastBytes,
+    /// With the bytes of the authenticator in the other order.
+    ReversedTag,
 }
 
 /// What a try comes to.
@@ -81,8 +92,36 @@ fn tag_by(
             let swapped = freshness.swap_bytes();
             first_three(&input_mac(schedule, receiver.id, payload, swapped))
         }
+        Making::NoId => first_three(&mac_without_id(schedule, payload, freshness)),
+        Making::ShortFreshness => {
+            first_three(&mac_with_32_bits(schedule, receiver.id, payload, freshness))
+        }
         Making::LastBytes => last_three(&input_mac(schedule, receiver.id, payload, freshness)),
+        Making::ReversedTag => {
+            let [one, two, three] = first_three(&input_mac(
+                schedule,
+                receiver.id,
+                payload,
+                freshness,
+            ));
+            [three, two, one]
+        }
     }
+}
+
+/// The CMAC without the Data ID.
+fn mac_without_id(schedule: &Schedule, payload: &[u8], freshness: u64) -> Block
+    ensures { result ≡ cmac schedule.now (input_without_id payload.now freshness) }
+{
+    cmac_of_parts(schedule, &[payload, &freshness.to_be_bytes()])
+}
+
+/// The CMAC with a freshness of 32 bits.
+fn mac_with_32_bits(schedule: &Schedule, id: u16, payload: &[u8], freshness: u64) -> Block
+    ensures { result ≡ cmac schedule.now (input_with_32_bits id payload.now freshness) }
+{
+    let low = (freshness % 0x1_0000_0000) as u32;
+    cmac_of_parts(schedule, &[&id.to_be_bytes(), payload, &low.to_be_bytes()])
 }
 
 /// The first three bytes of a CMAC.
@@ -128,8 +167,33 @@ pub fn tag_trial_by(
     requires enough { receiver.now.size + 4 ≤ length bytes.now }
     ensures { result ≡ tag_trial how receiver.now bytes.now freshness }
 {
+    payload_trial(
+        schedule,
+        how,
+        receiver,
+        &bytes[..receiver.size],
+        bytes,
+        freshness,
+    )
+}
+
+/// Computes the authenticator of a payload, and compares it with the one that the bytes carry.
+fn payload_trial(
+    schedule: &Schedule,
+    how: Making,
+    receiver: &KnownReceiver,
+    payload: &[u8],
+    bytes: &[u8],
+    freshness: u64,
+) -> Comparison
+    requires payload { IsPayload payload.now }
+    requires key { schedule.now ≡ receiver.now.key }
+    requires few { receiver.now.size ≤ 60 }
+    requires enough { receiver.now.size + 4 ≤ length bytes.now }
+    ensures { result ≡ payload_trial how receiver.now payload.now bytes.now freshness }
+{
     let size = receiver.size;
-    let tag = tag_by(schedule, how, receiver, &bytes[..size], freshness);
+    let tag = tag_by(schedule, how, receiver, payload, freshness);
     if bytes[size + 1..size + 4] == tag[..] {
         Comparison::Agrees
     } else {
@@ -187,6 +251,51 @@ pub fn trial_ahead(receiver: &KnownReceiver, bytes: &[u8], steps: u64) -> Compar
     }
 }
 
+/// Tries the first bytes of a frame as the PDU with the freshness so far behind the counter.
+#[tactic(auto, unfolding(crate::specs::Trials::trial_behind))]
+pub fn trial_behind(receiver: &KnownReceiver, bytes: &[u8], steps: u64) -> Comparison
+    ensures { result ≡ trial_behind receiver.now bytes.now steps }
+{
+    if steps > receiver.counter {
+        return Comparison::Skipped;
+    }
+    trial_with(receiver, bytes, receiver.counter - steps)
+}
+
+/// Tries the first bytes of a frame as the PDU with the freshness so far ahead of the counter, whatever low byte they
+/// carry.
+#[tactic(auto, unfolding(crate::specs::Trials::trial_unlike))]
+pub fn trial_unlike(receiver: &KnownReceiver, bytes: &[u8], steps: u64) -> Comparison
+    ensures { result ≡ trial_unlike receiver.now bytes.now (receiver.now.counter + steps) }
+{
+    if !has_room(receiver.size, bytes) {
+        return Comparison::Skipped;
+    }
+    match receiver.counter.checked_add(steps) {
+        Some(freshness) => tag_trial(Making::Standard, receiver, bytes, freshness),
+        None => Comparison::Skipped,
+    }
+}
+
+/// Whether the first bytes of a frame carry this authenticator.
+pub fn carries_tag(receiver: &KnownReceiver, bytes: &[u8], tag: &[u8; 3]) -> bool
+    ensures { result ≡ carries_tag receiver.now bytes.now tag.now }
+{
+    let size = receiver.size;
+    has_room(size, bytes) && bytes[size + 1..size + 4] == tag[..]
+}
+
+/// The authenticator that they carry; zeros if they are too short.
+pub fn carried_tag(receiver: &KnownReceiver, bytes: &[u8]) -> [u8; 3]
+    ensures { result ≡ carried_tag receiver.now bytes.now }
+{
+    let size = receiver.size;
+    if !has_room(size, bytes) {
+        return [0; 3];
+    }
+    [bytes[size + 1], bytes[size + 2], bytes[size + 3]]
+}
+
 /// The freshness within the window above a counter that has this low byte.
 fn candidate(counter: u64, window: u16, low: u8) -> Option<u64>
     ensures { result ≡ candidate counter window low }
@@ -227,4 +336,57 @@ pub fn accepted_freshness(receiver: &KnownReceiver, bytes: &[u8]) -> Option<u64>
     } else {
         None
     }
+}
+
+/// What the authenticator covers of a payload of so many bytes, if that is a payload of another length: fewer bytes, or
+/// zeros behind them.
+fn covered(size: usize, bytes: &[u8]) -> [u8; 60]
+    requires few { size ≤ 60 }
+    requires enough { size ≤ length bytes.now }
+    ensures { result ≡ take size bytes.now ++ replicate (60 - size) 0 }
+{
+    let mut room = [0; 60];
+    room[..size].copy_from_slice(&bytes[..size]);
+    room
+}
+
+/// Tries the first bytes of a frame as a PDU whose authenticator covers so many bytes.
+#[tactic(auto, unfolding(crate::specs::Trials::trial_covering))]
+pub fn trial_covering(receiver: &KnownReceiver, count: usize, bytes: &[u8]) -> Comparison
+    requires some { 1 ≤ count }
+    requires few { count ≤ 60 }
+    ensures { result ≡ trial_covering receiver.now count bytes.now }
+{
+    if !has_room(receiver.size, bytes) {
+        return Comparison::Skipped;
+    }
+    let Some(freshness) = candidate(receiver.counter, receiver.window, bytes[receiver.size]) else {
+        return Comparison::Skipped;
+    };
+    let room = covered(receiver.size, bytes);
+    let schedule = expand(&receiver.key);
+    payload_trial(
+        &schedule,
+        Making::Standard,
+        receiver,
+        &room[..count],
+        bytes,
+        freshness,
+    )
+}
+
+/// Tries the first bytes of a frame as a PDU with the freshness and the authenticator before the payload.
+#[tactic(auto, unfolding(crate::specs::Trials::trial_turned))]
+pub fn trial_turned(receiver: &KnownReceiver, bytes: &[u8]) -> Comparison
+    ensures { result ≡ trial_turned receiver.now bytes.now }
+{
+    let size = receiver.size;
+    if !has_room(size, bytes) {
+        return Comparison::Skipped;
+    }
+    let mut room = [0u8; 64];
+    let turned = &mut room[..size + 4];
+    turned.copy_from_slice(&bytes[..size + 4]);
+    turned.rotate_left(4);
+    trial_within(Making::Standard, receiver, turned)
 }

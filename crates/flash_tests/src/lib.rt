@@ -9,6 +9,8 @@ mod histories;
 #[cfg(test)]
 mod lines;
 #[cfg(test)]
+mod logs;
+#[cfg(test)]
 mod parts;
 #[cfg(test)]
 mod plans;

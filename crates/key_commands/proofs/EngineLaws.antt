@@ -1,61 +1,21 @@
 -- One store counts on a disk, and to a disk that gives an engine no cause applies for which it gives none
-use Rattle.std.proofs.Common.{◌≡◌, ◌∙◌, ℕ, ◌<◌, ◌≤◌, List, [], length, get_or, refl, sym, ap, subst, arith, length-take, length-drop}
-use Rattle.std.specs.Prelude.{Option, Some, None}
+use Rattle.std.proofs.Common.{◌≡◌, ◌∙◌, ℕ, ◌<◌, ◌≤◌, List, [], length, get_or, sym, ap, subst, arith, length-take, length-drop}
+use Rattle.std.specs.Prelude.{Some, None}
 use Rattle.std.proofs.lemmas.List.{get_or-map, get_or-take}
 use Rattle.cut_disk.specs.State.{DiskState, Told}
 use Rattle.cut_disk.specs.Calls.{IsDisk}
 use Rattle.key_slots.specs.declared.memory.Slot.{Slot}
 use Rattle.key_slots.specs.declared.memory.Slot.TheVariants.{Empty}
-use Rattle.cell_store.specs.declared.kinds.Kind.{Kind}
-use Rattle.cell_store.specs.declared.kinds.Version.{Version}
-use Rattle.cell_store.specs.declared.kinds.Version.TheVariants.{One, Two}
-use Rattle.cell_store.specs.Layout.{layout, part, base, from_base}
+use Rattle.cell_store.specs.Layout.{part, base, from_base}
 use Rattle.cell_store.specs.Store.{HasHeader, Stands, store_size, FirstDamaged}
-use Rattle.cell_store.proofs.CallerLemmas.{header-number, header-kind, length-header, stands_once, stands-whole}
+use Rattle.cell_store.proofs.CallerLemmas.{length-header, stands_once, stands-whole}
 use Rattle.slot_disk.specs.Cell.{slot_cell, FirstBadSlot, HoldsSlot, HoldSlots}
 use Rattle.program_edge.specs.Rows.{Row}
-use Rattle.key_commands.specs.declared.finding.CountingStore.{CountingStore}
-use Rattle.key_commands.specs.Counting.{HasStore, StoreThatCounts, counting_store, moved_up, not_moved, only_second, no_store}
+use Rattle.any_cells.specs.declared.finding.CountingStore.{CountingStore}
+use Rattle.any_cells.specs.Counting.{StoreThatCounts}
+use Rattle.any_cells.proofs.CallerLemmas.{counts_once}
 use Rattle.key_commands.specs.Opening.{NoEngine, NoEngineIn, layout_of, no_header, none_counts, too_few, no_room, damaged, bad_slot, headless, uncounted, too_few_in, no_room_in, damaged_in, bad_slot_in}
 use Rattle.key_commands.specs.Promises.{HasEngine}
-
--- the bytes at one base are the header of one store
-one_kind : (version : Version) (x : List ℕ) (a b : Kind) (n m : ℕ) → HasStore version x a n → HasStore version x b m → a ≡ b
-one_kind version x a b n m has other = header-kind (layout a version) (layout b version) n m (sym has.1 ∙ other.1)
-
-one_number : (version : Version) (x : List ℕ) (a b : Kind) (n m : ℕ) → HasStore version x a n → HasStore version x b m → n ≡ m
-one_number version x a b n m has other =
-    header-number (layout a version) (layout b version) n m (let f = has.0.most in omega (arith, f)) (let f = other.0.most in omega (arith, f)) (sym has.1 ∙ other.1)
-
-same_store : (version : Version) (a b : Kind) (n m : ℕ) → a ≡ b → n ≡ m → Some (counting_store a version n) ≡ Some (counting_store b version m)
-same_store version a b n m kind number = rw (kind, number) refl
-
-has_other : (version : Version) (x : List ℕ) (a b : Kind) (n m : ℕ) → a ≡ b → n ≡ m → HasStore version x a n → HasStore version x b m
-has_other version x a b n m kind number has = rw (← kind, ← number) has
-
--- so one store counts
-pub counts_once : (x : List ℕ) (a b : Option CountingStore) → StoreThatCounts x a → StoreThatCounts x b → a ≡ b
-counts_once x a b (moved_up k n one two) (moved_up l m one' two') =
-    same_store Two k l n m (one_kind One x k l n m one one') (one_number One x k l n m one one')
-counts_once x a b (moved_up k n one two) (not_moved l m one' none) =
-    absurd (none (has_other Two x k l n m (one_kind One x k l n m one one') (one_number One x k l n m one one') two))
-counts_once x a b (moved_up k n one two) (only_second l m none two') = absurd (none k n one)
-counts_once x a b (moved_up k n one two) (no_store none none') = absurd (none k n one)
-counts_once x a b (not_moved k n one none) (moved_up l m one' two') =
-    absurd (none (has_other Two x l k m n (one_kind One x l k m n one' one) (one_number One x l k m n one' one) two'))
-counts_once x a b (not_moved k n one none) (not_moved l m one' none') =
-    same_store One k l n m (one_kind One x k l n m one one') (one_number One x k l n m one one')
-counts_once x a b (not_moved k n one none) (only_second l m none' two') = absurd (none' k n one)
-counts_once x a b (not_moved k n one none) (no_store none' none'') = absurd (none' k n one)
-counts_once x a b (only_second k n none two) (moved_up l m one' two') = absurd (none l m one')
-counts_once x a b (only_second k n none two) (not_moved l m one' none') = absurd (none l m one')
-counts_once x a b (only_second k n none two) (only_second l m none' two') =
-    same_store Two k l n m (one_kind Two x k l n m two two') (one_number Two x k l n m two two')
-counts_once x a b (only_second k n none two) (no_store none' none'') = absurd (none'' k n two)
-counts_once x a b (no_store none none') (moved_up l m one' two') = absurd (none l m one')
-counts_once x a b (no_store none none') (not_moved l m one' none'') = absurd (none l m one')
-counts_once x a b (no_store none none') (only_second l m none'' two') = absurd (none' l m two')
-counts_once x a b (no_store none none') (no_store none'' none''') = refl
 
 same_found : (x : List ℕ) (a b : CountingStore) → StoreThatCounts x (Some a) → StoreThatCounts x (Some b) → a ≡ b
 same_found x a b first second =

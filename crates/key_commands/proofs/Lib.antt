@@ -1,4 +1,3 @@
-pub mod CountingLaws
 pub mod TextLaws
 pub mod LoadingLaws
 pub mod EndingLaws
@@ -18,4 +17,3 @@ pub mod Values
 pub mod Phases
 pub mod Promises
 pub mod LoadAlone
-pub mod CallerLemmas

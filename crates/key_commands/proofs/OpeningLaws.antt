@@ -15,9 +15,9 @@ use Rattle.cell_store.specs.Attaching.{Attached, NotAttached}
 use Rattle.cell_store.specs.Store.{FewCells, HasHeader}
 use Rattle.cell_store.specs.Cells.{CellsState}
 use Rattle.program_edge.specs.Rows.{Row, memory_row}
-use Rattle.key_commands.specs.declared.finding.CountingStore.{CountingStore}
-use Rattle.key_commands.specs.Counting.{StoreThatCounts, moved_up, not_moved, only_second, no_store}
-use Rattle.key_commands.specs.Finding.{NotLooked, no_header, not_read}
+use Rattle.any_cells.specs.declared.finding.CountingStore.{CountingStore}
+use Rattle.any_cells.specs.Counting.{StoreThatCounts, moved_up, not_moved, only_second, no_store}
+use Rattle.any_cells.specs.Finding.{NotLooked, no_header, not_read}
 use Rattle.key_commands.specs.Loader.{LoaderState, HoldsAll}
 use Rattle.key_commands.specs.Opening.{HasCounting, HasNoSlot, LacksEngine, NoEngine, GivesNoEngine, OnlyRead, OpensLoader, most_to_attach, most_to_open, fault_row, few_cells_row, has_none, layout_of, TellsStoreFault}
 use Rattle.key_commands.specs.Opening as opening

@@ -1,5 +1,3 @@
-pub mod Counting
-pub mod Finding
 pub mod LoadTexts
 pub mod Answers
 pub mod Loader

@@ -15,8 +15,8 @@ use Rattle.cell_store.specs.Store.{FewCells, FirstDamaged, Stands, store_size}
 use Rattle.cell_store.specs.Cells.{Settled}
 use Rattle.slot_disk.specs.Cell.{FirstBadSlot}
 use Rattle.program_edge.specs.Rows.{Row, row_of, memory_row}
-use Rattle.key_commands.specs.declared.finding.CountingStore.{CountingStore}
-use Rattle.key_commands.specs.Counting.{StoreThatCounts}
+use Rattle.any_cells.specs.declared.finding.CountingStore.{CountingStore}
+use Rattle.any_cells.specs.Counting.{StoreThatCounts}
 use Rattle.key_commands.specs.Loader.{LoaderState, HoldsAll}
 
 -- the text of a cause, after `store: ` and with a line feed

@@ -16,7 +16,7 @@ use Rattle.slot_disk.specs.Cell.{HoldSlots}
 use Rattle.program_edge.specs.Rows.{Row}
 use Rattle.program_edge.specs.Inputs.{Lacks, CountsFault, CountsTooMuch, Offers}
 use Rattle.program_edge.specs.Endings.{Ending, EndsIn, MayEndIn, PrintsWhole, PrintsFront, SinkFailed, CountsWriteFault}
-use Rattle.key_commands.specs.declared.finding.CountingStore.{CountingStore}
+use Rattle.any_cells.specs.declared.finding.CountingStore.{CountingStore}
 use Rattle.key_commands.specs.declared.lines.LoadLine.{LoadLine}
 use Rattle.key_commands.specs.declared.lines.LoadLine.TheVariants.{Failed}
 use Rattle.key_commands.specs.LoadTexts.{load_text}

@@ -7,9 +7,8 @@ ghost use Rattle.key_commands.specs.Opening.{HasCounting, HasNoSlot, GivesNoEngi
 ghost use Rattle.key_commands.specs.Opening.{most_to_attach, most_to_open, bad_slot_row};
 ghost use Rattle.key_commands.specs.Loader.{HoldsAll};
 
-use crate::finding::{CountingStore, find_store};
 use crate::loader::Loader;
-use any_cells::{AnyCells, fixed_fault_text, store_fault_text};
+use any_cells::{AnyCells, CountingStore, find_store, fixed_fault_text, store_fault_text};
 use cell_store::{Cells, StoreFault};
 use cut_disk::Disk;
 use key_slots::SlotId;

@@ -1,17 +1,17 @@
 -- The greatest counter of a unit and slot, and a row that is added
-use Rattle.std.proofs.Common.{◌≡◌, ℕ, ◌≤◌, Bool, true, false, cond, List, [], ◌∷◌, map, filter, All, Any, refl, arith}
+use Rattle.std.proofs.Common.{◌≡◌, ◌∙◌, ℕ, ◌≤◌, Bool, true, false, cond, Option, None, Some, List, [], ◌∷◌, length, map, filter, All, Any, refl, ap, arith}
 use Rattle.std.specs.List.{AllByRecursion}
 use Rattle.std.specs.List.Sorted.{IsPermutation}
 use Rattle.std.proofs.Math.Nat.{le_refl, le-max_left, le-max_right, max-le}
 use Rattle.std.proofs.lemmas.List.Elements.{All-from_recursion, recursion_from_All}
-use Rattle.std.proofs.lemmas.List.Sorted.{All-permutation, Contains-permutation, IsPermutation-sym}
+use Rattle.std.proofs.lemmas.List.Sorted.{All-permutation, Contains-permutation, IsPermutation-sym, length_permutation}
 use Rattle.key_campaign.specs.declared.commands.Confirm.{Confirm}
 use Rattle.key_campaign.specs.declared.lines.LedgerRefusal.{LedgerRefusal}
 use Rattle.key_campaign.specs.declared.lines.LedgerRefusal.TheVariants as refusal
 use Rattle.ledger_rows.specs.declared.kinds.RowKind.TheVariants.{Issued, Confirmed}
 use Rattle.ledger_rows.specs.declared.kinds.SlotRow.{SlotRow}
 use Rattle.ledger_rows.specs.Rows.{LedgerRow, is_row_of, slot_row, greatest_in, last_counter}
-use Rattle.ledger_rows.specs.Steps.{AddsRow, AnswersRow, HasConfirmed, RefusesAnswer}
+use Rattle.ledger_rows.specs.Steps.{AddsRow, AnswersRow, HasConfirmed, RefusesAnswer, IsShown}
 
 -- the greatest counter of the rows, with one before them if b holds
 abbrev greatest_if : Bool → LedgerRow → List LedgerRow → ℕ
@@ -77,7 +77,7 @@ greatest_permuted xs ys same =
 
 -- ---- what a reply answers, of rows in any order
 
-pub any_permuted : (P : SlotRow → Type 0) (xs ys : List SlotRow) → IsPermutation xs ys → Any P xs → Any P ys
+pub any_permuted : {X : Type 0} (P : X → Type 0) (xs ys : List X) → IsPermutation xs ys → Any P xs → Any P ys
 any_permuted P xs ys same it =
     let there = Contains-permutation xs ys it.1 same (it.0, it.2, it.3) in
     (there.0, it.1, there.1, there.2, it.4)
@@ -103,3 +103,18 @@ refuses_permuted k xs ys same refusal.MemoryFailure h = absurd h
 refuses_permuted k xs ys same refusal.NotFormatted h = absurd h
 refuses_permuted k xs ys same (refusal.Damaged cell) h = absurd h
 refuses_permuted k xs ys same (refusal.BadEntry cell) h = absurd h
+
+-- ---- what is shown
+
+no_rows : (xs ys : List SlotRow) → IsPermutation xs ys → xs ≡ [] → ys ≡ []
+no_rows xs [] same none = refl
+no_rows xs (y ∷ ys) same none = absurd (let long = length_permutation xs (y ∷ ys) same in let short = ap length none in omega (arith, long, short))
+
+pub shown_permuted : (xs ys : List SlotRow) → IsPermutation xs ys → (told : Option (ℕ × Bool)) → IsShown xs told → IsShown ys told
+shown_permuted xs ys same None h = no_rows xs ys same h
+shown_permuted xs ys same (Some (counter, confirmed)) h =
+    let P = λ (row : SlotRow). (row.kind ≡ Confirmed) × (row.counter ≡ counter) in (
+      λ none. h.0 (no_rows ys xs (IsPermutation-sym xs ys same) none),
+      h.1 ∙ greatest_permuted xs ys same,
+      (λ yes. any_permuted P xs ys same (h.2.0 yes), λ has. h.2.1 (any_permuted P ys xs (IsPermutation-sym xs ys same) has)),
+    )

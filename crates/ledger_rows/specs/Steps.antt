@@ -1,6 +1,6 @@
 -- What a command adds to the rows of a ledger (own; updates, their pairs of slots and their replies are those of the
 -- SHE specification)
-use Rattle.std.specs.Prelude.{◌≡◌, ℕ, ◌+◌, ◌≤◌, true, false, List, ◌∷◌, All, Any}
+use Rattle.std.specs.Prelude.{◌≡◌, ◌≢◌, ◌↔◌, ℕ, ◌+◌, ◌≤◌, Bool, true, false, Option, None, Some, List, [], ◌∷◌, All, Any}
 use Rattle.std.specs.List.Sorted.{IsPermutation}
 use Rattle.key_slots.specs.Authority.{is_pair}
 use Rattle.key_campaign.specs.declared.commands.Issue.{Issue}
@@ -12,7 +12,7 @@ use Rattle.key_campaign.specs.Steps.{ConfirmsWith}
 use Rattle.ledger_rows.specs.declared.kinds.RowKind.TheVariants.{Issued, Confirmed}
 use Rattle.ledger_rows.specs.declared.kinds.SlotRow.{SlotRow}
 use Rattle.ledger_rows.specs.Check.{key_check}
-use Rattle.ledger_rows.specs.Rows.{RowOrigin, LedgerRow, slot_rows, last_counter}
+use Rattle.ledger_rows.specs.Rows.{RowOrigin, LedgerRow, slot_rows, greatest_in, last_counter}
 
 -- the rows are those of before and this one, in any order
 abbrev pub AddsRow : LedgerRow → List LedgerRow → List LedgerRow → Type 0
@@ -81,3 +81,12 @@ RefusesAnswer rows k refusal.NotConfirmed =
     Any (λ row. row.kind ≡ Issued) rows × All (λ row. ¬ AnswersRow k row) rows
 RefusesAnswer rows k refusal.AlreadyConfirmed = Any (λ row. AnswersRow k row × HasConfirmed row.counter rows) rows
 RefusesAnswer rows k _ = ⊥
+
+-- ---- a look
+
+-- what is shown of the rows of a unit and slot: nothing exactly if there is no row, or the greatest counter, and whether
+-- it was confirmed
+abbrev pub IsShown : List SlotRow → Option (ℕ × Bool) → Type 0
+IsShown rows None = rows ≡ []
+IsShown rows (Some (counter, confirmed)) =
+    (rows ≢ []) × (counter ≡ greatest_in rows) × ((confirmed ≡ true) ↔ HasConfirmed counter rows)

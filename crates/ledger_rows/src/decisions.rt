@@ -5,7 +5,7 @@ ghost use Rattle.key_campaign.specs.Entries.{greatest_counter};
 ghost use Rattle.ledger_rows.specs.Check.{key_check};
 ghost use Rattle.ledger_rows.specs.Rows.{greatest_in};
 ghost use Rattle.ledger_rows.specs.declared.kinds.RowKind.TheVariants.{Issued};
-ghost use Rattle.ledger_rows.specs.Steps.{AnswersRow, HasConfirmed, RefusesAnswer};
+ghost use Rattle.ledger_rows.specs.Steps.{AnswersRow, HasConfirmed, RefusesAnswer, IsShown};
 
 use crate::check::check_value;
 use crate::kinds::{RowKind, SlotRow};
@@ -106,4 +106,16 @@ pub fn answered_row(rows: &[SlotRow], confirm: &Confirm) -> Result<Counter28, Le
         return Err(LedgerRefusal::AlreadyConfirmed);
     }
     Ok(counter)
+}
+
+/// What is shown of a unit and slot: the greatest counter of its rows, and whether it was confirmed; `None` if there is
+/// no row.
+pub fn shown(rows: &[SlotRow]) -> Option<(Counter28, bool)>
+    ensures { IsShown rows.now result }
+{
+    if rows.is_empty() {
+        return None;
+    }
+    let counter = Counter28::new(greatest(rows))?;
+    Some((counter, has_confirmed(rows, counter)))
 }

@@ -4,7 +4,7 @@
 //! station, the operator and the time that the caller names. `IssuesRow` and `ConfirmsRow` say which row a command
 //! adds, `RefusesRow` when there is none. [`laws`] says what holds of all runs of a file, whatever a crash left between
 //! two calls: the counters that are answered for a unit and slot strictly rise, no row goes, and each confirmed row has
-//! its reply. [`next_counter`] and [`answered_row`] decide over the rows of one unit and slot.
+//! its reply. [`next_counter`], [`answered_row`] and [`shown`] decide over the rows of one unit and slot.
 #![tactic(auto)]
 
 mod check;
@@ -13,5 +13,5 @@ mod kinds;
 pub mod laws;
 
 pub use check::check_value;
-pub use decisions::{answered_row, next_counter};
+pub use decisions::{answered_row, next_counter, shown};
 pub use kinds::{RowKind, SlotRow};

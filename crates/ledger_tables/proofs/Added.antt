@@ -43,19 +43,19 @@ either : (b : Bool) (x : Value) → cond b x x ≡ x
 either true x = refl
 either false x = refl
 
-cast_null : cast Integer Null ≡ Null
+pub cast_null : cast Integer Null ≡ Null
 unfolding unary
 cast_null = either _ Null
 
-cast_int : (n : ℤ) → cast Integer (Int n) ≡ Int n
+pub cast_int : (n : ℤ) → cast Integer (Int n) ≡ Int n
 unfolding unary
 cast_int n = either _ (Int n)
 
-went : {B E R : Type 0} {b : B} {Stops : E → Type 0} → ((stop : E) × Stops stop × (Ok b ≡ Err stop)) ⊎ R → R
+pub went : {B E R : Type 0} {b : B} {Stops : E → Type 0} → ((stop : E) × Stops stop × (Ok b ≡ Err stop)) ⊎ R → R
 went (inl stopped) = absurd (let e = stopped.2 in cc)
 went (inr on) = on
 
-same_value : {B E : Type 0} {a b : B} → ◌≡◌ {A = Result B E} (Ok a) (Ok b) → a ≡ b
+pub same_value : {B E : Type 0} {a b : B} → ◌≡◌ {A = Result B E} (Ok a) (Ok b) → a ≡ b
 same_value e = cc
 
 no_taken : (a b : Bool) → (not a && b) ≡ true → a ≡ false
@@ -137,8 +137,14 @@ module _ (row : NewRow) (station operator time : List ℕ) where
   adds old new (Err e) has h = (tt, tt)
   adds old new (Ok count) has h =
       let w = writes old new count has.schema h in
-      let d = does old.step_limit (mode_of old) old.now new.now w.tally has.schema w.changed in
-      (d.1, record { schema = d.0; alone = w.shown.mode ∙ has.alone })
+      let d = does old.step_limit (mode_of old) old.now new.now w.tally has.schema w.changed in (
+        d.1,
+        record {
+          schema = d.0;
+          alone = w.shown.mode ∙ has.alone;
+          settled = subst (λ b. new.committed ≡ cond b old.committed new.now) has.alone w.shown.committed_is;
+        },
+      )
 
   -- outside a transaction a crash leaves the row
   pub keeps : (old new : State) (r : Result ℕ Error) → HasLedgerTable old → ((db : Trees) → IsTrue new.is_open → new.may_leave db → db ≡ new.committed.trees)

@@ -5,3 +5,5 @@ pub mod Stated
 pub mod Deciding
 pub mod Created
 pub mod Tables
+pub mod Failed
+pub mod Damaged

@@ -79,7 +79,7 @@ module _ (uid : List ℕ) (id : ℕ) where
   abbrev pub asked : Row
   asked = Blob uid ∷ Int (pos id) ∷ []
 
-  abbrev test_of : Value → Value → Bool
+  abbrev pub test_of : Value → Value → Bool
   test_of a b = equals a (Blob uid) && (equals b (Int (pos id)) && true)
 
   abbrev taken_in : Value → Option SlotRow → Option SlotRow
@@ -124,7 +124,7 @@ module _ (uid : List ℕ) (id : ℕ) where
 
   -- ---- all rows
 
-  abbrev found : List Row → List Env
+  abbrev pub found : List Row → List Env
   found rows = flat_map (λ r. cond (list_all (holds (asked ∷ r ∷ [])) slot_filter) ((asked ∷ r ∷ []) ∷ []) []) rows
 
   abbrev pieces_of : List Env → List (Option SlotRow)

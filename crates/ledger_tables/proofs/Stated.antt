@@ -1,5 +1,5 @@
 -- What leaves the database as it was
-use Rattle.std.proofs.Common.{◌≡◌, ℕ, List, Result, Ok, Err, OnOk, sym, ap, subst, ◌∙◌, arith}
+use Rattle.std.proofs.Common.{◌≡◌, ℕ, List, Result, Ok, Err, OnErr, OnOk, sym, ap, subst, ◌∙◌, arith}
 use Rattle.sqlite_value.specs.Order.{Row}
 use Rattle.sqlite_schema.specs.declared.schema.Schema.{Schema}
 use Rattle.sqlite.specs.Effect.{Database}
@@ -31,8 +31,13 @@ pub still : (old new : State) → IsUnchanged old new → HasLedgerTable old →
 still old new same has = record {
   schema = ap (λ (d : Database). d.schema) same.0.now_is ∙ has.schema;
   alone = same.0.mode ∙ has.alone;
+  settled = same.0.committed_is ∙ has.settled ∙ sym same.0.now_is;
 }
 
 pub on_ok : {T E P : Type 0} (r : Result T E) → P → OnOk r P
 on_ok (Ok x) p = p
 on_ok (Err e) p = tt
+
+pub on_err : {T E P : Type 0} (r : Result T E) → P → OnErr r P
+on_err (Ok x) p = tt
+on_err (Err e) p = p

@@ -1,5 +1,5 @@
 -- What the texts of the statements mean
-use Rattle.std.proofs.Common.{◌≡◌, ℕ, pos, negsuc, List, [], ◌∷◌, codes, false, None, Ok, refl}
+use Rattle.std.proofs.Common.{◌≡◌, ℕ, pos, negsuc, List, [], ◌∷◌, length, codes, false, None, Ok, Err, Result, refl}
 use Rattle.sqlite_value.specs.declared.value.Value.TheVariants.{Null, Int}
 use Rattle.sqlite_value.specs.declared.keys.Collation.TheVariants.{Binary}
 use Rattle.sqlite_sql.specs.Term.{Term, lit, col, op2}
@@ -9,6 +9,8 @@ use Rattle.sqlite_sql.specs.Query.{Query, inner, end}
 use Rattle.sqlite_schema.specs.declared.command.Source.TheVariants.{Values}
 use Rattle.sqlite_schema.specs.declared.command.Command.TheVariants.{Insert, Select, CreateTable}
 use Rattle.sqlite_resolve.specs.Compile.{table_defined_by}
+use Rattle.sqlite_resolve.specs.declared.compiled.Compiled.{Compiled}
+use Rattle.sqlite_resolve.specs.declared.error.CompileError.{CompileError}
 use Rattle.sqlite_tied.specs.Compute.{everything}
 use Rattle.sqlite.specs.Listing.{understood, reads_listing}
 use Rattle.sqlite.proofs.Callers.{IsPlain, command_of, statement_of}
@@ -42,6 +44,11 @@ slot_query = record {
   offset = lit (Int (pos 0));
 }
 
+-- the text is one statement with this many parameters, and reads no clock
+abbrev pub IsOneStatement : List ℕ → ℕ → Result Compiled CompileError → Type 0
+IsOneStatement sql count (Ok c) = (c.tail ≡ length sql) × (count ≡ length c.names) × (c.formats ≡ [])
+IsOneStatement sql count (Err e) = ⊥
+
 pub create_is : (command_of (understood no_schema create_text) ≡ CreateTable) × (statement_of create_text (understood no_schema create_text) ≡ create_text) × (table_defined_by create_text ≡ Ok entry_table)
 unfolding understood everything
 create_is = (refl, refl, refl)
@@ -65,3 +72,15 @@ slot_plain = (refl, refl)
 pub insert_plain : IsPlain (understood ledger_schema insert_text)
 unfolding understood everything
 insert_plain = (refl, refl)
+
+pub create_one : IsOneStatement create_text 0 (understood no_schema create_text)
+unfolding understood everything
+create_one = (refl, refl, refl)
+
+pub slot_one : IsOneStatement slot_text 2 (understood ledger_schema slot_text)
+unfolding understood everything
+slot_one = (refl, refl, refl)
+
+pub insert_one : IsOneStatement insert_text 9 (understood ledger_schema insert_text)
+unfolding understood everything
+insert_one = (refl, refl, refl)

@@ -69,7 +69,8 @@ ledger_of rows = filter_map entry_in rows
 abbrev pub ledger_in : State → List LedgerRow
 ledger_in s = ledger_of (s.now.trees 0)
 
--- the file has the table of a ledger and nothing else, and no transaction is open
+-- the file has the table of a ledger and nothing else, and nothing waits for a commit
 pub record HasLedgerTable (s : State) : Type 0 where
   pub schema : s.now.schema ≡ ledger_schema
   pub alone : s.in_transaction ≡ false
+  pub settled : s.committed ≡ s.now

@@ -1,4 +1,5 @@
 pub mod Table
 pub mod Held
 pub mod Adding
+pub mod Failing
 pub mod Reading

@@ -1,12 +1,13 @@
 //! A row that is added.
 
-ghost use Rattle.std.specs.Prelude.{◌≡◌, OnOk};
+ghost use Rattle.std.specs.Prelude.{◌≡◌, IfErr, OnErr, OnOk};
 ghost use Rattle.sqlite.specs.State.{HasCleanDisk, Survives};
 ghost use Rattle.sqlite.specs.Held.{state};
 ghost use Rattle.sqlite_trees.specs.Tree.{Trees};
 ghost use Rattle.ledger_rows.specs.Steps.{AddsRow};
 ghost use Rattle.ledger_tables.specs.Held.{ledger_of, ledger_in, HasLedgerTable};
 ghost use Rattle.ledger_tables.specs.Adding.{row_of_new, origin_by};
+ghost use Rattle.ledger_tables.specs.Failing.{FailsToAdd, IsUndone};
 
 use key_slots::{Counter28, SlotId};
 use ledger_rows::RowKind;
@@ -40,6 +41,11 @@ pub(crate) fn add<S: Alter>(
         (ledger_in (state S.Store conn.old)) (ledger_in (state S.Store conn.new))) }
     ensures ready { HasCleanDisk (state S.Store conn.new)
         → OnOk result (HasLedgerTable (state S.Store conn.new)) }
+    ensures failed { HasCleanDisk (state S.Store conn.new) → IfErr result
+        (FailsToAdd (row_of_new row.now (origin_by station.now operator.now time.now))
+        (state S.Store conn.old) (state S.Store conn.new)) }
+    ensures undone { HasCleanDisk (state S.Store conn.new)
+        → OnErr result (IsUndone (state S.Store conn.old) (state S.Store conn.new)) }
     ensures kept { HasCleanDisk (state S.Store conn.new)
         → OnOk result ((left : Trees) → (state S.Store conn.new).may_leave left
         → left ≡ (state S.Store conn.new).now.trees) }

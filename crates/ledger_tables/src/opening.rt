@@ -1,10 +1,13 @@
 //! The table of a file that is opened.
 
-ghost use Rattle.std.specs.Prelude.{◌≡◌, false, [], ◌↔◌, IsTrue, IfOk, OnOk};
+ghost use Rattle.std.specs.Prelude.{◌≡◌, false, [], ◌↔◌, IsTrue, IfErr, IfOk, OnOk};
 ghost use Rattle.sqlite.specs.State.{HasCleanDisk, Survives};
 ghost use Rattle.sqlite.specs.Held.{state};
 ghost use Rattle.ledger_tables.specs.Table.{ledger_schema, no_schema};
+ghost use Rattle.sqlite.specs.declared.error.ErrorCode.TheVariants.{OutOfMemory};
+ghost use Rattle.sqlite.specs.declared.error.Error.TheVariants.{SqliteFailure};
 ghost use Rattle.ledger_tables.specs.Held.{ledger_of, ledger_in, HasLedgerTable};
+ghost use Rattle.ledger_tables.specs.Failing.{HasFailed};
 
 use crate::schemas::{is_ledger_schema, is_no_schema};
 use sqlite::{Alter, Connection, Error};
@@ -16,6 +19,8 @@ fn create<S: Alter>(conn: &mut Connection<S>) -> Result<usize, Error>
     requires alone { (state S.Store conn.old).in_transaction ≡ false }
     ensures ready { HasCleanDisk (state S.Store conn.new) → OnOk result (HasLedgerTable (state S.Store conn.new)) }
     ensures none { HasCleanDisk (state S.Store conn.new) → OnOk result (ledger_in (state S.Store conn.new) ≡ []) }
+    ensures failed { HasCleanDisk (state S.Store conn.new)
+        → IfErr result (HasFailed (state S.Store conn.old) (state S.Store conn.new)) }
     ensures crash { Survives (state S.Store conn.old) (state S.Store conn.new) (λ left. ledger_of (left 0) ≡ []) }
 {
     conn.execute(
@@ -33,6 +38,8 @@ pub fn new_ledger<S: Alter>(conn: &mut Connection<S>) -> Result<bool, Error>
         → HasLedgerTable (state S.Store conn.new) × (ledger_in (state S.Store conn.new) ≡ [])) }
     ensures something { IfOk result (λ made. made ≡ false
         → (¬ ((state S.Store conn.old).now.schema ≡ no_schema)) × (conn.new ≡ conn.old)) }
+    ensures failed { HasCleanDisk (state S.Store conn.new)
+        → IfErr result (HasFailed (state S.Store conn.old) (state S.Store conn.new)) }
     ensures crash { Survives (state S.Store conn.old) (state S.Store conn.new) (λ left. ledger_of (left 0) ≡ []) }
 {
     if !is_no_schema(conn.schema()) {
@@ -44,7 +51,8 @@ pub fn new_ledger<S: Alter>(conn: &mut Connection<S>) -> Result<bool, Error>
 
 /// Sees that an opened file has the table of a ledger and nothing else.
 pub fn is_ledger<S: Alter>(conn: &Connection<S>, alloc: Global) -> Result<bool, Error>
-    ensures { IfOk result (λ yes. IsTrue yes ↔ ((state S.Store conn.now).now.schema ≡ ledger_schema)) }
+    ensures is { IfOk result (λ yes. IsTrue yes ↔ ((state S.Store conn.now).now.schema ≡ ledger_schema)) }
+    ensures failed { IfErr result (λ e. e ≡ SqliteFailure OutOfMemory) }
 {
     Ok(is_ledger_schema(alloc, conn.schema())?)
 }

@@ -1,20 +1,25 @@
 //! The rows of a unit and slot.
 
-ghost use Rattle.std.specs.Prelude.{◌≡◌, ◌<◌, ℕ, pos, IfOk, OnOk, map, length};
+ghost use Rattle.std.specs.Prelude.{◌≡◌, ◌⊎◌, ◌≤◌, ℕ, pos, Any, IfErr, IfNone, IfOk, IfSome, OnErr, OnOk, map, length};
 ghost use Rattle.std.specs.Option.{option_and_then};
 ghost use Rattle.std.specs.List.Sorted.{IsPermutation};
-ghost use Rattle.sqlite_value.specs.declared.value.Value.TheVariants.{Int, Blob};
+ghost use Rattle.key_campaign.specs.Entries.{greatest_counter};
+ghost use Rattle.sqlite_value.specs.declared.value.Value.TheVariants.{Blob};
 ghost use Rattle.sqlite_value.specs.Order.{column};
 ghost use Rattle.sqlite.specs.State.{HasCleanDisk, IsUnchanged, Survives};
 ghost use Rattle.sqlite.specs.Held.{state};
+ghost use Rattle.sqlite.specs.declared.error.ErrorCode.TheVariants.{DatabaseCorrupt, OutOfMemory};
+ghost use Rattle.sqlite.specs.declared.error.Error.TheVariants.{SqliteFailure};
 ghost use Rattle.ledger_rows.specs.Kinds.{row_kind_of};
 ghost use Rattle.ledger_rows.specs.Rows.{slot_rows};
-ghost use Rattle.ledger_tables.specs.Held.{text_held, ledger_in, HasLedgerTable};
-ghost use Rattle.ledger_tables.specs.Reading.{shown_slot_row};
+ghost use Rattle.ledger_tables.specs.Held.{number_held, text_held, blob_held, ledger_in, HasLedgerTable};
+ghost use Rattle.ledger_tables.specs.Reading.{shown_slot_row, IsShownWhole};
+ghost use Rattle.ledger_tables.specs.Failing.{FailsToLook, IsUndone};
 
 use key_slots::{Counter28, SlotId};
 use ledger_rows::{RowKind, SlotRow};
 use memory_update::Uid;
+use sqlite::types::ValueRef;
 use sqlite::{Alter, Connection, Error, ErrorCode, Row, params};
 use std::alloc::Global;
 
@@ -22,46 +27,56 @@ use std::alloc::Global;
 const DAMAGED: Error = Error::SqliteFailure(ErrorCode::DatabaseCorrupt);
 
 /// The check value of a row: three bytes.
-fn check_of_row(row: &Row) -> Result<[u8; 3], Error>
-    ensures { IfOk result (λ check. (3 < length row.now) × (column row.now 3 ≡ Blob check)) }
+fn check_of_row(row: &Row) -> Option<[u8; 3]>
+    ensures some { IfSome result (λ check. blob_held (column row.now 3) ≡ Some check) }
+    ensures none { IfNone result ((check : _) → blob_held (column row.now 3) ≡ Some check → ¬ (length check ≡ 3)) }
 {
-    let bytes: Vec<u8> = row.get(3)?;
+    let Ok(ValueRef::Blob(bytes)) = row.get_ref(3) else {
+        return None;
+    };
     if bytes.len() != 3 {
-        return Err(DAMAGED);
+        return None;
     }
     let mut check = [0; 3];
-    check.copy_from_slice(bytes.as_slice());
-    Ok(check)
+    check.copy_from_slice(bytes);
+    Some(check)
 }
 
 /// What a row was added for.
-fn kind_of_row(row: &Row) -> Result<RowKind, Error>
-    ensures { IfOk result (λ kind. option_and_then row_kind_of (text_held (column row.now 2)) ≡ Some kind) }
+fn kind_of_row(row: &Row) -> Option<RowKind>
+    ensures { option_and_then row_kind_of (text_held (column row.now 2)) ≡ result }
 {
-    let word: String = row.get(2)?;
-    match RowKind::of_word(word.as_bytes()) {
-        Some(kind) => Ok(kind),
-        None => Err(DAMAGED),
+    match row.get_ref(2) {
+        Ok(ValueRef::Text(word)) => RowKind::of_word(word),
+        _ => None,
+    }
+}
+
+/// A number of a row.
+fn number_of_row(row: &Row, at: usize) -> Option<u64>
+    ensures { number_held (column row.now at) ≡ result }
+{
+    match row.get_ref(at) {
+        Ok(ValueRef::Int(number)) => u64::try_from(number).ok(),
+        _ => None,
     }
 }
 
 /// The counter of a row.
-fn counter_of_row(row: &Row) -> Result<Counter28, Error>
-    ensures { IfOk result (λ counter. (column row.now 1 ≡ Int (pos counter))
-        × ((id : ℕ) × (column row.now 0 ≡ Int (pos id)))) }
+fn counter_of_row(row: &Row) -> Option<Counter28>
+    ensures some { IfSome result (λ counter. number_held (column row.now 1) ≡ Some counter) }
+    ensures none { IfNone result ((n : ℕ) → number_held (column row.now 1) ≡ Some n → ¬ (n ≤ greatest_counter)) }
 {
-    let _id: u32 = row.get(0)?;
-    match Counter28::new(row.get(1)?) {
-        Some(counter) => Ok(counter),
-        None => Err(DAMAGED),
-    }
+    Counter28::new(u32::try_from(number_of_row(row, 1)?).ok()?)
 }
 
 /// A row as it is shown: slot, counter, what and kcv.
-fn slot_row_of(row: &Row) -> Result<SlotRow, Error>
-    ensures { IfOk result (λ it. shown_slot_row row.now ≡ Some it) }
+fn slot_row_of(row: &Row) -> Option<SlotRow>
+    ensures some { IfSome result (λ it. shown_slot_row row.now ≡ Some it) }
+    ensures none { IfNone result (¬ IsShownWhole row.now) }
 {
-    Ok(SlotRow {
+    let _id = number_of_row(row, 0)?;
+    Some(SlotRow {
         counter: counter_of_row(row)?,
         kind: kind_of_row(row)?,
         check: check_of_row(row)?,
@@ -70,11 +85,16 @@ fn slot_row_of(row: &Row) -> Result<SlotRow, Error>
 
 /// Each row, as it is shown.
 fn each_slot_row(alloc: Global, rows: &[Row]) -> Result<Vec<SlotRow>, Error>
-    ensures { IfOk result (λ read. map shown_slot_row rows.now ≡ map Some read.items) }
+    ensures read { IfOk result (λ read. map shown_slot_row rows.now ≡ map Some read.items) }
+    ensures failed { IfErr result (λ e. (e ≡ SqliteFailure OutOfMemory)
+        ⊎ ((e ≡ SqliteFailure DatabaseCorrupt) × Any (λ row. ¬ IsShownWhole row) rows.now)) }
 {
     let mut read = Vec::new(alloc);
     for row in rows {
-        read.push(slot_row_of(row)?)?;
+        let Some(it) = slot_row_of(row) else {
+            return Err(DAMAGED);
+        };
+        read.push(it)?;
     }
     Ok(read)
 }
@@ -91,6 +111,10 @@ pub(crate) fn rows_for<S: Alter>(
         IsPermutation (slot_rows uid.now id (ledger_in (state S.Store conn.old))) rows.items) }
     ensures same { HasCleanDisk (state S.Store conn.new)
         → OnOk result (IsUnchanged (state S.Store conn.old) (state S.Store conn.new)) }
+    ensures failed { HasCleanDisk (state S.Store conn.new) → IfErr result
+        (FailsToLook uid.now id (state S.Store conn.old) (state S.Store conn.new)) }
+    ensures undone { HasCleanDisk (state S.Store conn.new)
+        → OnErr result (IsUndone (state S.Store conn.old) (state S.Store conn.new)) }
     ensures survives { Survives (state S.Store conn.old) (state S.Store conn.new) (λ _. ⊥) }
 {
     let rows = conn.query_all(

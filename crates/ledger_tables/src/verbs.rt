@@ -1,19 +1,21 @@
-//! The verbs that add a row.
+//! The verbs.
 
-ghost use Rattle.std.specs.Prelude.{◌≡◌, ℕ, IfOk, IfErr, OnOk};
-ghost use Rattle.sqlite.specs.State.{HasCleanDisk, Survives};
+ghost use Rattle.std.specs.Prelude.{◌≡◌, ℕ, IfOk, IfErr, OnErr, OnOk};
+ghost use Rattle.sqlite.specs.State.{HasCleanDisk, IsUnchanged, Survives};
 ghost use Rattle.sqlite.specs.Held.{state};
 ghost use Rattle.sqlite_trees.specs.Tree.{Trees};
 ghost use Rattle.ledger_rows.specs.Rows.{slot_rows as slot_rows_of};
-ghost use Rattle.ledger_rows.specs.Steps.{IssuesRow, RefusesRow, ConfirmsRow, RefusesAnswer};
+ghost use Rattle.ledger_rows.specs.Steps.{IssuesRow, RefusesRow, ConfirmsRow, RefusesAnswer, IsShown};
 ghost use Rattle.ledger_tables.specs.Held.{ledger_of, ledger_in, HasLedgerTable};
 ghost use Rattle.ledger_tables.specs.Adding.{origin_by};
+ghost use Rattle.ledger_tables.specs.Failing.{FailsToLook, FailsToIssue, FailsToConfirm, IsUndone};
 
 use crate::adding::{NewRow, add};
 use crate::reading::rows_for;
 use key_campaign::{Confirm, Issue, LedgerRefusal};
-use key_slots::{Counter28, may_authorise};
-use ledger_rows::{RowKind, answered_row, check_value, next_counter};
+use key_slots::{Counter28, SlotId, may_authorise};
+use ledger_rows::{RowKind, answered_row, check_value, next_counter, shown};
+use memory_update::Uid;
 use sqlite::{Alter, Connection, Error};
 use std::alloc::Global;
 
@@ -40,6 +42,11 @@ pub fn issue<S: Alter>(
         (state S.Store conn.new).now ≡ (state S.Store conn.old).now)) }
     ensures ready { HasCleanDisk (state S.Store conn.new)
         → OnOk result (HasLedgerTable (state S.Store conn.new)) }
+    ensures failed { HasCleanDisk (state S.Store conn.new) → IfErr result
+        (FailsToIssue issue.now (origin_by station.now operator.now time.now)
+        (state S.Store conn.old) (state S.Store conn.new)) }
+    ensures undone { HasCleanDisk (state S.Store conn.new)
+        → OnErr result (IsUndone (state S.Store conn.old) (state S.Store conn.new)) }
     ensures kept { HasCleanDisk (state S.Store conn.new) → IfOk result (λ answer. OnOk answer ((left : Trees)
         → (state S.Store conn.new).may_leave left → left ≡ (state S.Store conn.new).now.trees)) }
     ensures crash { Survives (state S.Store conn.old) (state S.Store conn.new) (λ left. (counter : ℕ)
@@ -89,6 +96,11 @@ pub fn confirm<S: Alter>(
         (state S.Store conn.new).now ≡ (state S.Store conn.old).now)) }
     ensures ready { HasCleanDisk (state S.Store conn.new)
         → OnOk result (HasLedgerTable (state S.Store conn.new)) }
+    ensures failed { HasCleanDisk (state S.Store conn.new) → IfErr result
+        (FailsToConfirm confirm.now (origin_by station.now operator.now time.now)
+        (state S.Store conn.old) (state S.Store conn.new)) }
+    ensures undone { HasCleanDisk (state S.Store conn.new)
+        → OnErr result (IsUndone (state S.Store conn.old) (state S.Store conn.new)) }
     ensures kept { HasCleanDisk (state S.Store conn.new) → IfOk result (λ answer. OnOk answer ((left : Trees)
         → (state S.Store conn.new).may_leave left → left ≡ (state S.Store conn.new).now.trees)) }
     ensures crash { Survives (state S.Store conn.old) (state S.Store conn.new) (λ left. (counter : ℕ)
@@ -110,4 +122,26 @@ pub fn confirm<S: Alter>(
     };
     add(conn, &row, station, operator, time)?;
     Ok(Ok(counter))
+}
+
+/// Shows the greatest counter of a unit's slot, and whether it was confirmed; `None` if it has no row.
+pub fn show<S: Alter>(
+    conn: &mut Connection<S>,
+    alloc: Global,
+    uid: &Uid,
+    id: SlotId,
+) -> Result<Option<(Counter28, bool)>, Error>
+    requires { HasCleanDisk (state S.Store conn.old) → HasLedgerTable (state S.Store conn.old) }
+    ensures shown { HasCleanDisk (state S.Store conn.new) → IfOk result (λ told.
+        IsShown (slot_rows_of uid.now id (ledger_in (state S.Store conn.old))) told) }
+    ensures same { HasCleanDisk (state S.Store conn.new)
+        → OnOk result (IsUnchanged (state S.Store conn.old) (state S.Store conn.new)) }
+    ensures failed { HasCleanDisk (state S.Store conn.new) → IfErr result
+        (FailsToLook uid.now id (state S.Store conn.old) (state S.Store conn.new)) }
+    ensures undone { HasCleanDisk (state S.Store conn.new)
+        → OnErr result (IsUndone (state S.Store conn.old) (state S.Store conn.new)) }
+    ensures survives { Survives (state S.Store conn.old) (state S.Store conn.new) (λ _. ⊥) }
+{
+    let rows = rows_for(conn, alloc, uid, id)?;
+    Ok(shown(rows.as_slice()))
 }

@@ -26,8 +26,8 @@ use Rattle.bus_lives.specs.Lives.{Life, life_over, TellsNode, IsLife, NoNewer, N
 use Rattle.bus_lives.specs.Lives.{AllLivesGoOn}
 use Rattle.bus_lives.proofs.CallerLemmas.{Sound-powered, config_of_node, one_not_two, over_configs, starts_leave_nodes}
 use Rattle.bus_commands.specs.SharedRuns.{HeadlineIsWorldRun}
-use Rattle.key_commands.specs.declared.finding.CountingStore.{CountingStore}
-use Rattle.key_commands.specs.Counting.{StoreThatCounts, counting_store, moved_up, not_moved, only_second, no_store}
+use Rattle.any_cells.specs.declared.finding.CountingStore.{CountingStore}
+use Rattle.any_cells.specs.Counting.{StoreThatCounts, counting_store, moved_up, not_moved, only_second, no_store}
 use Rattle.key_commands.specs.Loads.{OnFirstDisk, LoadsInto}
 use Rattle.program_lives.specs.ProgramRuns.{LoadsNode, DidRun, by_node, by_endpoint, by_load, ProgramRun, HasDone, IsLifeOf}
 use Rattle.program_lives.specs.ProgramRuns.{CanComeFirst, EachRunIsALife, FollowsRun, RunsBehind, RunsOfBus, AreLivesOf, ProgramRunsGoOn, AllProgramRunsGoOn}

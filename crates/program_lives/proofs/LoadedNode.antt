@@ -24,11 +24,11 @@ use Rattle.bus_world.specs.TakingUp.{cells_in, KeptOn}
 use Rattle.bus_world.proofs.CallerLemmas.{no_disk}
 use Rattle.bus_lives.specs.Lives.{Slot, DiskState, firm, NodeLine, NamedBus, TellsNode}
 use Rattle.bus_lives.proofs.CallerLemmas.{config_of_node, image_of_firm, kept_once, kept_stands, told_before}
-use Rattle.key_commands.specs.declared.finding.CountingStore.{CountingStore}
+use Rattle.any_cells.specs.declared.finding.CountingStore.{CountingStore}
 use Rattle.key_commands.specs.declared.lines.LoadLine.{LoadLine}
 use Rattle.key_commands.specs.declared.lines.LoadLine.TheVariants.{Failed}
 use Rattle.key_commands.specs.Answers.{Takes, AnswersEach}
-use Rattle.key_commands.specs.Counting.{counting_store}
+use Rattle.any_cells.specs.Counting.{counting_store}
 use Rattle.key_commands.specs.Loader.{LoaderState}
 use Rattle.key_commands.specs.Loading.{with_slots, AllLoaded, LastFailed, EndsLoading, all_answered, disk_failed, cut_short, cut_and_failed}
 use Rattle.key_commands.specs.Loads.{OnFirstDisk, LoadsInto}

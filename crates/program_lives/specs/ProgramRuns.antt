@@ -20,10 +20,10 @@ use Rattle.bus_commands.specs.Commands.{HeadlineRun}
 use Rattle.endpoint_commands.specs.declared.rules.FrameRule.{FrameRule}
 use Rattle.endpoint_commands.specs.Running.{LineMoment}
 use Rattle.endpoint_commands.specs.Headline.{OneEndpointRun}
-use Rattle.key_commands.specs.declared.finding.CountingStore.{CountingStore}
+use Rattle.any_cells.specs.declared.finding.CountingStore.{CountingStore}
 use Rattle.key_commands.specs.declared.lines.LoadLine.{LoadLine}
 use Rattle.key_commands.specs.declared.lines.LoadLine.TheVariants.{Loaded, Refused, Failed}
-use Rattle.key_commands.specs.Counting.{StoreThatCounts, counting_store}
+use Rattle.any_cells.specs.Counting.{StoreThatCounts, counting_store}
 use Rattle.key_commands.specs.Loader.{LoaderState}
 use Rattle.key_commands.specs.Loading.{EndsLoading, all_answered, disk_failed, cut_short, cut_and_failed}
 use Rattle.key_commands.specs.Loads.{OnFirstDisk, LoadsInto}

@@ -7,7 +7,8 @@ use Rattle.freshness_routes.specs.Changes.{bound_ahead}
 use Rattle.freshness_routes.specs.declared.routes.Direction.{Direction}
 use Rattle.freshness_routes.specs.declared.routes.Direction.TheVariants.{Sends, Receives}
 use Rattle.freshness_store.specs.Bound.{bound_cell}
-use Rattle.secured_pdu.specs.Frame.{Ahead}
+use Rattle.secured_pdu.specs.Frame.{AheadWithBits, TakesBits}
+use Rattle.secured_pdu.proofs.CallerLemmas.{same_from_AheadWithBits}
 use Rattle.store_plan.specs.declared.planning.Plan.{Plan}
 use Rattle.store_plan.specs.Plans.{PlansPut, IsEmptyPlan, applied}
 use Rattle.store_plan.proofs.CallerLemmas.{applied-cell, applied-length, applied-none}
@@ -18,10 +19,10 @@ use Rattle.rathonsi_c.specs.Images.{ImageBound}
 use Rattle.rathonsi_c.specs.Routes.{InRanges, IsFreshnessOnly, InUse, BoundCovers, BoundBelow, Reserves, CounterAnswers, status_alone}
 use Rattle.rathonsi_c.specs.Steps.{BoundAnswers}
 use Rattle.rathonsi_c.specs.Lives.{PlanDone}
-use Rattle.rathonsi_c.specs.Freshness.{WithinWindow, AheadWithBits, TakesBits, AheadOfBound, NextAnswers, CandidateAnswers, AcceptAnswers, CandidateWrites}
+use Rattle.rathonsi_c.specs.Freshness.{WithinWindow, AheadOfBound, NextAnswers, CandidateAnswers, AcceptAnswers, CandidateWrites}
 use Rattle.rathonsi_c.proofs.ImageLaws.{bound_once, one_direction, renewed_bound}
 use Rattle.rathonsi_c.proofs.AnswerLaws.{other_status, damaged_keeps_none}
-use Rattle.rathonsi_c.proofs.FreshnessLaws.{same_from_AheadWithBits, covered_here}
+use Rattle.rathonsi_c.proofs.FreshnessLaws.{covered_here}
 
 -- of a route in use whose image keeps a bound the rest says the answer
 pub says_rest : {A : Type 0} (tell : ℤ → A) (r : RathonsiRoute) (d : Direction) (image : List ℕ) (bound : ℕ) (rest : A → Type 0) (answer : A) → InUse r d → ImageBound image r.cell r.data_id d bound → BoundAnswers tell r d image rest answer → rest answer
@@ -38,14 +39,8 @@ says_rest {A} tell r d image bound rest answer u kept h = elim h [
 
 -- ---- a candidate
 
-pub byte_bits : (c w low v : ℕ) → Ahead c w low v → AheadWithBits c w 8 low v
-byte_bits c w low v a = record { within = record { above = a.above; near = a.near }; low_is = a.low_is; fits = a.fits }
-
-pub bits_byte : (c w low v : ℕ) → AheadWithBits c w 8 low v → Ahead c w low v
-bits_byte c w low v a = record { above = a.within.above; near = a.within.near; low_is = a.low_is; fits = a.fits }
-
 honest : (c w b v : ℕ) → WithinWindow c w v → v < 2 ^ 64 → AheadWithBits c w b (v % 2 ^ b) v
-honest c w b v within fits = record { within = within; low_is = refl; fits = fits }
+honest c w b v within fits = record { above = within.above; near = within.near; low_is = refl; fits = fits }
 
 pub honest_found : (c w b v told : ℕ) → w ≤ 2 ^ b → WithinWindow c w v → v < 2 ^ 64 → AheadWithBits c w b (v % 2 ^ b) told → told ≡ v
 honest_found c w b v told small within fits x = same_from_AheadWithBits c w b (v % 2 ^ b) told v small x (honest c w b v within fits)
@@ -182,7 +177,7 @@ few zero x bound r image u kept room small writes = omega (arith, small)
 few (suc n) x bound r image u kept room small (next, (w, (later, (keeps, rest)))) =
     let v = w.freshness in
     let fits = w.ahead.fits in
-    let near = w.ahead.within.near in
+    let near = w.ahead.near in
     let least = u.ranges.reserve_least in
     let above : bound < w.freshness = asked_above r image w.truncated w.bits bound w.freshness kept w.answer w.ahead in
     let l = keeps (bound_ahead r.reserve w.freshness) (reserved_bound r image next bound w.freshness w.old w.plan w.emptied u.ranges kept above fits w.reserved w.done) in

@@ -83,7 +83,7 @@ filled-planned place true a some =
 planned-does : (n place : ℕ) (deed : Deed) (a b : Memory) → place < 14 → FilledPlanned place a → DoesDeed n deed a b → FilledPlanned place b
 planned-does n place (sends k freshness) a b few p d = planned-same place a b d.changes.image d.changes.plan p
 planned-does n place (accepts k freshness) a b few p d = planned-same place a b d.changes.image d.changes.plan p
-planned-does n place (takes k counter) a b few p d = planned-same place a b d.changes.image d.changes.plan p
+planned-does n place (takes k counter) a b few p d = planned-same place a b d.1.changes.image d.1.changes.plan p
 planned-does n place (opens k) a b few p d = planned-same place a b d.changes.image d.changes.plan p
 planned-does n place (sets k) a b few p d = planned-same place a b d.changes.image d.changes.plan p
 planned-does n place (reserves k) a b few p d = inl (bound-none n k place a b few d)
@@ -102,7 +102,7 @@ planned-does n place powers_up a b few p d = inl (inl d.empty)
 none-does : (n place : ℕ) (planned : Bool) (deed : Deed) (a b : Memory) → place < 14 → (planned ≡ false → NoUpdatePlanned place a) → DoesDeed n deed a b → planned_behind place planned deed ≡ false → NoUpdatePlanned place b
 none-does n place planned (sends k freshness) a b few none d not = none-same place a b d.changes.image d.changes.plan (none not)
 none-does n place planned (accepts k freshness) a b few none d not = none-same place a b d.changes.image d.changes.plan (none not)
-none-does n place planned (takes k counter) a b few none d not = none-same place a b d.changes.image d.changes.plan (none not)
+none-does n place planned (takes k counter) a b few none d not = none-same place a b d.1.changes.image d.1.changes.plan (none not)
 none-does n place planned (opens k) a b few none d not = none-same place a b d.changes.image d.changes.plan (none not)
 none-does n place planned (sets k) a b few none d not = none-same place a b d.changes.image d.changes.plan (none not)
 none-does n place planned (reserves k) a b few none d not = bound-none n k place a b few d
@@ -126,7 +126,7 @@ none-does n place planned powers_up a b few none d not = inl d.empty
 held-does : (n place : ℕ) (slot : Slot) (planned : Bool) (deed : Deed) (a b : Memory) → BeginsNone planned deed → (planned ≡ false → NoUpdatePlanned place a) → ImageSlot a.image place slot → DoesDeed n deed a b → ImageSlot b.image place slot
 held-does n place slot planned (sends k freshness) a b free none held d = held-same place slot a b d.changes.image held
 held-does n place slot planned (accepts k freshness) a b free none held d = held-same place slot a b d.changes.image held
-held-does n place slot planned (takes k counter) a b free none held d = held-same place slot a b d.changes.image held
+held-does n place slot planned (takes k counter) a b free none held d = held-same place slot a b d.1.changes.image held
 held-does n place slot planned (opens k) a b free none held d = held-same place slot a b d.changes.image held
 held-does n place slot planned (sets k) a b free none held d = held-same place slot a b d.changes.image held
 held-does n place slot planned (reserves k) a b free none held d = held-same place slot a b d.image held
@@ -228,7 +228,7 @@ filled-same place a b image f = subst (λ (y : List ℕ). SlotFilled y place) (s
 filled-does : (n place : ℕ) (deed : Deed) (a b : Memory) → StaysFilled place a → DoesDeed n deed a b → SlotFilled b.image place
 filled-does n place (sends k freshness) a b h d = filled-same place a b d.changes.image h.filled
 filled-does n place (accepts k freshness) a b h d = filled-same place a b d.changes.image h.filled
-filled-does n place (takes k counter) a b h d = filled-same place a b d.changes.image h.filled
+filled-does n place (takes k counter) a b h d = filled-same place a b d.1.changes.image h.filled
 filled-does n place (opens k) a b h d = filled-same place a b d.changes.image h.filled
 filled-does n place (sets k) a b h d = filled-same place a b d.changes.image h.filled
 filled-does n place (reserves k) a b h d = filled-same place a b d.image h.filled

@@ -10,7 +10,7 @@ use Rattle.store_plan.specs.Leaving.{LeavesPut}
 use Rattle.store_plan.proofs.CallerLemmas.{applied-cell, applied-others, applied-length, applied-none}
 use Rattle.rathonsi_c.specs.declared.route.RathonsiRoute.{RathonsiRoute}
 use Rattle.rathonsi_c.specs.Images.{ImageBound}
-use Rattle.rathonsi_c.specs.Routes.{InRanges, at_counter, opened_at, Opens, RouteAdvances, Reserves}
+use Rattle.rathonsi_c.specs.Routes.{InRanges, BoundCovers, at_counter, opened_at, Opens, RouteAdvances, Reserves}
 use Rattle.rathonsi_c.specs.Lives.{Memory, Deed, sends, accepts, takes, opens, sets, reserves, loads, drops, finishes, powers_up, SameRoute, OpensFilled, ChangesRoute, GivesOut, OpensRoute, SetsFields, PlansBound, PlansUpdate, DropsPlan, FinishesPlan, PowerBack, SameRoutes, DoesDeed, Lives, PoweredUp, given_out, RisesTo, CounterCovered}
 use Rattle.rathonsi_c.proofs.ImageLaws.{bound_once, same_direction, one_direction, moved_bound, renewed_bound}
 
@@ -88,7 +88,7 @@ after-cut image plan r y cut h = elim h.planned [
 ]
 
 -- only the counter of a route changes
-ranges-counted : (r : RathonsiRoute) (n : ℕ) (d : Direction) → InRanges r d → InRanges (at_counter r n) d
+pub ranges-counted : (r : RathonsiRoute) (n : ℕ) (d : Direction) → InRanges r d → InRanges (at_counter r n) d
 ranges-counted r n d h = record {
   direction_is = h.direction_is;
   cell_least = h.cell_least;
@@ -101,8 +101,8 @@ ranges-counted r n d h = record {
   freshness_only_most = h.freshness_only_most;
 }
 
-ranges-opened : (r : RathonsiRoute) (n : ℕ) (d : Direction) → InRanges r d → InRanges (opened_at r n) d
-ranges-opened r n d h = record {
+ranges-opened : (r : RathonsiRoute) (n m : ℕ) (d : Direction) → InRanges r d → InRanges (opened_at r n m) d
+ranges-opened r n m d h = record {
   direction_is = h.direction_is;
   cell_least = h.cell_least;
   reserve_least = h.reserve_least;
@@ -114,7 +114,7 @@ ranges-opened r n d h = record {
   freshness_only_most = h.freshness_only_most;
 }
 
-holds-same : (image y : List ℕ) (plan q : Plan) (r s : RathonsiRoute) → y ≡ image → q ≡ plan → s ≡ r → Holds image plan r → Holds y q s
+pub holds-same : (image y : List ℕ) (plan q : Plan) (r s : RathonsiRoute) → y ≡ image → q ≡ plan → s ≡ r → Holds image plan r → Holds y q s
 holds-same image y plan q r s e f g h =
     subst (λ (t : RathonsiRoute). Holds y q t) (sym g) (subst (λ (p : Plan). Holds y p r) (sym f) (subst (λ (z : List ℕ). Holds z plan r) (sym e) h))
 
@@ -126,16 +126,17 @@ pub record Goes (image : List ℕ) (plan : Plan) (r s : RathonsiRoute) : Type 0 
 goes-same : (image y : List ℕ) (plan q : Plan) (r s : RathonsiRoute) → y ≡ image → q ≡ plan → s ≡ r → Holds image plan r → Goes y q r s
 goes-same image y plan q r s e f g h = record { holds = holds-same image y plan q r s e f g h; later = (let c : s.counter ≡ r.counter = ap (λ (t : RathonsiRoute). t.counter) g in omega arith) }
 
-advanced : (d : Direction) (image : List ℕ) (plan : Plan) (r s : RathonsiRoute) (freshness : ℕ) → Holds image plan r → RouteAdvances d r image freshness s → Holds image plan s
-advanced d image plan r s freshness h a =
-    let e : d ≡ h.direction = one_direction r d h.direction a.ranges h.ranges in
-    let same : h.bound ≡ a.covered.bound = bound_once image r.cell r.data_id d h.bound a.covered.bound (subst (λ (q : Direction). ImageBound image r.cell r.data_id q h.bound) (sym e) h.kept) a.covered.kept in
-    subst (λ (t : RathonsiRoute). Holds image plan t) (sym a.now) (record {
+-- a counter that the bound covers
+pub counted_to : (d : Direction) (image : List ℕ) (plan : Plan) (r s : RathonsiRoute) (freshness : ℕ) → Holds image plan r → InRanges r d → BoundCovers r image d freshness → s ≡ at_counter r freshness → Holds image plan s
+counted_to d image plan r s freshness h ranges covered now =
+    let e : d ≡ h.direction = one_direction r d h.direction ranges h.ranges in
+    let same : h.bound ≡ covered.bound = bound_once image r.cell r.data_id d h.bound covered.bound (subst (λ (q : Direction). ImageBound image r.cell r.data_id q h.bound) (sym e) h.kept) covered.kept in
+    subst (λ (t : RathonsiRoute). Holds image plan t) (sym now) (record {
       direction = h.direction;
       ranges = ranges-counted r freshness h.direction h.ranges;
       bound = h.bound;
       kept = h.kept;
-      below = (let c = a.covered.covers in omega arith);
+      below = (let c = covered.covers in omega arith);
       planned = elim h.planned [
         | inl none ↦ inl none
         | inr some ↦ elim some [
@@ -144,6 +145,9 @@ advanced d image plan r s freshness h a =
         ]
       ];
     })
+
+advanced : (d : Direction) (image : List ℕ) (plan : Plan) (r s : RathonsiRoute) (freshness : ℕ) → Holds image plan r → RouteAdvances d r image freshness s → Holds image plan s
+advanced d image plan r s freshness h a = counted_to d image plan r s freshness h a.ranges a.covered a.now
 
 reserved_here : (image : List ℕ) (plan next : Plan) (r : RathonsiRoute) (freshness : ℕ) → Holds image plan r → Reserves r image freshness plan next → Holds image next r
 reserved_here image plan next r freshness h s =
@@ -166,7 +170,7 @@ reserved_here image plan next r freshness h s =
       ];
     }
 
-planned_elsewhere : (image : List ℕ) (plan next : Plan) (r : RathonsiRoute) (place : ℕ) (new : List ℕ) → place ≢ r.cell → PlansPut next image place new → Holds image plan r → Holds image next r
+pub planned_elsewhere : (image : List ℕ) (plan next : Plan) (r : RathonsiRoute) (place : ℕ) (new : List ℕ) → place ≢ r.cell → PlansPut next image place new → Holds image plan r → Holds image next r
 planned_elsewhere image plan next r place new apart plans h = record {
   direction = h.direction;
   ranges = h.ranges;
@@ -176,17 +180,17 @@ planned_elsewhere image plan next r place new apart plans h = record {
   planned = inr (inr (record { place = place; new = new; apart = apart; plans = plans }));
 }
 
-planned_nothing : (image : List ℕ) (plan next : Plan) (r : RathonsiRoute) → IsEmptyPlan next → Holds image plan r → Holds image next r
+pub planned_nothing : (image : List ℕ) (plan next : Plan) (r : RathonsiRoute) → IsEmptyPlan next → Holds image plan r → Holds image next r
 planned_nothing image plan next r empty h = record { direction = h.direction; ranges = h.ranges; bound = h.bound; kept = h.kept; below = h.below; planned = inl empty }
 
 -- another route reserves
-reserved_there : (image : List ℕ) (plan next : Plan) (that r : RathonsiRoute) (freshness : ℕ) → that.cell ≢ r.cell → Reserves that image freshness plan next → Holds image plan r → Holds image next r
+pub reserved_there : (image : List ℕ) (plan next : Plan) (that r : RathonsiRoute) (freshness : ℕ) → that.cell ≢ r.cell → Reserves that image freshness plan next → Holds image plan r → Holds image next r
 reserved_there image plan next that r freshness apart s h = elim (cases_lt s.bound (bound_ahead that.reserve freshness)) [
   | inl low ↦ planned_elsewhere image plan next r that.cell _ apart (s.plans low) h
   | inr high ↦ planned_nothing image plan next r (subst (λ (p : Plan). IsEmptyPlan p) (sym (s.enough high)) s.empty) h
 ]
 
-finished : (image y : List ℕ) (plan next : Plan) (r : RathonsiRoute) → y ≡ applied plan image → IsEmptyPlan next → Holds image plan r → Holds y next r
+pub finished : (image y : List ℕ) (plan next : Plan) (r : RathonsiRoute) → y ≡ applied plan image → IsEmptyPlan next → Holds image plan r → Holds y next r
 finished image y plan next r e empty h =
     let n = after-finish image plan r h in
     record {
@@ -199,7 +203,7 @@ finished image y plan next r e empty h =
     }
 
 -- so does what the power left
-cut_back : (image y : List ℕ) (plan next : Plan) (r : RathonsiRoute) → LeavesPut plan image y → IsEmptyPlan next → Holds image plan r → Holds y next r
+pub cut_back : (image y : List ℕ) (plan next : Plan) (r : RathonsiRoute) → LeavesPut plan image y → IsEmptyPlan next → Holds image plan r → Holds y next r
 cut_back image y plan next r cut empty h =
     let n = after-cut image plan r y cut h in
     record {
@@ -252,7 +256,7 @@ opened_anew image plan r s o h =
     let e : q.direction ≡ h.direction = same_direction q.direction h.direction (sym q.ranges.direction_is ∙ (o.same.direction ∙ h.ranges.direction_is)) in
     let same : q.bound ≡ h.bound = bound_once image r.cell r.data_id h.direction q.bound h.bound (bound_back image r f h.direction q.bound o.same (subst (λ (d : Direction). ImageBound image f.cell f.data_id d q.bound) e q.kept)) h.kept in
     subst (λ (t : RathonsiRoute). Goes image plan r t) (sym q.now) (record {
-      holds = refilled image plan r (opened_at f q.bound) q.direction (record { cell = o.same.cell; data_id = o.same.data_id; direction = o.same.direction }) (ranges-opened f q.bound q.direction q.ranges) h (omega arith);
+      holds = refilled image plan r (opened_at f q.bound q.mark) q.direction (record { cell = o.same.cell; data_id = o.same.data_id; direction = o.same.direction }) (ranges-opened f q.bound q.mark q.direction q.ranges) h (omega arith);
       later = (let b = h.below in omega arith);
     })
 
@@ -299,7 +303,7 @@ gives d n k freshness a b s g = one_route n k a b s g.changes (record {
   later = (let u = g.advances.above in let c : (b.routes k).counter ≡ freshness = ap (λ (t : RathonsiRoute). t.counter) g.advances.now in omega arith);
 }) (ap (λ (t : RathonsiRoute). t.cell) g.advances.now)
 
-opened_cell : (r s : RathonsiRoute) (image : List ℕ) → OpensFilled r image s → s.cell ≡ r.cell
+pub opened_cell : (r s : RathonsiRoute) (image : List ℕ) → OpensFilled r image s → s.cell ≡ r.cell
 opened_cell r s image o = ap (λ (t : RathonsiRoute). t.cell) o.is_opened.now ∙ o.same.cell
 
 opens_route : (n k : ℕ) (a b : Memory) → Sound n a → OpensRoute n k a b → Moves n a b
@@ -350,7 +354,7 @@ power_back n a b s p = record {
 pub moves : (n : ℕ) (deed : Deed) (a b : Memory) → Sound n a → DoesDeed n deed a b → Moves n a b
 moves n (sends k freshness) a b s d = gives _ n k freshness a b s d
 moves n (accepts k freshness) a b s d = gives _ n k freshness a b s d
-moves n (takes k counter) a b s d = gives _ n k counter a b s d
+moves n (takes k counter) a b s d = gives d.0 n k counter a b s d.1
 moves n (opens k) a b s d = opens_route n k a b s d
 moves n (sets k) a b s d = sets_fields n k a b s d
 moves n (reserves k) a b s d = plans_bound n k a b s d
@@ -366,7 +370,7 @@ lives-sound n [] a c s lives = subst (λ (m : Memory). Sound n m) (sym lives) s
 lives-sound n (deed ∷ deeds) a c s (b, (d, rest)) = lives-sound n deeds b c (sound-then n a b s (moves n deed a b s d)) rest
 
 -- a number that is lower will do
-rises_from : (low high end : ℕ) (xs : List ℕ) → low ≤ high → RisesTo high xs end → RisesTo low xs end
+pub rises_from : (low high end : ℕ) (xs : List ℕ) → low ≤ high → RisesTo high xs end → RisesTo low xs end
 rises_from low high end [] le r = omega arith
 rises_from low high end (x ∷ xs) le r = (let l = r.0 in omega arith, r.1)
 
@@ -410,11 +414,11 @@ rises n k (powers_up ∷ deeds) a c x s (b, (d, rest)) =
     let m = moves n powers_up a b s d in rises_from _ _ _ (given_out k deeds) (m.goes k x).later (rises n k deeds b c x (sound-then n a b s m) rest)
 
 -- a route that was opened for the first time, if nothing is planned
-holds_opened : (image : List ℕ) (plan : Plan) (f r : RathonsiRoute) → IsEmptyPlan plan → Opens f image r → Holds image plan r
+pub holds_opened : (image : List ℕ) (plan : Plan) (f r : RathonsiRoute) → IsEmptyPlan plan → Opens f image r → Holds image plan r
 holds_opened image plan f r empty o =
     subst (λ (t : RathonsiRoute). Holds image plan t) (sym o.now) (record {
       direction = o.direction;
-      ranges = ranges-opened f o.bound o.direction o.ranges;
+      ranges = ranges-opened f o.bound o.mark o.direction o.ranges;
       bound = o.bound;
       kept = o.kept;
       below = omega arith;

@@ -5,26 +5,32 @@ use Rattle.std.proofs.lemmas.Nat.{mod_below}
 use Rattle.basics.specs.Numbers.{bytes_of}
 use Rattle.basics.proofs.CallerLemmas.{same_number}
 use Rattle.rathonsi_c.specs.declared.opened.TheConstants.{CHECK_PRIME}
-use Rattle.rathonsi_c.specs.Routes.{check_number, check_of}
 
-pub check_below : (id direction cell counter : ℕ) → check_number id direction cell counter < 256 ^ 3
-check_below id direction cell counter = omega (arith, mod_below (counter + 3 * ((direction * 2 ^ 16 + cell) * 2 ^ 16 + id)) CHECK_PRIME (omega arith))
+-- the number by the five fields that it covers
+abbrev pub number_by : ℕ → ℕ → ℕ → ℕ → ℕ → ℕ
+number_by o d l i c = 1 + (c + 3 * (((o * 2 ^ 8 + d) * 2 ^ 16 + l) * 2 ^ 16 + i)) % CHECK_PRIME
 
-same_check : (i d l c i' d' l' c' : ℕ) → check_of i d l c ≡ check_of i' d' l' c' → check_number i d l c ≡ check_number i' d' l' c'
-same_check i d l c i' d' l' c' e = same_number 3 (check_number i d l c) (check_number i' d' l' c') (check_below i d l c) (check_below i' d' l' c') e
+below : (o d l i c : ℕ) → number_by o d l i c < 256 ^ 3
+below o d l i c = omega (arith, mod_below (c + 3 * (((o * 2 ^ 8 + d) * 2 ^ 16 + l) * 2 ^ 16 + i)) CHECK_PRIME (omega arith))
 
-pub counter_apart : (i d l c c' : ℕ) → check_of i d l c ≡ check_of i d l c' → c' % CHECK_PRIME ≡ c % CHECK_PRIME
-counter_apart i d l c c' e = omega (arith, same_check i d l c i d l c' e)
+same_check : (o d l i c o' d' l' i' c' : ℕ) → bytes_of 3 (number_by o d l i c) ≡ bytes_of 3 (number_by o' d' l' i' c') → number_by o d l i c ≡ number_by o' d' l' i' c'
+same_check o d l i c o' d' l' i' c' e = same_number 3 (number_by o d l i c) (number_by o' d' l' i' c') (below o d l i c) (below o' d' l' i' c') e
 
-pub id_apart : (i d l c i' : ℕ) → i < 2 ^ 16 → i' < 2 ^ 16 → check_of i d l c ≡ check_of i' d l c → i' ≡ i
-id_apart i d l c i' x y e = omega (arith, same_check i d l c i' d l c e, x, y)
+pub counter_apart : (o d l i c c' : ℕ) → bytes_of 3 (number_by o d l i c) ≡ bytes_of 3 (number_by o d l i c') → c' % CHECK_PRIME ≡ c % CHECK_PRIME
+counter_apart o d l i c c' e = omega (arith, same_check o d l i c o d l i c' e)
 
-pub direction_apart : (i d l c d' : ℕ) → d < 2 ^ 8 → d' < 2 ^ 8 → check_of i d l c ≡ check_of i d' l c → d' ≡ d
-direction_apart i d l c d' x y e = omega (arith, same_check i d l c i d' l c e, x, y)
+pub id_apart : (o d l i c i' : ℕ) → i < 2 ^ 16 → i' < 2 ^ 16 → bytes_of 3 (number_by o d l i c) ≡ bytes_of 3 (number_by o d l i' c) → i' ≡ i
+id_apart o d l i c i' x y e = omega (arith, same_check o d l i c o d l i' c e, x, y)
 
-pub cell_apart : (i d l c l' : ℕ) → l < 2 ^ 16 → l' < 2 ^ 16 → check_of i d l c ≡ check_of i d l' c → l' ≡ l
-cell_apart i d l c l' x y e = omega (arith, same_check i d l c i d l' c e, x, y)
+pub direction_apart : (o d l i c d' : ℕ) → d < 2 ^ 8 → d' < 2 ^ 8 → bytes_of 3 (number_by o d l i c) ≡ bytes_of 3 (number_by o d' l i c) → d' ≡ d
+direction_apart o d l i c d' x y e = omega (arith, same_check o d l i c o d' l i c e, x, y)
 
-pub no_zeros : (i d l c : ℕ) → check_of i d l c ≢ replicate 3 0
+pub mark_apart : (o d l i c o' : ℕ) → o < 2 ^ 8 → o' < 2 ^ 8 → bytes_of 3 (number_by o d l i c) ≡ bytes_of 3 (number_by o' d l i c) → o' ≡ o
+mark_apart o d l i c o' x y e = omega (arith, same_check o d l i c o' d l i c e, x, y)
+
+pub cell_apart : (o d l i c l' : ℕ) → l < 2 ^ 16 → l' < 2 ^ 16 → bytes_of 3 (number_by o d l i c) ≡ bytes_of 3 (number_by o d l' i c) → l' ≡ l
+cell_apart o d l i c l' x y e = omega (arith, same_check o d l i c o d l' i c e, x, y)
+
+pub no_zeros : (o d l i c : ℕ) → bytes_of 3 (number_by o d l i c) ≢ replicate 3 0
 unfolding bytes_of
-no_zeros i d l c e = absurd (omega (arith, same_number 3 (check_number i d l c) 0 (check_below i d l c) (omega arith) e))
+no_zeros o d l i c e = absurd (omega (arith, same_number 3 (number_by o d l i c) 0 (below o d l i c) (omega arith) e))

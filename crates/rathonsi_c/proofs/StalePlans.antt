@@ -1,11 +1,12 @@
 -- The plans that the calls make for an image take nothing back of it.
-use Rattle.std.proofs.Common.{ℤ, ◌≡◌, ℕ, ◌+◌, ◌<◌, ◌≤◌, ◌⊎◌, inl, inr, Some, Option, List, length, drop, refl, sym, ap, subst, ◌∙◌, arith, length-take, length-drop}
+use Rattle.std.proofs.Common.{ℤ, ◌≡◌, ℕ, ◌+◌, ◌≤◌, ◌⊎◌, inl, inr, Some, Option, List, length, replicate, refl, sym, ap, subst, ◌∙◌, arith}
 use Rattle.std.proofs.lemmas.Bool.{cases_lt}
 use Rattle.std.proofs.lemmas.Option.{same_Some}
 use Rattle.cell_store.specs.declared.kinds.Version.TheVariants.{One}
 use Rattle.cell_store.specs.Layout.{twin_layout}
-use Rattle.cell_store.specs.Twin.{twin_size, first_at, cell_at}
-use Rattle.cell_store.proofs.CallerLemmas.{header-number, length-fresh_cell}
+use Rattle.cell_store.specs.Twin.{twin_size, cell_at}
+use Rattle.cell_store.specs.Store.{HasHeader}
+use Rattle.cell_store.proofs.CallerLemmas.{header-number}
 use Rattle.key_slots.specs.declared.memory.Slot.TheVariants.{Filled}
 use Rattle.key_slots.specs.Slots.{slot_at, counter_of}
 use Rattle.memory_update.specs.declared.messages.Request.{Request}
@@ -16,21 +17,19 @@ use Rattle.slot_disk.proofs.CallerLemmas.{one_slot}
 use Rattle.freshness_routes.specs.Changes.{bound_ahead}
 use Rattle.freshness_store.specs.Bound.{bound_cell, HoldsBound}
 use Rattle.freshness_store.proofs.CallerLemmas.{no_slot}
-use Rattle.store_plan.specs.declared.growing.Growth.{Growth}
-use Rattle.store_plan.specs.declared.growing.Growth.TheVariants.{Before, Counting, After, Beyond}
 use Rattle.store_plan.specs.declared.planning.Plan.{Plan}
 use Rattle.store_plan.specs.Plans.{PlansPut, PlanFits, IsEmptyPlan, applied}
-use Rattle.store_plan.specs.Growing.{IsGrowth, PlansFor}
-use Rattle.store_plan.proofs.CallerLemmas.{applied-none, applied-cell, applied-others, count-done, count-others, growth-done, growth-others}
+use Rattle.store_plan.specs.Growing.{PlansGrowth, PlansCount}
+use Rattle.store_plan.proofs.CallerLemmas.{applied-none, applied-cell, applied-others, count-cells, count-done, growth-done, growth-others}
 use Rattle.rathonsi_c.specs.declared.TheConstants.{OK}
 use Rattle.rathonsi_c.specs.declared.route.RathonsiRoute.{RathonsiRoute}
 use Rattle.rathonsi_c.specs.Images.{ImageSlot}
 use Rattle.rathonsi_c.specs.Routes.{Reserves}
 use Rattle.rathonsi_c.specs.Slots.{LoadsSlot}
-use Rattle.rathonsi_c.specs.Growing.{PlansCell}
+use Rattle.rathonsi_c.specs.Growing.{PlansCell, PlansNumber, IsSpare}
 use Rattle.rathonsi_c.specs.Stale.{IsStale, CellFalls, BoundFalls, HoldsKey, KeyFalls}
 use Rattle.rathonsi_c.specs.Stores.{DoneAnswers}
-use Rattle.rathonsi_c.proofs.GrowthLaws.{long_cell}
+use Rattle.rathonsi_c.proofs.GrowthLaws.{long_cell, no_bound_is_zeros, no_key_is_zeros}
 use Rattle.rathonsi_c.proofs.KeyLaws.{update-holds}
 use Rattle.rathonsi_c.proofs.StaleLaws.{bound-stays, key-higher}
 
@@ -61,20 +60,24 @@ module _ (x : List ℕ) (plan : Plan) where
   ]
 
   -- a growth
-  module _ (i : ℕ) (c : List ℕ) (sized : length c ≡ 32) (few : i < 1024) (fits : PlanFits (length x) plan) where
-    growth-stays : (growth : Growth) → IsGrowth x i c growth → PlansFor growth plan i c → IsStale x plan → ⊥
-    growth-stays Before h p s =
-        let room : twin_size (i + 1) ≤ length x = (let f = fits.second.inside (let n = p.second.count in omega arith) in let a = p.second.place in let n = p.second.count in omega arith) in
-        let most = s.counted.few.most in
-        let same : s.counted.count ≡ i = header-number (twin_layout One) (twin_layout One) s.counted.count i (omega arith) (omega arith) (sym s.counted.head ∙ h.0) in
-        let below = s.counted.below in
-        cell-stays s.place (growth-others i c sized x room plan p (applied plan x) (growth-done i c sized x room plan p) s.place (λ e. omega arith)) s.falls
-    growth-stays Counting h p s =
-        let long = ap length h.3 ∙ length-fresh_cell c sized in
-        let room : twin_size (i + 1) ≤ length x = omega (arith, long, length-take 68 (drop (first_at i) x), length-drop (first_at i) x) in
-        cell-stays s.place (count-others i c sized x room plan p (applied plan x) (count-done i c sized x room plan p) s.place) s.falls
-    growth-stays After h p s = p
-    growth-stays Beyond h p s = p
+  number-stays : (n : ℕ) → 32 ≤ length x → PlansCount plan n → IsStale x plan → ⊥
+  number-stays n room p s = cell-stays s.place (count-cells n x room plan p (applied plan x) s.place (count-done n x room plan p)) s.falls
+
+  growth-stays : (n : ℕ) (c : List ℕ) → length c ≡ 32 → n ≤ 1024 → twin_size (n + 1) ≤ length x → HasHeader (twin_layout One) n x → PlansGrowth plan n c → IsStale x plan → ⊥
+  growth-stays n c sized few room head p s =
+      let most = s.counted.few.most in
+      let same : s.counted.count ≡ n = header-number (twin_layout One) (twin_layout One) s.counted.count n (omega arith) (omega arith) (sym s.counted.head ∙ head) in
+      let below = s.counted.below in
+      cell-stays s.place (growth-others n c sized x room plan p (applied plan x) s.place (growth-done n c sized x room plan p) (λ e. omega arith)) s.falls
+
+  -- a cell of zero bytes has counted nothing
+  zeros-stay : (i : ℕ) (c : List ℕ) → PlansPut plan x i c → IsSpare x i → IsStale x plan → ⊥
+  zeros-stay i c p spare = put-stays i c p (λ before is falls.
+      let zeros : before ≡ replicate 32 0 = same_Some _ _ (sym is ∙ spare) in
+      elim falls [
+        | inl b ↦ no_bound_is_zeros b.id b.direction b.bound (sym b.held.cell_is ∙ zeros)
+        | inr k ↦ no_key_is_zeros k.held.key k.held.flags k.counter (sym k.held.held.cell_is ∙ zeros)
+      ])
 
 pub bound-not-stale : (r : RathonsiRoute) (x : List ℕ) (freshness : ℕ) (old plan : Plan) → Reserves r x freshness old plan → IsStale x plan → ⊥
 bound-not-stale r x freshness old plan h = elim (cases_lt h.bound (bound_ahead r.reserve freshness)) [
@@ -104,11 +107,27 @@ key-not-stale uid booted request x old plan h =
           key-higher before (slot_cell (slot_of u)) k.counter k.held u.counter new (omega arith) k
     ])
 
-pub growth-not-stale : (r : RathonsiRoute) (bound : ℕ) (x : List ℕ) (old plan : Plan) → r.cell < 1024 → PlanFits (length x) plan → PlansCell r bound x old plan → IsStale x plan → ⊥
-growth-not-stale r bound x old plan few fits h = elim h.plans [
-  | inl plans ↦ growth-stays x plan r.cell (bound_cell r.data_id h.direction bound) (long_cell r.data_id h.direction bound) few fits h.growth h.is plans
-  | inr nothing ↦ empty-stays x plan (subst (λ (p : Plan). IsEmptyPlan p) (sym nothing.1.0) h.empty)
-]
+pub growth-not-stale : (r : RathonsiRoute) (bound : ℕ) (x : List ℕ) (old plan : Plan) → PlansCell r bound x old plan → IsStale x plan → ⊥
+growth-not-stale r bound x old plan h =
+    let room = h.told.says.counts.room in
+    elim h.plans [
+      | inl (other, number) ↦ number-stays x plan h.count (omega arith) number
+      | inr (head, alone, which) ↦ elim which [
+        | inl (at, few, may, plans) ↦ growth-stays x plan h.count (bound_cell r.data_id h.direction bound) (long_cell r.data_id h.direction bound) (omega arith) (let r = may.after.room in omega arith) head plans
+        | inr (below, own) ↦ elim own [
+          | inl (spare, put) ↦ zeros-stay x plan r.cell (bound_cell r.data_id h.direction bound) put spare
+          | inr (kept, same) ↦ empty-stays x plan (subst (λ (p : Plan). IsEmptyPlan p) (sym same) h.empty)
+        ]
+      ]
+    ]
+
+pub number-not-stale : (x : List ℕ) (old plan : Plan) → PlansNumber x old plan → IsStale x plan → ⊥
+number-not-stale x old plan h =
+    let room = h.told.says.counts.room in
+    elim h.plans [
+      | inl (head, same) ↦ empty-stays x plan (subst (λ (p : Plan). IsEmptyPlan p) (sym same) h.empty)
+      | inr (other, number) ↦ number-stays x plan h.count (omega arith) number
+    ]
 
 -- a plan that is within the image and not stale is done
 pub done-ok : (x : List ℕ) (plan : Plan) (status : ℤ) → PlanFits (length x) plan → (IsStale x plan → ⊥) → DoneAnswers x plan status → status ≡ OK

@@ -1,5 +1,5 @@
 -- A store stays whole over all lives.
-use Rattle.std.proofs.Common.{◌≡◌, ◌≢◌, ℕ, ◌⊎◌, inl, inr, Option, Some, IsSome, List, [], ◌∷◌, length, refl, sym, subst, ◌∙◌}
+use Rattle.std.proofs.Common.{◌≡◌, ◌≢◌, ℕ, ◌⊎◌, inl, inr, Option, Some, IsSome, List, [], ◌∷◌, length, refl, sym, ap, subst, ◌∙◌}
 use Rattle.std.proofs.lemmas.Bool.{cases_lt, cases_eq}
 use Rattle.cell_store.specs.Layout.{part}
 use Rattle.cell_store.specs.Twin.{cell_at}
@@ -71,7 +71,7 @@ whole-same a b image plan h = record {
 whole-does : (n : ℕ) (deed : Deed) (a b : Memory) → StaysWhole a → DoesDeed n deed a b → StaysWhole b
 whole-does n (sends k freshness) a b h d = whole-same a b d.changes.image d.changes.plan h
 whole-does n (accepts k freshness) a b h d = whole-same a b d.changes.image d.changes.plan h
-whole-does n (takes k counter) a b h d = whole-same a b d.changes.image d.changes.plan h
+whole-does n (takes k counter) a b h d = whole-same a b d.1.changes.image d.1.changes.plan h
 whole-does n (opens k) a b h d = whole-same a b d.changes.image d.changes.plan h
 whole-does n (sets k) a b h d = whole-same a b d.changes.image d.changes.plan h
 whole-does n (reserves k) a b h d = record {
@@ -97,3 +97,31 @@ pub whole_over : (n : ℕ) (deeds : List Deed) (a c : Memory) → IsEmptyPlan a.
 whole_over n deeds a c empty whole lives y cut =
     let h = whole-over n deeds a c (record { whole = whole; planned = inl empty }) lives in
     (h.whole, whole-cut c y cut h)
+
+-- the image stays as long
+long-cut : (a : Memory) (y : List ℕ) → LeavesPut a.plan a.image y → StaysWhole a → length y ≡ length a.image
+long-cut a y cut h = elim h.planned [ inl none ↦ (cut.none none).size | inr (place, (new, plans)) ↦ (cut.put place new plans).size ]
+
+long-does : (n : ℕ) (deed : Deed) (a b : Memory) → StaysWhole a → DoesDeed n deed a b → length b.image ≡ length a.image
+long-does n (sends k freshness) a b h d = ap length d.changes.image
+long-does n (accepts k freshness) a b h d = ap length d.changes.image
+long-does n (takes k counter) a b h d = ap length d.1.changes.image
+long-does n (opens k) a b h d = ap length d.changes.image
+long-does n (sets k) a b h d = ap length d.changes.image
+long-does n (reserves k) a b h d = ap length d.image
+long-does n (loads other) a b h d = ap length d.image
+long-does n drops a b h d = ap length d.image
+long-does n finishes a b h d = ap length d.done.image_is ∙ elim h.planned [
+  | inl none ↦ ap length (applied-none a.plan a.image none)
+  | inr (place, (new, plans)) ↦ applied-length a.plan a.image place new plans
+]
+long-does n powers_up a b h d = long-cut a b.image d.left h
+
+long-over : (n : ℕ) (deeds : List Deed) (a c : Memory) → StaysWhole a → Lives n deeds a c → length c.image ≡ length a.image
+long-over n [] a c h lives = ap (λ (m : Memory). length m.image) lives
+long-over n (deed ∷ deeds) a c h (b, (d, rest)) = long-over n deeds b c (whole-does n deed a b h d) rest ∙ long-does n deed a b h d
+
+pub long_over : (n : ℕ) (deeds : List Deed) (a c : Memory) → IsEmptyPlan a.plan → IsWhole a.image → Lives n deeds a c → (y : List ℕ) → LeavesPut c.plan c.image y → length y ≡ length a.image
+long_over n deeds a c empty whole lives y cut =
+    let start : StaysWhole a = record { whole = whole; planned = inl empty } in
+    long-cut c y cut (whole-over n deeds a c start lives) ∙ long-over n deeds a c start lives

@@ -50,7 +50,7 @@ opened_same r s image o = same_then r o.filled s o.same (record {
 deed_same : (n k : ℕ) (deed : Deed) (a b : Memory) → k < n → DoesDeed n deed a b → SameRoute (a.routes k) (b.routes k)
 deed_same n k (sends j freshness) a b x d = one_same n j k a b d.changes (advanced_same _ (a.routes j) (b.routes j) a.image freshness d.advances)
 deed_same n k (accepts j freshness) a b x d = one_same n j k a b d.changes (advanced_same _ (a.routes j) (b.routes j) a.image freshness d.advances)
-deed_same n k (takes j counter) a b x d = one_same n j k a b d.changes (advanced_same _ (a.routes j) (b.routes j) a.image counter d.advances)
+deed_same n k (takes j counter) a b x d = one_same n j k a b d.1.changes (advanced_same _ (a.routes j) (b.routes j) a.image counter d.1.advances)
 deed_same n k (opens j) a b x d = one_same n j k a b d.changes (opened_same (a.routes j) (b.routes j) a.image d.opened)
 deed_same n k (sets j) a b x d = one_same n j k a b d.changes d.same
 deed_same n k (reserves j) a b x d = same_struct (a.routes k) (b.routes k) (d.routes k)
@@ -71,7 +71,7 @@ image_same image y plan r e h = record {
 image_rises : (n k : ℕ) (deed : Deed) (a b : Memory) → DoesDeed n deed a b → (h : Holds a.image a.plan (a.routes k)) → AtLeast h.bound b.image (a.routes k) h.direction
 image_rises n k (sends j freshness) a b d h = image_same a.image b.image a.plan (a.routes k) d.changes.image h
 image_rises n k (accepts j freshness) a b d h = image_same a.image b.image a.plan (a.routes k) d.changes.image h
-image_rises n k (takes j counter) a b d h = image_same a.image b.image a.plan (a.routes k) d.changes.image h
+image_rises n k (takes j counter) a b d h = image_same a.image b.image a.plan (a.routes k) d.1.changes.image h
 image_rises n k (opens j) a b d h = image_same a.image b.image a.plan (a.routes k) d.changes.image h
 image_rises n k (sets j) a b d h = image_same a.image b.image a.plan (a.routes k) d.changes.image h
 image_rises n k (reserves j) a b d h = image_same a.image b.image a.plan (a.routes k) d.image h
@@ -155,7 +155,7 @@ written n k reserve window bound a c x s is kept w =
     let ranges : InRanges r Receives = subst (λ (d : Direction). InRanges r d) e w.plans.reserved.ranges in
     let done : PlanDone w.planning.image w.planned.plan c.image c.plan = subst (λ (y : List ℕ). PlanDone y w.planned.plan c.image c.plan) (w.image_stays ∙ w.plans.image) (subst (λ (y : Plan). PlanDone w.finishing.image y c.image c.plan) w.plan_stays w.done.done) in
     let fits = w.candidate.fits in
-    let near = w.candidate.within.near in
+    let near = w.candidate.near in
     let wide = w.window_most in
     let large = w.reserve_least in
     let low = o.reached.least in

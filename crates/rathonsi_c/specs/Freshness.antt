@@ -1,7 +1,8 @@
 -- A freshness manager: freshness is given and taken, and another module makes and checks the authenticators (AUTOSAR
 -- SecOC, interface to the freshness manager).
-use Rattle.std.specs.Prelude.{ℤ, ◌≡◌, ℕ, zero, suc, ◌+◌, ◌%◌, ◌^◌, ◌<◌, ◌≤◌, List}
+use Rattle.std.specs.Prelude.{ℤ, ◌≡◌, ℕ, zero, suc, ◌+◌, ◌<◌, ◌≤◌, List}
 use Rattle.freshness_routes.specs.declared.routes.Direction.TheVariants.{Receives}
+use Rattle.secured_pdu.specs.Frame.{AheadWithBits, TakesBits}
 use Rattle.store_plan.specs.declared.planning.Plan.{Plan}
 use Rattle.rathonsi_c.specs.declared.TheConstants.{BAD_VALUE, FRESHNESS_FAILURE, RESERVE}
 use Rattle.rathonsi_c.specs.declared.route.RathonsiRoute.{RathonsiRoute}
@@ -15,19 +16,6 @@ use Rattle.rathonsi_c.specs.Lives.{PlanDone, Memory, Deed, Lives, PlansBound, Fi
 pub record WithinWindow (counter window freshness : ℕ) : Type 0 where
   pub above : counter < freshness
   pub near : freshness ≤ counter + window
-
--- and has these low bits, so many of them
-pub record AheadWithBits (counter window bits truncated freshness : ℕ) : Type 0 where
-  pub within : WithinWindow counter window freshness
-  pub low_is : freshness % 2 ^ bits ≡ truncated
-  pub fits : freshness < 2 ^ 64
-
--- these are so many bits, and no two freshness values of a window have the same
-pub record TakesBits (window bits truncated : ℕ) : Type 0 where
-  pub bits_least : 1 ≤ bits
-  pub bits_most : bits ≤ 64
-  pub truncated_fits : truncated < 2 ^ bits
-  pub window_fits : window ≤ 2 ^ bits
 
 -- the freshness with these low bits is above the bound in the image
 pub record AheadOfBound (r : RathonsiRoute) (image : List ℕ) (bits truncated : ℕ) : Type 0 where

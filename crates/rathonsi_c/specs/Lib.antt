@@ -13,7 +13,11 @@ pub mod Opening
 pub mod Looking
 pub mod Steps
 pub mod Syncing
+pub mod Rejoining
+pub mod Pairs
+pub mod Nonces
 pub mod Growing
+pub mod Softwares
 pub mod Pieces
 pub mod Booting
 pub mod Flash

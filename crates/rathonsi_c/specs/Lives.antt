@@ -24,10 +24,10 @@ pub record Memory : Type 0 where
   pub routes : ℕ → RathonsiRoute
 
 -- What happens. A PDU with this freshness is sent by a route, or accepted, or its freshness is given to another module,
--- or accepted from it; an answer of its sender that tells this
--- counter is taken by a route; a route is opened again; a field of it that doesn't say which route it is, nor its
--- counter, nor opens it, is set; a bound is planned for a route, or an update for a slot; a plan is dropped before a
--- write of it was begun; a plan is done, and the caller says so; the power comes back, whenever it went.
+-- or accepted from it, or becomes a nonce; an answer of the other side that tells this counter is taken by a route; a
+-- route is opened again; a field of it that doesn't say which route it is, nor its counter, nor opens it, is set; a bound
+-- is planned for a route, or an update for a slot; a plan is dropped before a write of it was begun; a plan is done, and
+-- the caller says so; the power comes back, whenever it went. A rejoin lowers a counter: `Pairs` speaks of it.
 pub data Deed : Type 0 where
   sends : (route : ℕ) → (freshness : ℕ) → Deed
   accepts : (route : ℕ) → (freshness : ℕ) → Deed
@@ -63,7 +63,7 @@ pub record OpensFilled (r : RathonsiRoute) (image : List ℕ) (opened : Rathonsi
   pub is_opened : Opens filled image opened
 
 -- `rathonsi_route_send` or `rathonsi_route_receive` on route k, in one step or in two; or `rathonsi_sync_take`; or
--- `rathonsi_freshness_next` or `rathonsi_freshness_accept`
+-- `rathonsi_freshness_next` or `rathonsi_freshness_accept`; or `rathonsi_sync_nonce`
 pub record GivesOut (direction : Direction) (n k freshness : ℕ) (a b : Memory) : Type 0 where
   pub changes : ChangesRoute n k a b
   pub advances : RouteAdvances direction (a.routes k) a.image freshness (b.routes k)
@@ -79,6 +79,7 @@ pub record SetsFields (n k : ℕ) (a b : Memory) : Type 0 where
   pub same : SameRoute (a.routes k) (b.routes k)
   pub counter : (b.routes k).counter ≡ (a.routes k).counter
   pub opened : IsOpened (b.routes k) → IsOpened (a.routes k)
+  pub mark : IsOpened (b.routes k) → (b.routes k).opened ≡ (a.routes k).opened
   pub direction : Direction
   pub ranges : InRanges (b.routes k) direction
 
@@ -125,7 +126,7 @@ pub record PowerBack (n : ℕ) (a b : Memory) : Type 0 where
 abbrev pub DoesDeed : ℕ → Deed → Memory → Memory → Type 0
 DoesDeed n (sends k freshness) a b = GivesOut Sends n k freshness a b
 DoesDeed n (accepts k freshness) a b = GivesOut Receives n k freshness a b
-DoesDeed n (takes k counter) a b = GivesOut Receives n k counter a b
+DoesDeed n (takes k counter) a b = (direction : Direction) × GivesOut direction n k counter a b
 DoesDeed n (opens k) a b = OpensRoute n k a b
 DoesDeed n (sets k) a b = SetsFields n k a b
 DoesDeed n (reserves k) a b = PlansBound n k a b

@@ -15,7 +15,7 @@ use Rattle.store_plan.specs.declared.planning.Plan.{Plan}
 use Rattle.store_plan.specs.Plans.{PlansPut, IsEmptyPlan}
 use Rattle.rathonsi_c.specs.declared.TheConstants.{OK, BAD_LENGTH, BAD_VALUE, FRESHNESS_FAILURE, VERIFICATION_FAILURE}
 use Rattle.rathonsi_c.specs.declared.TheConstants.{DAMAGED, BUSY, RESERVE, EXHAUSTED, WRONG_CELL}
-use Rattle.rathonsi_c.specs.declared.opened.TheConstants.{CHECK_PRIME}
+use Rattle.rathonsi_c.specs.declared.opened.TheConstants.{CHECK_PRIME, FRESH, MOVED}
 use Rattle.rathonsi_c.specs.declared.secoc.RathonsiVerdict.{RathonsiVerdict}
 use Rattle.rathonsi_c.specs.declared.route.RathonsiRoute.{RathonsiRoute}
 use Rattle.rathonsi_c.specs.Causes.{IfCause, IsDone, erc_status}
@@ -37,19 +37,29 @@ pub record InRanges (r : RathonsiRoute) (direction : Direction) : Type 0 where
 abbrev pub OutOfRanges : RathonsiRoute → Type 0
 OutOfRanges r = (direction : Direction) → ¬ InRanges r direction
 
--- the number that an open route keeps of its Data ID, direction, cell and counter (own): never 0, and below 2^24
-abbrev pub check_number : ℕ → ℕ → ℕ → ℕ → ℕ
-check_number id direction cell counter =
-    1 + (counter + 3 * ((direction * 2 ^ 16 + cell) * 2 ^ 16 + id)) % CHECK_PRIME
+-- the number that an open route keeps of its Data ID, direction, cell, counter and `opened` (own): never 0, and below
+-- 2^24
+abbrev pub check_number : RathonsiRoute → ℕ
+check_number r =
+    1 + (r.counter + 3 * (((r.opened * 2 ^ 8 + r.direction) * 2 ^ 16 + r.cell) * 2 ^ 16 + r.data_id)) % CHECK_PRIME
 
 -- in three bytes, the highest first
-abbrev pub check_of : ℕ → ℕ → ℕ → ℕ → List ℕ
-check_of id direction cell counter = bytes_of 3 (check_number id direction cell counter)
+abbrev pub check_of : RathonsiRoute → List ℕ
+check_of r = bytes_of 3 (check_number r)
 
--- `rathonsi_route_open` opened the route, and its Data ID, direction, cell and counter are as the calls left them
+-- the route with the check value of its fields
+abbrev pub sealed : RathonsiRoute → RathonsiRoute
+sealed r = record r { check = check_of r }
+
+-- `rathonsi_route_open` opened the route, and its Data ID, direction, cell, counter and mark are as the calls left them
 pub record IsOpened (r : RathonsiRoute) : Type 0 where
-  pub opened_is : r.opened ≡ 1
-  pub check_is : r.check ≡ check_of r.data_id r.direction r.cell r.counter
+  pub opened_is : (r.opened ≡ FRESH) ⊎ (r.opened ≡ MOVED)
+  pub check_is : r.check ≡ check_of r
+
+-- the route is open, and a call moved its counter
+pub record HasMoved (r : RathonsiRoute) : Type 0 where
+  pub opened : IsOpened r
+  pub moved : r.opened ≡ MOVED
 
 -- the caller says that another module makes and checks the authenticators of the route's PDUs
 abbrev pub IsFreshnessOnly : RathonsiRoute → Type 0
@@ -66,12 +76,11 @@ is_booted r = r.booted == 1
 
 -- the route with another counter, which a call gave it
 abbrev pub at_counter : RathonsiRoute → ℕ → RathonsiRoute
-at_counter r counter =
-    record r { counter = counter; check = check_of r.data_id r.direction r.cell counter }
+at_counter r counter = sealed (record r { counter = counter; opened = MOVED })
 
--- the route as it is opened at this bound
-abbrev pub opened_at : RathonsiRoute → ℕ → RathonsiRoute
-opened_at r bound = at_counter (record r { opened = 1 }) bound
+-- the route as it is opened at this bound, with this mark
+abbrev pub opened_at : RathonsiRoute → ℕ → ℕ → RathonsiRoute
+opened_at r bound mark = sealed (record r { counter = bound; opened = mark })
 
 -- the route as an opening that failed leaves it
 abbrev pub closed : RathonsiRoute → RathonsiRoute
@@ -104,7 +113,10 @@ pub record Opens (r : RathonsiRoute) (image : List ℕ) (opened : RathonsiRoute)
   pub ranges : InRanges r direction
   pub bound : ℕ
   pub kept : ImageBound image r.cell r.data_id direction bound
-  pub now : opened ≡ opened_at r bound
+  pub mark : ℕ
+  pub still_moved : HasMoved r → mark ≡ MOVED
+  pub fresh : ¬ HasMoved r → mark ≡ FRESH
+  pub now : opened ≡ opened_at r bound mark
 
 -- a PDU with this freshness is given out, or accepted: it is above the counter, and becomes it, and a bound covers it
 pub record RouteAdvances (direction : Direction) (r : RathonsiRoute) (image : List ℕ) (freshness : ℕ)

@@ -2,7 +2,8 @@
 ghost use Rattle.std.specs.Prelude.{◌≡◌, ◌≢◌, ℕ, ◌+◌, ◌^◌, ◌%◌, ◌≤◌, ◌⊎◌, ◌↔◌, IfSome, IfNone, IsTrue};
 ghost use Rattle.freshness_routes.specs.declared.routes.Direction.TheVariants.{Sends, Receives};
 ghost use Rattle.rathonsi_c.specs.Routes.{BoundCovers, RouteAdvances};
-ghost use Rattle.rathonsi_c.specs.Freshness.{WithinWindow, AheadWithBits, TakesBits};
+ghost use Rattle.secured_pdu.specs.Frame.{AheadWithBits};
+ghost use Rattle.rathonsi_c.specs.Freshness.{WithinWindow};
 ghost use Rattle.rathonsi_c.specs.Freshness.{NextAnswers, CandidateAnswers, AcceptAnswers};
 
 use crate::opened::move_counter;
@@ -10,6 +11,7 @@ use crate::route::RathonsiRoute;
 use crate::steps::{bound_ready, next_freshness};
 use crate::{BAD_VALUE, FRESHNESS_FAILURE, OK, RESERVE};
 use freshness_store::Direction;
+use secured_pdu::{ahead_with_bits, takes_bits};
 
 /// Gives the freshness of the next PDU: the counter's successor, which becomes the counter. Answers in this order:
 /// `BAD_VALUE` (also: the route isn't for freshness alone), `WRONG_CELL`, `DAMAGED` (of its own cell alone),
@@ -99,49 +101,4 @@ pub extern "C" fn rathonsi_freshness_accept(
     }
     move_counter(route, freshness);
     OK
-}
-
-// The low bits of a value, 1 to 64 of them.
-fn low_bits(value: u64, bits: u8) -> u64
-    requires least { 1 ≤ bits }
-    requires most { bits ≤ 64 }
-    ensures { result ≡ value % 2 ^ bits }
-{
-    let rest = u32::from(64 - bits);
-    (value << rest) >> rest
-}
-
-// Whether these are so many bits, and the window has as many values at most.
-fn takes_bits(window: u16, bits: u8, truncated: u64) -> bool
-    ensures { IsTrue result ↔ TakesBits window bits truncated }
-{
-    if bits < 1 || bits > 64 {
-        return false;
-    }
-    if low_bits(truncated, bits) != truncated {
-        return false;
-    }
-    let last = u64::from(window).saturating_sub(1);
-    low_bits(last, bits) == last
-}
-
-// How far a value is above the counter's successor, modulo 2^64.
-fn distance(counter: u64, value: u64) -> u64
-    ensures { (counter + 1 + result) % 2 ^ 64 ≡ value }
-{
-    value.wrapping_sub(counter).wrapping_sub(1)
-}
-
-// The one freshness that has these low bits, and is 1 to `window` above the counter; `None` if there is none, or it
-// would not fit 64 bits.
-fn ahead_with_bits(counter: u64, window: u16, bits: u8, truncated: u64) -> Option<u64>
-    requires { TakesBits window bits truncated }
-    ensures none { IfNone result ((v : ℕ) → ¬ AheadWithBits counter window bits truncated v) }
-    ensures ahead { IfSome result (AheadWithBits counter window bits truncated) }
-{
-    let less = low_bits(distance(counter, truncated), bits);
-    if less >= u64::from(window) {
-        return None;
-    }
-    counter.checked_add(less + 1)
 }

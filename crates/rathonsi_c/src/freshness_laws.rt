@@ -3,13 +3,13 @@
 ghost use Rattle.std.specs.Prelude.{◌≡◌, ℕ, ◌+◌, ◌*◌, ◌%◌, ◌^◌, ◌<◌, ◌≤◌, ◌↔◌, ℤ, List};
 ghost use Rattle.freshness_routes.specs.declared.routes.Direction.{Direction};
 ghost use Rattle.freshness_routes.specs.declared.routes.Direction.TheVariants.{Receives, Sends};
-ghost use Rattle.secured_pdu.specs.Frame.{Ahead};
+ghost use Rattle.secured_pdu.specs.Frame.{Ahead, AheadWithBits, TakesBits};
 ghost use Rattle.store_plan.specs.declared.planning.Plan.{Plan};
 ghost use Rattle.rathonsi_c.specs.Images.{ImageBound};
 ghost use Rattle.rathonsi_c.specs.Routes.{InUse, IsFreshnessOnly, BoundCovers, Reserves};
 ghost use Rattle.freshness_store.specs.Bound.{direction_number};
 ghost use Rattle.rathonsi_c.specs.Lives.{PlanDone, Memory, PoweredUp};
-ghost use Rattle.rathonsi_c.specs.Freshness.{WithinWindow, AheadWithBits, TakesBits, CandidateWrites, AskedWrites};
+ghost use Rattle.rathonsi_c.specs.Freshness.{WithinWindow, CandidateWrites, AskedWrites};
 ghost use Rattle.rathonsi_c.specs.Freshness.{NextAnswers, CandidateAnswers, AcceptAnswers};
 ghost use Rattle.rathonsi_c.specs.declared.TheConstants.{OK, RESERVE};
 ghost use Rattle.rathonsi_c.specs.declared.route.RathonsiRoute.{RathonsiRoute};

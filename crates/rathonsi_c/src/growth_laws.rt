@@ -1,59 +1,102 @@
-//! What a store keeps as it gets the cell of one route more: the contract of each function is the law, and its body is
-//! empty. The caller calls `rathonsi_store_grow` at each power-up, for each route that the production line didn't make,
-//! and never asks `rathonsi_store_size` whether to.
-ghost use Rattle.std.specs.Prelude.{ℤ, ◌≡◌, ◌+◌, ◌<◌, ◌≤◌, ◌++◌, ℕ, List, length};
-ghost use Rattle.cell_store.specs.Twin.{twin_size};
+//! What a store keeps over all its software, older and newer: the contract of each function is the law, and its body is
+//! empty. Each software calls `rathonsi_store_mend` at each power-up, and then `rathonsi_store_grow` for its routes.
+ghost use Rattle.std.specs.Prelude.{ℤ, ◌≡◌, ◌≢◌, ◌<◌, ◌≤◌, ◌⊎◌, ◌++◌, ℕ, Some, List, take, replicate};
+ghost use Rattle.cell_store.specs.declared.kinds.Version.TheVariants.{One};
+ghost use Rattle.cell_store.specs.Layout.{twin_layout};
+ghost use Rattle.cell_store.specs.Store.{HasHeader};
+ghost use Rattle.cell_store.specs.Twin.{cell_at};
+ghost use Rattle.freshness_routes.specs.declared.routes.Direction.{Direction};
 ghost use Rattle.memory_update.specs.declared.messages.Reply.{Reply};
-ghost use Rattle.rathonsi_c.specs.Slots.{ConfirmsSlot};
-ghost use Rattle.rathonsi_c.specs.Stores.{IsWhole};
 ghost use Rattle.store_plan.specs.declared.planning.Plan.{Plan};
+ghost use Rattle.store_plan.specs.Plans.{IsEmptyPlan, applied};
+ghost use Rattle.store_plan.specs.Leaving.{LeavesPut};
 ghost use Rattle.rathonsi_c.specs.declared.route.RathonsiRoute.{RathonsiRoute};
 ghost use Rattle.rathonsi_c.specs.declared.TheConstants.{OK};
-ghost use Rattle.rathonsi_c.specs.Growing.{Updates, FoundAfter, PlansCell, PowerUps, StoreWithRoom, HasAllCells};
-ghost use Rattle.rathonsi_c.specs.Growing.{ComesToCall, CallGoesOn, CallsWith, GrowAnswers};
-ghost use Rattle.rathonsi_c.specs.Lives.{Memory, Deed, PoweredUp, Lives, RisesTo, given_out, SlotFilled};
+ghost use Rattle.rathonsi_c.specs.Growing.{TellsCells, SizeAnswers, GivesSize, MendAnswers, PlansNumber, GrowAnswers};
+ghost use Rattle.rathonsi_c.specs.Growing.{PlansCell};
+ghost use Rattle.rathonsi_c.specs.Images.{ImageBound};
+ghost use Rattle.rathonsi_c.specs.Lives.{Memory, Deed, Lives, SameRoute, RisesTo, SlotFilled};
+ghost use Rattle.rathonsi_c.specs.Routes.{InRanges, OpenAnswers};
+ghost use Rattle.rathonsi_c.specs.Slots.{ConfirmsSlot};
+ghost use Rattle.rathonsi_c.specs.Softwares.{Table, CellsApart, GrowthSteps, ComesUp, Software, AllSoftware};
+ghost use Rattle.rathonsi_c.specs.Softwares.{given_by_all, KeepsAtLeast, StoreWithRoom, HasOwnCell, HasFirst};
+ghost use Rattle.rathonsi_c.specs.Stores.{IsWhole, CheckAnswers};
 
-/// A unit with n routes lives, gets new software with a route more, over whatever cuts, and lives on. The freshness of
-/// each of the old routes rises over both.
-pub fn freshness_rises_across_an_update()
-    ensures rises { (n : ℕ) (before after : List Deed) (first last next end : Memory) → PoweredUp n first
-        → Lives n before first last → Updates n last next → Lives (n + 1) after next end → (k : ℕ) → k < n
-        → RisesTo (first.routes k).counter (given_out k before ++ given_out k after) (end.routes k).counter }
-    ensures powered { (n : ℕ) (before : List Deed) (first last next : Memory) → PoweredUp n first
-        → Lives n before first last → Updates n last next → PoweredUp (n + 1) next }
+/// A unit gets new software with more routes, over whatever cuts, goes back to older software, and forward again, as
+/// often as one likes. The freshness of each route rises over all of it (`rises`). If the image keeps a bound of the
+/// route at first, all freshness is above what that covers, and what the power leaves in the end keeps a bound that is
+/// at least all that the route gave out (`covered`).
+pub fn freshness_rises_over_all_software()
+    ensures rises { (table : Table) (softwares : List Software) (a c : Memory) (room end : List ℕ) → CellsApart table
+        → IsEmptyPlan a.plan → IsWhole a.image → AllSoftware table softwares a room c end → (k : ℕ)
+        → (high : ℕ) × RisesTo 0 (given_by_all k softwares) high }
+    ensures covered { (table : Table) (softwares : List Software) (a c : Memory) (room end : List ℕ) (k low : ℕ)
+        → CellsApart table → IsEmptyPlan a.plan → IsWhole a.image → AllSoftware table softwares a room c end
+        → KeepsAtLeast low (table.route k) a.image
+        → (high : ℕ) × (RisesTo low (given_by_all k softwares) high
+        × ((left : List ℕ) → LeavesPut c.plan c.image left → KeepsAtLeast high (table.route k) left)) }
 {}
 
-/// No filled slot becomes empty by it, a confirmed update of a slot that wasn't planned anew stays, and a store that
-/// `rathonsi_store_check` answers OK for is one of a cell more.
-pub fn keys_are_kept_across_an_update()
-    ensures filled { (n slot : ℕ) (last next : Memory) → (u : Updates n last next) → SlotFilled u.left slot
-        → SlotFilled next.image slot }
-    ensures kept { (n : ℕ) (last next : Memory) (uid m1 : List ℕ) (reply : Reply) → (u : Updates n last next)
-        → ConfirmsSlot uid m1 u.left reply → ConfirmsSlot uid m1 next.image reply }
-    ensures whole { (n : ℕ) (last next : Memory) → (u : Updates n last next) → IsWhole u.left → IsWhole next.image }
+/// No filled slot becomes empty by a change of software, a confirmed update of a slot that wasn't planned anew stays,
+/// and the store that comes up is one that `rathonsi_store_check` answers OK for.
+pub fn keys_are_kept_over_all_software()
+    ensures filled { (table : Table) (n slot : ℕ) (a b : Memory) (room behind : List ℕ)
+        → (u : ComesUp table n a room b behind) → slot < 14 → SlotFilled u.left slot → SlotFilled b.image slot }
+    ensures kept { (table : Table) (n : ℕ) (a b : Memory) (room behind uid m1 : List ℕ) (reply : Reply)
+        → (u : ComesUp table n a room b behind) → ConfirmsSlot uid m1 u.left reply → ConfirmsSlot uid m1 b.image reply }
+    ensures whole { (table : Table) (n : ℕ) (a b : Memory) (room behind : List ℕ) → ComesUp table n a room b behind
+        → IsWhole b.image }
 {}
 
-/// The call for a route whose cell the store has plans nothing, if the store is whole: at each power-up, and also while
-/// a later cell grows, however often the power goes within that, and whatever number of cells it leaves. `store` is
-/// what the device held as that growth began, and `x` what it holds now.
-pub fn a_call_for_a_cell_that_is_there_plans_nothing()
-    ensures { (cuts i bound : ℕ) (c store room x : List ℕ) (route : RathonsiRoute) (old new : Plan) → length c ≡ 32
-        → IsWhole store → length store ≡ twin_size i → 68 ≤ length room → FoundAfter cuts i c (store ++ room) x
-        → route.cell < i → PlansCell route bound x old new → new ≡ old }
+/// A roll-back at any moment opens. Software of n routes came up once, and then any other software, newer or older, in
+/// any order. The last one loses power within whatever it does, also within a growth. Then `rathonsi_store_size` and
+/// `rathonsi_store_mend` answer OK. Once the number is right, `rathonsi_store_check` does, and each of the n routes
+/// opens.
+pub fn a_roll_back_opens()
+    ensures told { (table : Table) (n steps : ℕ) (a b d e : Memory) (room behind end left y : List ℕ)
+        (deeds : List Deed) (others : List Software) (status : ℤ) → CellsApart table
+        → ComesUp table n a room b behind → Lives n deeds b d → AllSoftware table others d behind e end
+        → LeavesPut e.plan e.image left → GrowthSteps table steps (left ++ end) y → SizeAnswers y status
+        → status ≡ OK }
+    ensures mended { (table : Table) (n steps : ℕ) (a b d e : Memory) (room behind end left y : List ℕ)
+        (deeds : List Deed) (others : List Software) (plan : Plan) (status : ℤ) → CellsApart table
+        → ComesUp table n a room b behind → Lives n deeds b d → AllSoftware table others d behind e end
+        → LeavesPut e.plan e.image left → GrowthSteps table steps (left ++ end) y → IsEmptyPlan plan
+        → MendAnswers y plan status → status ≡ OK }
+    ensures checked { (size : ℕ) (y : List ℕ) (old new : Plan) (status : ℤ) → GivesSize y size
+        → PlansNumber y old new → new ≡ old → CheckAnswers (take size y) status → status ≡ OK }
+    ensures opened { (table : Table) (n steps size k : ℕ) (a b d e : Memory) (room behind end left y : List ℕ)
+        (deeds : List Deed) (others : List Software) (filled : RathonsiRoute) (direction : Direction) (status : ℤ)
+        → CellsApart table → ComesUp table n a room b behind → Lives n deeds b d
+        → AllSoftware table others d behind e end → LeavesPut e.plan e.image left
+        → GrowthSteps table steps (left ++ end) y → GivesSize y size → k < n → SameRoute (table.route k) filled
+        → InRanges filled direction → OpenAnswers filled (take size y) status → status ≡ OK }
 {}
 
-/// An update that adds any number of routes, as docs/units.md has it: at each power-up the caller makes the call for
-/// each cell from cell p on, in order, whatever the size says. The power goes within their plans as often as it may.
-/// In the end the store has the right number of cells, each with a copy that counts. Those that were there are as
-/// they were, and each new one has its route's first bound. p is the number of cells that the production line made,
-/// or fewer. No call on the way is refused: whatever number of cells a cut left, each call goes on, and answers `OK`.
+/// The line erased the room up to cell `top`. Then each call of a growth is answered OK, whatever calls of whichever
+/// software came before it, and wherever in their plans the power went: for a cell that the store has, and for the
+/// next one (`each_is_ok`). No cell is lost (`goes_on`). Each is as it was, or holds the first bound of its route, if
+/// it was nobody's (`cells`, `kept`).
 pub fn a_store_gets_all_its_cells()
-    ensures all_cells { (cuts p n m : ℕ) (payload : ℕ → List ℕ) (x z : List ℕ) → ((i : ℕ) → length (payload i) ≡ 32)
-        → p ≤ m → StoreWithRoom m (p + n) x → PowerUps cuts payload p n x z → HasAllCells payload m (p + n) x z }
-    ensures goes_on { (cuts p n m i : ℕ) (payload : ℕ → List ℕ) (x y : List ℕ) → ((i : ℕ) → length (payload i) ≡ 32)
-        → p ≤ m → StoreWithRoom m (p + n) x → ComesToCall cuts payload p n i x y → CallGoesOn payload m i x y }
-    ensures each_is_ok { (cuts p n m bound : ℕ) (payload : ℕ → List ℕ) (x y : List ℕ) (route : RathonsiRoute)
-        (plan : Plan) (status : ℤ) → ((i : ℕ) → length (payload i) ≡ 32) → p ≤ m → StoreWithRoom m (p + n) x
-        → ComesToCall cuts payload p n route.cell x y → CallsWith route bound plan payload m x
-        → GrowAnswers route bound y plan status → status ≡ OK }
+    ensures goes_on { (table : Table) (steps n top : ℕ) (x y : List ℕ) → StoreWithRoom n top x
+        → ((k : ℕ) → (table.route k).cell < top) → GrowthSteps table steps x y
+        → (m : ℕ) × (StoreWithRoom m top y × (n ≤ m)) }
+    ensures cells { (table : Table) (steps j : ℕ) (x y : List ℕ) → GrowthSteps table steps x y
+        → (cell_at y j ≡ cell_at x j) ⊎ HasFirst table y j }
+    ensures kept { (table : Table) (steps j : ℕ) (x y bytes : List ℕ) → GrowthSteps table steps x y
+        → cell_at x j ≡ Some bytes → bytes ≢ replicate 32 0 → cell_at y j ≡ Some bytes }
+    ensures each_is_ok { (n top : ℕ) (y : List ℕ) (filled : RathonsiRoute) (direction : Direction) (plan : Plan)
+        (status : ℤ) → StoreWithRoom n top y → filled.cell ≤ n → filled.cell < top → InRanges filled direction
+        → HasOwnCell filled n y → IsEmptyPlan plan → GrowAnswers filled y plan status → status ≡ OK }
+{}
+
+/// A caller that makes the same call again, once its plan is done, comes to its end: the third call plans nothing, and
+/// the store has the number of its cells, and the cell of the route with a bound.
+pub fn the_third_call_plans_nothing()
+    ensures ends { (filled : RathonsiRoute) (bound : ℕ) (x : List ℕ) (a one b two c three : Plan)
+        → PlansCell filled bound x a one → PlansCell filled bound (applied one x) b two
+        → PlansCell filled bound (applied two (applied one x)) c three → three ≡ c }
+    ensures has { (filled : RathonsiRoute) (bound : ℕ) (x : List ℕ) (old new : Plan) → PlansCell filled bound x old new
+        → new ≡ old → (n : ℕ) × (TellsCells x n × HasHeader (twin_layout One) n x × (filled.cell < n)
+        × ((direction : Direction) × ((kept : ℕ) × ImageBound x filled.cell filled.data_id direction kept))) }
 {}

@@ -20,9 +20,12 @@ mod keys;
 pub mod laws;
 mod looking;
 mod macs;
+mod nonces;
 mod opened;
 mod opening;
 mod refusals;
+mod rejoin;
+pub mod rejoin_laws;
 mod reserving;
 mod route;
 mod secoc;
@@ -53,10 +56,12 @@ pub use flash::{
 pub use freshness::{
     rathonsi_freshness_accept, rathonsi_freshness_candidate, rathonsi_freshness_next,
 };
-pub use growing::{rathonsi_store_grow, rathonsi_store_size};
+pub use growing::{rathonsi_store_grow, rathonsi_store_mend, rathonsi_store_size};
 pub use looking::rathonsi_store_look;
 pub use macs::{RathonsiMac, rathonsi_mac_begin, rathonsi_mac_finish, rathonsi_mac_update};
+pub use nonces::rathonsi_sync_nonce;
 pub use opening::rathonsi_routes_open;
+pub use rejoin::{rathonsi_sync_rejoin, rathonsi_sync_rejoin_mac};
 pub use reserving::{
     rathonsi_route_reserve_ahead, rathonsi_route_reserve_for, rathonsi_route_reserve_next,
 };
@@ -84,7 +89,10 @@ pub use steps::{
 pub use store::{
     rathonsi_route_make, rathonsi_store_check, rathonsi_store_done, rathonsi_store_make,
 };
-pub use sync::{rathonsi_sync_answer, rathonsi_sync_take};
+pub use sync::{
+    RathonsiAnswerInput, RathonsiQuestion, rathonsi_sync_answer, rathonsi_sync_answer_input,
+    rathonsi_sync_answer_mac, rathonsi_sync_take, rathonsi_sync_take_input, rathonsi_sync_take_mac,
+};
 
 /// The call did what it says.
 pub const OK: i32 = 0;

@@ -16,7 +16,7 @@ ghost use Rattle.rathonsi_c.specs.Causes.{IsDone};
 
 use crate::faults::field_outside;
 use crate::images::slot_at;
-use crate::opened::{is_open, move_counter};
+use crate::opened::{is_open, mark_of, move_counter, open_at};
 use crate::refusals::Refusal;
 use crate::secoc::{RathonsiVerdict, refusal as no_verdict};
 use crate::{
@@ -50,11 +50,12 @@ pub struct RathonsiRoute {
     pub direction: u8,
     /// 1 after a secure boot that succeeded, else 0.
     pub booted: u8,
-    /// 1 once `rathonsi_route_open` opened it, with `OK`.
+    /// 1 once `rathonsi_route_open` opened it, with `OK`, and 2 once a call moved its counter since. The calls alone write
+    /// it.
     pub opened: u8,
     /// 1: another module makes and checks its authenticators, and asks for the freshness alone. 0: this library does.
     pub freshness_only: u8,
-    /// The check value of an open route over its Data ID, direction, cell and counter. The calls alone write it.
+    /// The check value of an open route over its Data ID, direction, cell, counter and `opened`. The calls alone write it.
     pub check: [u8; 3],
 }
 
@@ -136,13 +137,13 @@ pub fn make_ready(route: &RathonsiRoute, wanted: Direction, image: &[u8]) -> Res
 
 /// What is to be sent with.
 #[derive(Clone, Copy)]
-struct Sending {
-    key: Block,
-    freshness: u64,
+pub struct Sending {
+    pub key: Block,
+    pub freshness: u64,
 }
 
-// Whether a route may send, and with what.
-fn may_send(route: &RathonsiRoute, image: &[u8]) -> Result<Sending, Refusal>
+/// Whether a route may send, and with what.
+pub fn may_send(route: &RathonsiRoute, image: &[u8]) -> Result<Sending, Refusal>
     ensures in_use { IfOk result (λ _. InUse route.now Sends) }
     ensures covered { IfOk result (λ s. BoundCovers route.now image.now Sends s.freshness) }
     ensures key { IfOk result (λ s. ImageKey image.now route.now.slot (is_booted route.now) s.key) }
@@ -177,8 +178,8 @@ pub extern "C" fn rathonsi_route_open(route: &mut RathonsiRoute, image: &[u8]) -
     };
     match bound_of(route, direction, image) {
         Ok(bound) => {
-            route.opened = 1;
-            move_counter(route, bound);
+            let mark = mark_of(route);
+            open_at(route, bound, mark);
             OK
         }
         Err(refusal) => {

@@ -34,7 +34,7 @@ pub struct RathonsiRouteState {
 }
 
 /// The version of the library: major, minor and patch, a byte each.
-pub const VERSION: u32 = 0x001300;
+pub const VERSION: u32 = 0x001400;
 
 /// The version of this library, to be compared with the header's.
 #[unsafe(no_mangle)]

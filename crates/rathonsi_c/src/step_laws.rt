@@ -42,7 +42,7 @@ pub fn a_receive_is_two_steps()
         → ReceiveMacAnswers r image pdu input (cmac key (take input.size input.bytes)) two → one ≡ two }
 {}
 
-/// An open route isn't open any more if its counter, Data ID, direction or cell alone is set by hand to another value;
+/// An open route isn't open any more if its counter, Data ID, direction, cell or mark alone is set by hand to another value;
 /// of the counter, to one that isn't a multiple of 16,777,213 away. No open route has a check value of zeros.
 pub fn an_open_route_that_was_changed_is_not_open()
     ensures counter { (r : RathonsiRoute) (counter : ℕ) → IsOpened r → IsOpened (record r { counter = counter })
@@ -53,6 +53,8 @@ pub fn an_open_route_that_was_changed_is_not_open()
         → IsOpened (record r { direction = direction }) → direction ≡ r.direction }
     ensures cell { (r : RathonsiRoute) (cell : ℕ) → r.cell < 2 ^ 16 → cell < 2 ^ 16 → IsOpened r
         → IsOpened (record r { cell = cell }) → cell ≡ r.cell }
+    ensures mark { (r : RathonsiRoute) (mark : ℕ) → r.opened < 2 ^ 8 → mark < 2 ^ 8 → IsOpened r
+        → IsOpened (record r { opened = mark }) → mark ≡ r.opened }
     ensures zeros { (r : RathonsiRoute) → IsOpened r → r.check ≢ replicate 3 0 }
 {}
 
@@ -84,5 +86,5 @@ pub fn each_status_has_its_number()
 
 /// The number of the version, as `rathonsi.h` has it: major, minor and patch, a byte each.
 pub fn the_version_has_its_number()
-    ensures { VERSION ≡ 0 * 2 ^ 16 + 19 * 2 ^ 8 + 0 }
+    ensures { VERSION ≡ 0 * 2 ^ 16 + 20 * 2 ^ 8 + 0 }
 {}

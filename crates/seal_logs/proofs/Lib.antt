@@ -1,2 +1,5 @@
 pub mod LatestLaws
 pub mod ChainLaws
+pub mod StartLaws
+pub mod OneEnd
+pub mod CallerLemmas

@@ -8,10 +8,13 @@ ghost use Rattle.std.specs.Prelude.{◌≡◌, ◌*◌, length};
 
 mod finding;
 mod following;
+pub mod laws;
+mod starting;
 
 pub use finding::{FoundDeed, Latest, find_latest, lacks_line, next_free};
 pub use following::{follow, make_cells, read_copy};
 use seal_parts::SealLine;
+pub use starting::{FoundStore, StartEnd, find_start, is_move};
 
 /// How many banks a log goes round, how many places a bank has, and how many cells the store has.
 #[derive(Clone, Copy, Debug, PartialEq, Eq, Drop)]

@@ -197,11 +197,15 @@ module _ (places bank place at : ℕ) (kind : UnitKind) (is : at ≡ at_unit pla
       same = same_but_unit erased held (set held at u) (λ k ne. unit_other held at k u ne);
     }
 
-    pub program_cut : u.content ≡ Some content → CutsProgramming class bank place kind content (part_in places erased held) (part_in places erased (set held at u))
-    program_cut now = record {
+    pub program_left : (left : PartUnit) → unit_of u ≡ left → (part_in places erased (set held at u)).unit bank place kind ≡ left
+    program_left left now = at_place erased (set held at u) ∙ (unit_set held at u below ∙ now)
+
+    pub program_cut : u.content ≡ Some content → u.missed ≡ false → CutsProgramming class bank place kind content (part_in places erased held) (part_in places erased (set held at u))
+    program_cut now unread = record {
       may = may;
       fits = fits;
       left = inl (ap (λ (z : PartUnit). z.content) (at_place erased (set held at u) ∙ unit_set held at u below) ∙ now);
+      unread = ap (λ (z : PartUnit). z.missed) (at_place erased (set held at u) ∙ unit_set held at u below) ∙ unread;
       same = same_but_unit erased held (set held at u) (λ k ne. unit_other held at k u ne);
     }
 
@@ -216,9 +220,13 @@ module _ (places bank place at : ℕ) (kind : UnitKind) (is : at ≡ at_unit pla
 
 -- ---- one unit more of a range
 
-pub firm_unit : (content : UnitContent) (is_cut : Bool) → is_cut ≡ false → unit_of (record { content = Some content; firm = not is_cut }) ≡ whole_unit content
+pub firm_unit : (content : UnitContent) (is_cut : Bool) → is_cut ≡ false → unit_of (record { content = Some content; firm = not is_cut; missed = false }) ≡ whole_unit content
 firm_unit content true e = absurd (cc)
 firm_unit content false e = refl
+
+pub loose_unit : (content : UnitContent) (is_cut : Bool) → is_cut ≡ true → unit_of (record { content = Some content; firm = not is_cut; missed = false }) ≡ record { content = Some content; firm = false; missed = false }
+loose_unit content true e = refl
+loose_unit content false e = absurd (cc)
 
 fits_mark : (kind : UnitKind) → unit_number kind ≢ 2 → FitsUnit kind Mark
 fits_mark Guard ne = tt

@@ -1,5 +1,5 @@
 -- A life whose first write is a program, and a put that is one program.
-use Rattle.std.proofs.Common.{◌≡◌, ◌⊎◌, inl, inr, ℕ, Bool, false, Some, None, List, [], ◌∷◌, ◌++◌, refl, sym, ap, subst, ◌∙◌}
+use Rattle.std.proofs.Common.{◌≡◌, ◌⊎◌, inl, inr, ℕ, Bool, true, false, Some, None, List, [], ◌∷◌, ◌++◌, refl, sym, ap, subst, ◌∙◌, if◌then◌else◌}
 use Rattle.std.proofs.lemmas.Bool.{true≢false}
 use Rattle.seal_parts.specs.declared.PartClass.{PartClass}
 use Rattle.seal_parts.specs.declared.PartClass.TheVariants.{Guards, Blanks, Settled}
@@ -7,7 +7,7 @@ use Rattle.seal_parts.specs.declared.UnitKind.{UnitKind}
 use Rattle.seal_parts.specs.declared.UnitContent.{UnitContent}
 use Rattle.seal_parts.specs.declared.UnitAnswer.{UnitAnswer}
 use Rattle.seal_parts.specs.declared.UnitAnswer.TheVariants.{Whole, Blank, Nothing}
-use Rattle.seal_parts.specs.Parts.{PartUnit, PartFlash, PartView, IsGuard, MayProgram, is_blank, is_open, FitsUnit, ProgramsUnit, CutsProgramming, MayAnswer, is_whole, is_told, is_nothing, unit_after, ReadsUnits, blank_unit}
+use Rattle.seal_parts.specs.Parts.{PartUnit, PartFlash, PartView, IsGuard, MayProgram, is_blank, is_open, FitsUnit, ProgramsUnit, CutsProgramming, MayAnswer, is_whole, is_told, is_nothing, is_miss, unit_after, ReadsUnits, blank_unit}
 use Rattle.seal_parts.specs.Designs.{PartWrite, programs_unit, PartDesign, PartLife, cut_life, LivesOnPart, PartLives, DoesPartWrites, CutsPartWrites, MayDoPartWrites, KeepsDuties, NoFalseAlarm, LosesUnit}
 use Rattle.seal_parts.proofs.Units.{IsUnit, at_tells, set_unit, set_here, set_there}
 
@@ -18,10 +18,20 @@ lives_then class d (first ∷ lives) life start f g run once = (run.0, (run.1.0,
 
 -- ---- what was read may be read again
 
+-- a read leaves the content of a guard, and whether it is firm
+guard_left : (b : Bool) (u : PartUnit) (miss : Bool) → u.firm ≡ b → let v : PartUnit = if b then u else record { content = u.content; firm = false; missed = miss } in
+    (v.content ≡ u.content) × (v.firm ≡ u.firm)
+guard_left true u miss e = (refl, refl)
+guard_left false u miss e = (refl, sym e)
+
 read_again : (class : PartClass) (e : Bool) (u : PartUnit) (a : UnitAnswer) → MayAnswer class e u a → MayAnswer class e (unit_after class a u) a
-read_again Guards e u (Whole x) h = h
-read_again Guards e u Blank h = h
-read_again Guards e u Nothing h = h
+read_again Guards e u a h =
+    let x = guard_left u.firm u (is_miss a) refl in
+    elim h [
+      | is_whole content held said ↦ is_whole content (x.0 ∙ held) said
+      | is_told cls unseen blank said ↦ absurd (cc)
+      | is_nothing unseen told said ↦ is_nothing (elim unseen [ inl none ↦ inl (x.0 ∙ none) | inr loose ↦ inr (x.1 ∙ loose) ]) (λ cls. absurd (cc)) said
+    ]
 read_again Blanks e u (Whole x) h = h
 read_again Blanks e u Blank h = h
 read_again Blanks e u Nothing h = h
@@ -29,10 +39,10 @@ read_again Settled e u (Whole x) h = is_whole x refl refl
 read_again Settled e u Blank h = h
 read_again Settled e u Nothing h = h
 
-after_nothing : (class : PartClass) (u : PartUnit) → unit_after class Nothing u ≡ u
-after_nothing Guards u = refl
-after_nothing Blanks u = refl
-after_nothing Settled u = refl
+still_loose : (class : PartClass) (u : PartUnit) → u.firm ≡ false → (unit_after class Nothing u).firm ≡ false
+still_loose Guards u e = (guard_left u.firm u true refl).1 ∙ e
+still_loose Blanks u e = e
+still_loose Settled u e = e
 
 -- nothing was seen of a blank unit
 blank_is_nothing : (class : PartClass) (e : Bool) (u : PartUnit) (a : UnitAnswer) → (class ≡ Blanks → ⊥) → u ≡ blank_unit → MayAnswer class e u a → a ≡ Nothing
@@ -43,7 +53,7 @@ blank_is_nothing class e u a other blank h = elim h [
 ]
 
 abbrev pub loose_unit : UnitContent → PartUnit
-loose_unit content = record { content = Some content; firm = false }
+loose_unit content = record { content = Some content; firm = false; missed = false }
 
 module _ (class : PartClass) (other : class ≡ Blanks → ⊥) (d : PartDesign) (start f g : PartFlash) (lives : List PartLife) (view : PartView) (value bank place : ℕ) (kind : UnitKind)
     (content : UnitContent) (rest : List PartWrite) (keeps : KeepsDuties class d start) (run : PartLives class d lives start f) (reads : ReadsUnits class f view g)
@@ -83,6 +93,7 @@ module _ (class : PartClass) (other : class ≡ Blanks → ⊥) (d : PartDesign)
       may = may_first.0;
       fits = may_first.1;
       left = inl (ap (λ (u : PartUnit). u.content) (set_here bank place kind (loose_unit content) g bank place kind (refl, (refl, refl))));
+      unread = ap (λ (u : PartUnit). u.missed) (set_here bank place kind (loose_unit content) g bank place kind (refl, (refl, refl)));
       same = record { units = λ b k o ne. set_there bank place kind (loose_unit content) g b k o ne; erased = λ b. refl };
     }
 
@@ -94,20 +105,20 @@ module _ (class : PartClass) (other : class ≡ Blanks → ⊥) (d : PartDesign)
         (keeps (lives ++ cut_life view value ∷ []) c after view value (lives_then class d lives (cut_life view value) start f c run cut_once)
         (record { may = may_be_read; now = λ b k o. refl; erased = λ b. refl }))).0.0
 
-    is_loose : after.unit bank place kind ≡ loose_unit content
-    is_loose = ap (λ (a : UnitAnswer). unit_after class a (c.unit bank place kind)) unseen
-        ∙ (after_nothing class (c.unit bank place kind) ∙ set_here bank place kind (loose_unit content) g bank place kind (refl, (refl, refl)))
+    is_loose : (after.unit bank place kind).firm ≡ false
+    is_loose = ap (λ (a : UnitAnswer). (unit_after class a (c.unit bank place kind)).firm) unseen
+        ∙ still_loose class (c.unit bank place kind) (ap (λ (u : PartUnit). u.firm) (set_here bank place kind (loose_unit content) g bank place kind (refl, (refl, refl))))
 
     is_guard : (class ≡ Guards) × IsGuard kind
     is_guard = elim may_again [
-      | is_blank erased now ↦ absurd (true≢false (ap (λ (u : PartUnit). u.firm) (sym now ∙ is_loose)))
-      | is_open cls guard erased loose ↦ (cls, guard)
+      | is_blank erased now ↦ absurd (true≢false (ap (λ (u : PartUnit). u.firm) (sym now) ∙ is_loose))
+      | is_open cls guard erased loose missed ↦ (cls, guard)
     ]
 
   pub guard_or_told : (class ≡ Guards) × IsGuard kind
   guard_or_told = elim may_first.0 [
     | is_blank erased now ↦ is_guard now
-    | is_open cls guard erased loose ↦ (cls, guard)
+    | is_open cls guard erased loose missed ↦ (cls, guard)
   ]
 
 pub first_program : (class : PartClass) (d : PartDesign) (start f g : PartFlash) (lives : List PartLife) (view : PartView) (value bank place : ℕ) (kind : UnitKind)
@@ -127,6 +138,7 @@ lost_is_cut class bank place kind content g h lost p loses = record {
   may = p.may;
   fits = p.fits;
   left = inr loses.now;
+  unread = loses.missed ∙ ap (λ (u : PartUnit). u.missed) p.now;
   same = record { units = λ b k o ne. loses.same.units b k o ne ∙ p.same.units b k o ne; erased = λ b. loses.same.erased b ∙ p.same.erased b };
 }
 

@@ -76,7 +76,8 @@ abbrev pub NoFalseAlarm : PartClass → PartDesign → PartFlash → Type 0
 NoFalseAlarm class d start = (lives : List PartLife) (f g : PartFlash) (view : PartView)
     → PartLives class d lives start f → ReadsUnits class f view g → d.tells_loss view ≡ false
 
--- this unit is read no more; all else is as before
+-- this unit has no content any more; all else is as before
 pub record LosesUnit (bank place : ℕ) (kind : UnitKind) (f g : PartFlash) : Type 0 where
   pub now : (g.unit bank place kind).content ≡ None
+  pub missed : (g.unit bank place kind).missed ≡ (f.unit bank place kind).missed
   pub same : SameButUnit bank place kind f g

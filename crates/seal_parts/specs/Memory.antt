@@ -14,7 +14,7 @@ unit_number Confirm = 3
 unit_number SecondConfirm = 4
 
 abbrev pub unit_of : MemUnit → PartUnit
-unit_of u = record { content = u.content; firm = u.firm }
+unit_of u = record { content = u.content; firm = u.firm; missed = u.missed }
 
 -- the unit at this index of a list, and a blank one after its end
 abbrev pub unit_in : List MemUnit → ℕ → PartUnit

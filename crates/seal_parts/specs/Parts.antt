@@ -1,6 +1,6 @@
 -- A part by what it promises: units, what each operation makes of them, what is left if the power goes within it, and
 -- as what they are read.
-use Rattle.std.specs.Prelude.{◌≡◌, ◌≢◌, ◌⊎◌, ℕ, Bool, true, false, Option, Some, None}
+use Rattle.std.specs.Prelude.{◌≡◌, ◌≢◌, ◌⊎◌, ℕ, Bool, true, false, if◌then◌else◌, Option, Some, None}
 use Rattle.seal_parts.specs.declared.PartClass.{PartClass}
 use Rattle.seal_parts.specs.declared.PartClass.TheVariants.{Guards, Blanks, Settled}
 use Rattle.seal_parts.specs.declared.UnitKind.{UnitKind}
@@ -11,16 +11,18 @@ use Rattle.seal_parts.specs.declared.UnitAnswer.{UnitAnswer}
 use Rattle.seal_parts.specs.declared.UnitAnswer.TheVariants.{Whole, Blank, Nothing}
 
 -- A unit is read as its content, or as nothing. If it is firm it is always read as its content; if it isn't, each read
--- may answer the content or nothing, anew.
+-- may answer the content or nothing, anew. On a part of guards it is missed if the last read of it, since a cut left it
+-- so, answered nothing.
 pub record PartUnit : Type 0 where
   pub content : Option UnitContent
   pub firm : Bool
+  pub missed : Bool
 
 abbrev pub blank_unit : PartUnit
-blank_unit = record { content = None; firm = true }
+blank_unit = record { content = None; firm = true; missed = false }
 
 abbrev pub whole_unit : UnitContent → PartUnit
-whole_unit content = record { content = Some content; firm = true }
+whole_unit content = record { content = Some content; firm = true; missed = false }
 
 -- The unit of this bank, place and kind; and whether the last erase of a bank was done, and not cut.
 pub record PartFlash : Type 0 where
@@ -41,11 +43,12 @@ FitsUnit kind Mark = Unit {0}
 
 -- ---- the first place of the class: what may be programmed
 
--- A unit that is blank, in a bank whose erase was done; and on a part of guards a guard again that was cut.
+-- A unit that is blank, in a bank whose erase was done; and on a part of guards a guard again that was cut, if it isn't
+-- read.
 pub data MayProgram (class : PartClass) (kind : UnitKind) (f : PartFlash) (bank place : ℕ) : Type 0 where
   is_blank : f.is_erased bank ≡ true → f.unit bank place kind ≡ blank_unit → MayProgram class kind f bank place
   is_open : class ≡ Guards → IsGuard kind → f.is_erased bank ≡ true → (f.unit bank place kind).firm ≡ false
-      → MayProgram class kind f bank place
+      → (f.unit bank place kind).missed ≡ true → MayProgram class kind f bank place
 
 -- ---- operations, done and cut
 
@@ -85,12 +88,14 @@ pub record ProgramsUnit (class : PartClass) (bank place : ℕ) (kind : UnitKind)
   pub now : g.unit bank place kind ≡ whole_unit content
   pub same : SameButUnit bank place kind f g
 
--- The power goes within a program, or it fails: the unit has the content or nothing, and need not be firm.
+-- The power goes within a program, or it fails: the unit has the content or nothing, and need not be firm. No read has
+-- missed it since.
 pub record CutsProgramming (class : PartClass) (bank place : ℕ) (kind : UnitKind) (content : UnitContent)
     (f g : PartFlash) : Type 0 where
   pub may : MayProgram class kind f bank place
   pub fits : FitsUnit kind content
   pub left : ((g.unit bank place kind).content ≡ Some content) ⊎ ((g.unit bank place kind).content ≡ None)
+  pub unread : (g.unit bank place kind).missed ≡ false
   pub same : SameButUnit bank place kind f g
 
 -- ---- the second and the third place of the class: what is answered, and what a read leaves
@@ -109,8 +114,16 @@ pub data MayAnswer (class : PartClass) (erased : Bool) (u : PartUnit) (answer : 
   is_nothing : MayBeUnseen u → (class ≡ Blanks → erased ≡ true → u ≢ blank_unit) → answer ≡ Nothing
       → MayAnswer class erased u answer
 
--- on a part of settled reads a content that was read is firm from then on
+-- nothing was answered
+abbrev pub is_miss : UnitAnswer → Bool
+is_miss Nothing = true
+is_miss answer = false
+
+-- A part of guards lets a guard that isn't firm be programmed again if the last read missed it. On a part of settled
+-- reads a content that was read is firm from then on.
 abbrev pub unit_after : PartClass → UnitAnswer → PartUnit → PartUnit
+unit_after Guards answer u =
+    if u.firm then u else record { content = u.content; firm = false; missed = is_miss answer }
 unit_after Settled (Whole content) u = whole_unit content
 unit_after class answer u = u
 

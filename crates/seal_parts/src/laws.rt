@@ -18,8 +18,8 @@ pub fn the_first_program_is_of_a_guard_or_of_what_was_told_blank()
         → (class ≡ Blanks) ⊎ ((class ≡ Guards) × IsGuard kind) }
 {}
 
-/// If a put is one program, the next start doesn't tell its loss. For what is left then may be left by a cut, too, and no start may
-/// raise an alarm after a cut. So behind the line of a put another unit has to say that the line was done.
+/// If a put is one program, the next start doesn't tell its loss. For what is left then may be left by a cut, too, and
+/// no start may raise an alarm after a cut. So behind the line of a put another unit has to say that the line was done.
 pub fn the_loss_of_a_put_of_one_program_is_not_told()
     ensures { (class : PartClass) (d : PartDesign) (start f g h lost after : PartFlash) (lives : List PartLife)
         (view now : PartView) (value bank place : ℕ) (kind : UnitKind) (content : UnitContent)

@@ -28,7 +28,8 @@ pub struct PartFailed;
 /// What a part or its driver promises, beside what all promise.
 #[derive(Clone, Copy, Debug, PartialEq, Eq, Drop)]
 pub enum PartClass {
-    /// A guard whose program was cut may be programmed again, whether it is read or not. If that is done, it is firm.
+    /// A guard whose program was cut may be programmed again, if its last read answered nothing. If that is done, it is
+    /// firm.
     Guards,
     /// `Blank` is answered of each blank unit of a bank whose erase was done, and of no other unit of such a bank.
     Blanks,

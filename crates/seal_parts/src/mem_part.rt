@@ -2,9 +2,9 @@
 ghost use Rattle.std.specs.Prelude.{◌≡◌, ◌≢◌, ◌⊎◌, ◌+◌, ◌*◌, ◌%◌, ◌^◌, ◌<◌, ◌≤◌, ℕ, length, get_or, false, true};
 ghost use Rattle.std.specs.Prelude.{Some, None, not, is_ok, IfOk, OnOk, OnErr};
 ghost use Rattle.basics.specs.FaultCount.{last_count};
-ghost use Rattle.seal_parts.specs.Parts.{blank_unit, MayAnswer, MayBeLeft, unit_after};
-ghost use Rattle.seal_parts.specs.Memory.{unit_in, unit_number};
-ghost use Rattle.seal_parts.specs.declared.PartClass.TheVariants.{Blanks, Settled};
+ghost use Rattle.seal_parts.specs.Parts.{blank_unit, whole_unit, MayAnswer, MayBeLeft, is_miss, unit_after};
+ghost use Rattle.seal_parts.specs.Memory.{unit_in, unit_number, unit_of};
+ghost use Rattle.seal_parts.specs.declared.PartClass.TheVariants.{Blanks};
 ghost use Rattle.seal_parts.specs.declared.UnitContent.TheVariants.{Mark};
 
 use crate::{PartClass, PartFailed, SealPart, UnitAnswer, UnitContent, UnitKind};
@@ -17,16 +17,18 @@ use std::alloc::{AllocError, Global};
 pub struct MemUnit {
     pub content: Option<UnitContent>,
     pub firm: bool,
+    /// On a part of guards: the last read of a unit that isn't firm answered nothing.
+    pub missed: bool,
 }
 
 const BLANK: MemUnit = MemUnit {
     content: None,
     firm: true,
+    missed: false,
 };
 
 /// A part in memory. Its calls fail exactly if a stop or an arm says so. A program that fails leaves its content, not
-/// firm. An erase that fails leaves each unit with its content, not firm. As the pattern says, it leaves marks where
-/// none were.
+/// firm.
 #[derive(Drop)]
 pub struct MemPart {
     /// The units of the first place of the first bank, then those of its second place, and so on.
@@ -66,6 +68,7 @@ impl MemPart {
         ensures banks { IfOk result (λ m. (memory_part m).banks ≡ banks) }
         ensures places { IfOk result (λ m. (memory_part m).places ≡ places) }
         ensures arms { IfOk result (λ m. m.arms ≡ no_arms) }
+        ensures pattern { IfOk result (λ m. m.pattern ≡ 0) }
         ensures blank { IfOk result (λ m. (bank k : ℕ) (kind : UnitKind)
             → (memory_part m).flash.unit bank k kind ≡ blank_unit) }
         ensures erased { IfOk result (λ m. (bank : ℕ) → bank < 16 → (memory_part m).flash.is_erased bank ≡ true) }
@@ -184,6 +187,8 @@ impl SealPart for MemPart {
             (memory_part self.old).flash (memory_part self.new).flash) }
         ensures cut { OnErr result (CutsProgramming self.old.class bank place unit content.now
             (memory_part self.old).flash (memory_part self.new).flash) }
+        ensures left { OnErr result ((memory_part self.new).flash.unit bank place unit
+            ≡ record { content = Some content.now; firm = false; missed = false }) }
     {
         let units = self.places as usize * 5;
         let at = start_of(bank, self.banks, units) + (place as usize * 5 + number_of(unit));
@@ -191,6 +196,7 @@ impl SealPart for MemPart {
         self.held[at] = MemUnit {
             content: Some(*content),
             firm: !is_cut,
+            missed: false,
         };
         if is_cut {
             count_fault(&mut self.faults);
@@ -294,37 +300,100 @@ fn loosen_range(held: &mut Vec<MemUnit>, start: usize, units: usize, shows: bool
         held[start + i] = MemUnit {
             content,
             firm: false,
+            missed: false,
         };
     }
 }
 
-/// Whether reads settle.
-fn settles(class: PartClass) -> bool
-    ensures is { result ≡ true → class ≡ Settled }
-    ensures other { result ≡ false → class ≢ Settled }
+/// Whether a unit without content is blank.
+fn is_blank(unit: &MemUnit) -> bool
+    ensures is { result ≡ true → unit.now.content ≡ None → unit_of unit.now ≡ blank_unit }
+    ensures isnt { result ≡ false → unit_of unit.now ≢ blank_unit }
 {
-    match class {
-        PartClass::Settled => true,
-        PartClass::Guards => false,
-        PartClass::Blanks => false,
-    }
+    unit.firm && !unit.missed
 }
 
 /// Whether a unit without content is told as blank: if its bank's erase was done, exactly if it is; else as it comes.
-fn is_told_blank(class: PartClass, is_erased: bool, firm: bool, shows: bool) -> bool
+fn is_told_blank(class: PartClass, is_erased: bool, blank: bool, shows: bool) -> bool
     ensures class { result ≡ true → class ≡ Blanks }
-    ensures firm { result ≡ true → is_erased ≡ true → firm ≡ true }
-    ensures all { class ≡ Blanks → is_erased ≡ true → firm ≡ true → result ≡ true }
+    ensures blank { result ≡ true → is_erased ≡ true → blank ≡ true }
+    ensures all { class ≡ Blanks → is_erased ≡ true → blank ≡ true → result ≡ true }
 {
     match class {
         PartClass::Blanks => {
             if is_erased {
-                return firm;
+                return blank;
             }
             shows
         }
         PartClass::Guards => false,
         PartClass::Settled => false,
+    }
+}
+
+/// As what a unit is read: as its content if it is firm, or if a bit shows it.
+fn answer_of(unit: &MemUnit, class: PartClass, is_erased: bool, shows: bool) -> UnitAnswer
+    ensures { MayAnswer class is_erased (unit_of unit.now) result }
+{
+    match unit.content {
+        Some(content) => {
+            if unit.firm || shows {
+                return UnitAnswer::Whole(content);
+            }
+            UnitAnswer::Nothing
+        }
+        None => {
+            if is_told_blank(class, is_erased, is_blank(unit), shows) {
+                return UnitAnswer::Blank;
+            }
+            UnitAnswer::Nothing
+        }
+    }
+}
+
+/// Whether nothing was answered.
+fn is_nothing(answer: &UnitAnswer) -> bool
+    ensures { result ≡ is_miss answer.now }
+{
+    match answer {
+        UnitAnswer::Whole(_) => false,
+        UnitAnswer::Blank => false,
+        UnitAnswer::Nothing => true,
+    }
+}
+
+/// A unit whose content was read, on a part of settled reads.
+fn settled(content: UnitContent) -> MemUnit
+    ensures { unit_of result ≡ whole_unit content }
+{
+    MemUnit {
+        content: Some(content),
+        firm: true,
+        missed: false,
+    }
+}
+
+/// What a read leaves of a unit.
+fn left_by(unit: MemUnit, class: PartClass, answer: &UnitAnswer) -> MemUnit
+    ensures { unit_of result ≡ unit_after class answer.now (unit_of unit) }
+{
+    match class {
+        PartClass::Guards => {
+            if unit.firm {
+                return unit;
+            }
+            MemUnit {
+                content: unit.content,
+                firm: false,
+                missed: is_nothing(answer),
+            }
+        }
+        PartClass::Blanks => unit,
+        PartClass::Settled => match answer {
+            UnitAnswer::Whole(content) => settled(*content),
+            UnitAnswer::Blank => unit,
+            UnitAnswer::Nothing => unit,
+        },
     }
 }
 
@@ -343,24 +412,7 @@ fn see(
     ensures now { unit_in held.new.items at ≡ unit_after class result (unit_in held.old.items at) }
 {
     let was = held[at];
-    match was.content {
-        Some(content) => {
-            if !(was.firm || shows) {
-                return UnitAnswer::Nothing;
-            }
-            if settles(class) {
-                held[at] = MemUnit {
-                    content: Some(content),
-                    firm: true,
-                };
-            }
-            UnitAnswer::Whole(content)
-        }
-        None => {
-            if is_told_blank(class, is_erased, was.firm, shows) {
-                return UnitAnswer::Blank;
-            }
-            UnitAnswer::Nothing
-        }
-    }
+    let answer = answer_of(&was, class, is_erased, shows);
+    held[at] = left_by(was, class, &answer);
+    answer
 }

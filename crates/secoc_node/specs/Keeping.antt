@@ -6,6 +6,7 @@ use Rattle.she_engine.specs.declared.engine.PendingSlot.{PendingSlot}
 use Rattle.secure_boot.specs.declared.state.BootState.TheVariants.{Undecided}
 use Rattle.slot_disk.specs.Cell.{HoldSlots}
 use Rattle.freshness_routes.specs.Config.{Config}
+use Rattle.freshness_routes.specs.declared.config.TheConstants.{MOST_ROUTES}
 use Rattle.freshness_routes.specs.declared.routes.Direction.{Direction}
 use Rattle.freshness_routes.specs.declared.routes.Route.{Route}
 use Rattle.bus_machine.specs.Node.{Node, Kept, Change, slot_to, bound_to, place_in}
@@ -72,4 +73,4 @@ pub record FindsRoute (routes : List Route) (id : ℕ) (direction : Direction) (
   pub place_is : place ≡ place_in routes id direction
   pub inside : place < length routes
   pub route_is : route ≡ route_in routes place
-  pub few : place < 256
+  pub few : place < MOST_ROUTES

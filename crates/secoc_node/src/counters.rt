@@ -1,6 +1,7 @@
 //! The counters of a node's routes, and the bounds at which they begin.
 ghost use Rattle.std.specs.Prelude.{◌≡◌, ◌<◌, ◌≤◌, ◌+◌, ℕ, length, IfOk, IfErr, OnOk, OnErr};
 ghost use Rattle.freshness_routes.specs.Config.{IsRoute};
+ghost use Rattle.freshness_routes.specs.declared.config.TheConstants.{MOST_ROUTES};
 ghost use Rattle.freshness_store.specs.Bound.{HoldsNoBound};
 ghost use Rattle.secoc_node.specs.Cells.{cell_in, HoldsBounds, FirstBadBound};
 ghost use Rattle.secoc_node.specs.Counters.{freshness_in, BeginsAt, BeginRoutes, AreRoutes};
@@ -33,7 +34,7 @@ impl RouteCounter {
 
 /// The cell of the bound of the route at this place.
 pub fn cell_of_bound(route: usize) -> u16
-    requires { route < 256 }
+    requires { route < MOST_ROUTES }
     ensures { result ≡ 14 + route }
 {
     14 + route as u16
@@ -69,7 +70,7 @@ fn counter_at<C: Cells>(cells: &C, cell: u16, route: &Route) -> Result<RouteCoun
 /// Looks whether the cell of each route's bound holds one. `BadBound` names the lowest that doesn't.
 pub fn check_bounds<C: Cells>(cells: &C, routes: &[Route]) -> Result<(), BadBound>
     requires count { length (C.state cells.now).cells ≡ 14 + length routes.now }
-    requires few { length routes.now ≤ 256 }
+    requires few { length routes.now ≤ MOST_ROUTES }
     ensures all { OnOk result (HoldsBounds routes.now (C.state cells.now).cells) }
     ensures bad { IfErr result (λ bad. FirstBadBound routes.now (C.state cells.now).cells bad.0) }
 {

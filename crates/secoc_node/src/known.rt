@@ -1,6 +1,7 @@
 //! What a node knows, beside its store.
 ghost use Rattle.std.specs.Prelude.{◌≡◌, ◌<◌, ◌+◌, length, false, Some, MatchOption, IfOk, IfErr, OnOk, OnErr};
 ghost use Rattle.freshness_routes.specs.Config.{IsConfig};
+ghost use Rattle.freshness_routes.specs.declared.config.TheConstants.{MOST_ROUTES};
 ghost use Rattle.secoc_node.specs.Causes.{AttachCause, LifeCause};
 ghost use Rattle.bus_machine.specs.Node.{place_in};
 ghost use Rattle.secoc_node.specs.Keeping.{BeginsLife, FindsRoute};
@@ -117,7 +118,7 @@ impl Known {
 
     /// The same, with a bound of a route that was to be put.
     pub fn fail_at(&mut self, route: usize, bound: u64) -> NodeFault
-        requires { route < 256 }
+        requires { route < MOST_ROUTES }
         ensures down { self.new
             ≡ record self.old { up = false; pending = Some (record { route = route; bound = bound }) } }
         ensures fault { result ≡ NodeFault.Faulted }

@@ -7,6 +7,7 @@ ghost use Rattle.secoc_node.specs.Words.{receives, loads, keys, boots, cuts, Nod
 ghost use Rattle.secoc_node.specs.Words.{IsHeard, CellsOf, IsKept, FitsNow, TellsFitting, IsCovered, Served};
 ghost use Rattle.secoc_node.specs.Words.{AttachCause, ComesUp, StaysDown, sent_line, received_line, loaded_line};
 ghost use Rattle.secoc_node.specs.Words.{keyed_line, boot_line, cut_line, IfAcceptedWith, IfLeftAlone};
+ghost use Rattle.freshness_routes.specs.declared.config.TheConstants.{MOST_ROUTES};
 
 use crate::counters::RouteCounter;
 use crate::faults::{AttachFault, CutFault, NodeFault, NodeRefused};
@@ -200,7 +201,7 @@ impl<C: Cells> Node<C> {
     /// The routes of the node in their order, at most 256.
     pub fn routes(&self) -> &[Route]
         ensures value { result.now ≡ self.now.node.config.routes }
-        ensures few { length result.now ≤ 256 }
+        ensures few { length result.now ≤ MOST_ROUTES }
     {
         self.known.config.routes.as_slice()
     }

@@ -1,4 +1,5 @@
 -- The lemmas that crates above cite.
+pub use Rattle.secured_pdu.proofs.Candidates.{same_from_AheadWithBits}
 pub use Rattle.secured_pdu.proofs.Deciding.{verdict_at}
 pub use Rattle.secured_pdu.proofs.SyncLaws.{length-input, one_counter}
 pub use Rattle.secured_pdu.proofs.FrameLaws.{IsFrame-Secured, length-secured_frame, low_of_secured, payload_of_secured}

@@ -1,3 +1,4 @@
+pub mod Candidates
 pub mod Deciding
 pub mod SyncLaws
 pub mod FrameLaws

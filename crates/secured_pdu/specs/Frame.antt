@@ -33,9 +33,20 @@ pub record Secured (key : List ℕ) (id : ℕ) (payload : List ℕ) (freshness :
 abbrev pub IsWindow : ℕ → Type 0
 IsWindow window = (1 ≤ window) × (window ≤ WIDEST_WINDOW)
 
--- the freshness has this low byte, and is one to the window above the counter
-pub record Ahead (counter window low freshness : ℕ) : Type 0 where
+-- these are so many bits, and no two freshness values of a window have the same
+pub record TakesBits (window bits truncated : ℕ) : Type 0 where
+  pub bits_least : 1 ≤ bits
+  pub bits_most : bits ≤ 64
+  pub truncated_fits : truncated < 2 ^ bits
+  pub window_fits : window ≤ 2 ^ bits
+
+-- the freshness has these low bits, and is one to the window above the counter
+pub record AheadWithBits (counter window bits truncated freshness : ℕ) : Type 0 where
   pub above : counter < freshness
   pub near : freshness ≤ counter + window
-  pub low_is : freshness % 256 ≡ low
+  pub low_is : freshness % 2 ^ bits ≡ truncated
   pub fits : freshness < 2 ^ 64
+
+-- profile 1 sends eight bits
+abbrev pub Ahead : ℕ → ℕ → ℕ → ℕ → Type 0
+Ahead counter window low freshness = AheadWithBits counter window 8 low freshness

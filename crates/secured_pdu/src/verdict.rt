@@ -1,31 +1,12 @@
-//! The candidate for the freshness of a received PDU, and the verdict on the PDU.
-ghost use Rattle.std.specs.Prelude.{◌≡◌, ℕ, ◌∷◌, ◌++◌, IfNone, IfSome};
-ghost use Rattle.secured_pdu.specs.Frame.{IsPayload, IsWindow, Ahead};
+//! The verdict on a received PDU.
+ghost use Rattle.std.specs.Prelude.{◌≡◌, ℕ, ◌∷◌, ◌++◌};
+ghost use Rattle.secured_pdu.specs.Frame.{IsPayload, IsWindow};
 ghost use Rattle.secured_pdu.specs.Verdict.{Verdict};
 ghost use Rattle.secured_pdu.specs.Judged.{outcome_of};
 
+use crate::candidate::candidate_of;
 use crate::frame::{Parts, input_mac, tag_of};
 use she_cmac::Schedule;
-
-/// The one freshness that is 1 to `window` above the counter and has this low byte; `None` if there is none, or it
-/// would not fit 64 bits. A window is 1 to 256.
-pub fn candidate_of(counter: u64, window: u16, low: u8) -> Option<u64>
-    requires { IsWindow window }
-    ensures none { IfNone result ((v : ℕ) → ¬ Ahead counter window low v) }
-    ensures ahead { IfSome result (Ahead counter window low) }
-{
-    let here = counter - counter % 256 + u64::from(low);
-    let next = if here > counter {
-        here
-    } else {
-        here.checked_add(256)?
-    };
-    if next - counter <= u64::from(window) {
-        Some(next)
-    } else {
-        None
-    }
-}
 
 /// What a receiver says of a PDU.
 #[derive(Clone, Copy, Debug, PartialEq, Eq)]

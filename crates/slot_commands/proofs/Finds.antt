@@ -3,7 +3,7 @@ use Rattle.std.proofs.Common.{◌≡◌, ℕ, ◌+◌, ◌<◌, List, [], ◌∷
 use Rattle.std.specs.Prelude.{Option, Some, None, Bool, IsTrue, nat_eq, ◌↔◌}
 use Rattle.std.proofs.lemmas.Bool.Decides.{nat_tests}
 use Rattle.cut_disk.specs.State.{DiskState}
-use Rattle.key_commands.specs.declared.finding.CountingStore.{CountingStore}
+use Rattle.any_cells.specs.declared.finding.CountingStore.{CountingStore}
 use Rattle.key_commands.specs.Opening.{layout_of}
 use Rattle.slot_commands.specs.StillDisks.{HasFound}
 use Rattle.std.proofs.lemmas.Grind.{flat_map-append}

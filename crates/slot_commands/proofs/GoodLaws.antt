@@ -7,7 +7,7 @@ use Rattle.std.proofs.lemmas.Option.{slice_get_within}
 use Rattle.cell_store.specs.Layout.{from_base}
 use Rattle.cell_store.specs.Twin.{cell_at}
 use Rattle.freshness_routes.specs.declared.routes.Route.{Route}
-use Rattle.key_commands.specs.declared.finding.CountingStore.{CountingStore}
+use Rattle.any_cells.specs.declared.finding.CountingStore.{CountingStore}
 use Rattle.key_commands.specs.Opening.{layout_of}
 use Rattle.slot_commands.specs.Cells.{slot_count}
 use Rattle.slot_commands.specs.RouteFindings.{FindsAt, FindsOverRoutes, as_slot, no_copy, no_route, not_its_bound, its_bound}

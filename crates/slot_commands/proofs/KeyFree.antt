@@ -7,7 +7,7 @@ use Rattle.slot_disk.specs.Cell.{HoldsSlot}
 use Rattle.slot_disk.proofs.CallerLemmas.{one_slot}
 use Rattle.freshness_store.specs.Bound.{HoldsBound}
 use Rattle.freshness_store.proofs.CallerLemmas.{one_bound, no_slot as slot_or_bound}
-use Rattle.key_commands.specs.declared.finding.CountingStore.{CountingStore}
+use Rattle.any_cells.specs.declared.finding.CountingStore.{CountingStore}
 use Rattle.slot_commands.specs.StoreWords.{slot_words}
 use Rattle.slot_commands.specs.Cells.{SaysCell, a_slot, a_bound, no_slot, no_bound}
 use Rattle.slot_commands.specs.KeysApart.{SameButKey, same_cell, other_key, SameButKeys}

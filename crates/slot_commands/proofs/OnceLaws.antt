@@ -11,10 +11,10 @@ use Rattle.slot_disk.specs.Cell.{HoldsSlot}
 use Rattle.slot_disk.proofs.CallerLemmas.{one_slot}
 use Rattle.freshness_routes.specs.declared.routes.Route.{Route}
 use Rattle.program_edge.specs.Rows.{Row}
-use Rattle.key_commands.specs.declared.finding.CountingStore.{CountingStore}
-use Rattle.key_commands.specs.Counting.{StoreThatCounts}
+use Rattle.any_cells.specs.declared.finding.CountingStore.{CountingStore}
+use Rattle.any_cells.specs.Counting.{StoreThatCounts}
 use Rattle.key_commands.specs.Opening.{layout_of}
-use Rattle.key_commands.proofs.CallerLemmas.{counts_once}
+use Rattle.any_cells.proofs.CallerLemmas.{counts_once}
 use Rattle.slot_commands.specs.declared.tasks.ReplyAsked.{ReplyAsked}
 use Rattle.slot_commands.specs.declared.tasks.SlotTask.{SlotTask}
 use Rattle.slot_commands.specs.Cells.{slot_count, FindsInCell}
@@ -215,41 +215,20 @@ pub does_once : (x : List ℕ) (asked also : SlotTask) (row other : Row) → Doe
     → row.status ≡ other.status
 does_once x asked also row other (listed text lists) (listed text' lists') same = refl
 does_once x asked also row other (listed text lists) (not_listed _ not) same = absurd (list_clash x text other lists not)
-does_once x asked also row other (listed text lists) (found_nothing text' checks) same = cc same
-does_once x asked also row other (listed text lists) (rows.found findings text' some checks) same = cc same
-does_once x asked also row other (listed text lists) (not_checked _ none) same = cc same
-does_once x asked also row other (listed text lists) (rows.replied a _ replies) same = cc same
 does_once x asked also row other (not_listed _ not) (listed text lists) same = absurd (list_clash x text row lists not)
 does_once x asked also row other (not_listed _ not) (not_listed _ none) same = unreadable_row x row not ∙ sym (unreadable_row x other none)
-does_once x asked also row other (not_listed _ not) (found_nothing text checks) same = cc same
-does_once x asked also row other (not_listed _ not) (rows.found findings text some checks) same = cc same
-does_once x asked also row other (not_listed _ not) (not_checked _ none) same = cc same
-does_once x asked also row other (not_listed _ not) (rows.replied a _ replies) same = cc same
-does_once x asked also row other (found_nothing text checks) (listed text' lists) same = cc same
-does_once x asked also row other (found_nothing text checks) (not_listed _ not) same = cc same
 does_once x asked also row other (found_nothing text checks) (found_nothing text' checks') same = refl
 does_once x asked also row other (found_nothing text checks) (rows.found findings text' some checks') same =
     absurd (some (checked_once None None x text text' [] findings checks checks' refl))
 does_once x asked also row other (found_nothing text checks) (not_checked _ none) same = absurd (check_clash None None x text [] other checks none)
-does_once x asked also row other (found_nothing text checks) (rows.replied a _ replies) same = cc same
-does_once x asked also row other (rows.found findings text some checks) (listed text' lists) same = cc same
-does_once x asked also row other (rows.found findings text some checks) (not_listed _ not) same = cc same
 does_once x asked also row other (rows.found findings text some checks) (found_nothing text' checks') same =
     absurd (some (checked_once None None x text' text [] findings checks' checks refl))
 does_once x asked also row other (rows.found findings text some checks) (rows.found findings' text' some' checks') same = refl
 does_once x asked also row other (rows.found findings text some checks) (not_checked _ none) same = absurd (check_clash None None x text findings other checks none)
-does_once x asked also row other (rows.found findings text some checks) (rows.replied a _ replies) same = cc same
-does_once x asked also row other (not_checked _ none) (listed text lists) same = cc same
-does_once x asked also row other (not_checked _ none) (not_listed _ not) same = cc same
 does_once x asked also row other (not_checked _ none) (found_nothing text checks) same = absurd (check_clash None None x text [] row checks none)
 does_once x asked also row other (not_checked _ none) (rows.found findings text some checks) same = absurd (check_clash None None x text findings row checks none)
 does_once x asked also row other (not_checked _ none) (not_checked _ not) same = no_store_row x row none ∙ sym (no_store_row x other not)
-does_once x asked also row other (not_checked _ none) (rows.replied a _ replies) same = cc same
-does_once x asked also row other (rows.replied a _ replies) (listed text lists) same = cc same
-does_once x asked also row other (rows.replied a _ replies) (not_listed _ not) same = cc same
-does_once x asked also row other (rows.replied a _ replies) (found_nothing text checks) same = cc same
-does_once x asked also row other (rows.replied a _ replies) (rows.found findings text some checks) same = cc same
-does_once x asked also row other (rows.replied a _ replies) (not_checked _ none) same = cc same
 does_once x asked also row other (rows.replied a _ replies) (rows.replied b _ others) same =
     let is : b ≡ a = cc same in
     replies_once x a row other replies (subst (λ (c : ReplyAsked). RepliesFrom x c other) is others)
+does_once x asked also row other first second same = cc same

@@ -18,9 +18,9 @@ use Rattle.cell_store.specs.Store.{HasHeader, FirstDamaged, size_from_base, stor
 use Rattle.cell_store.specs.Cells.{CellsState}
 use Rattle.freshness_routes.specs.declared.routes.Route.{Route}
 use Rattle.program_edge.specs.Rows.{Row, memory_row}
-use Rattle.key_commands.specs.declared.finding.CountingStore.{CountingStore}
-use Rattle.key_commands.specs.Counting.{StoreThatCounts, moved_up, not_moved, only_second, no_store}
-use Rattle.key_commands.specs.Finding.{NotLooked, no_header, not_read}
+use Rattle.any_cells.specs.declared.finding.CountingStore.{CountingStore}
+use Rattle.any_cells.specs.Counting.{StoreThatCounts, moved_up, not_moved, only_second, no_store}
+use Rattle.any_cells.specs.Finding.{NotLooked, no_header, not_read}
 use Rattle.key_commands.specs.Opening.{TellsStoreFault, layout_of, few_cells_row, fault_row}
 use Rattle.slot_commands.specs.StoreWords.{damaged_place_words}
 use Rattle.slot_commands.specs.Cells.{slot_count}

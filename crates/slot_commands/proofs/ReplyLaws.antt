@@ -9,7 +9,7 @@ use Rattle.key_slots.specs.declared.memory.Slot.{Slot}
 use Rattle.text_lines.specs.Texts.{line}
 use Rattle.program_edge.specs.Rows.{Row, row_of, memory_row}
 use Rattle.slot_disk.specs.Cell.{HoldsSlot}
-use Rattle.key_commands.specs.declared.finding.CountingStore.{CountingStore}
+use Rattle.any_cells.specs.declared.finding.CountingStore.{CountingStore}
 use Rattle.slot_commands.specs.declared.tasks.ReplyAsked.{ReplyAsked}
 use Rattle.slot_commands.specs.Stores.{HoldsStore, IsUnreadable}
 use Rattle.slot_commands.specs.Replies.{HasSlotCell, SlotReplies, CellReplies, RepliesFrom, bad_pair, unreadable, of_cell, of_slot, bad_slot, empty, replied}

@@ -9,7 +9,7 @@ use Rattle.slot_commands.specs.StoreWords.{damaged_place_words}
 use Rattle.text_lines.specs.Written.{written}
 use Rattle.freshness_routes.specs.declared.routes.Route.{Route}
 use Rattle.slot_commands.specs.RouteFindings.{FindsAt, lacking_lines}
-use Rattle.key_commands.specs.declared.finding.CountingStore.{CountingStore}
+use Rattle.any_cells.specs.declared.finding.CountingStore.{CountingStore}
 use Rattle.slot_commands.specs.Stores.{FindsFrom, FindsInPlaces, FindsLayout, ChecksStore, written_lines}
 
 -- the text of a check over these bytes, and whether nothing was found

@@ -3,7 +3,7 @@ use Rattle.std.specs.Prelude.{ℕ, ◌<◌, List, [], length, slice_index_or}
 use Rattle.key_slots.specs.declared.memory.Flags.{Flags}
 use Rattle.key_slots.specs.declared.memory.Slot.TheVariants.{Filled}
 use Rattle.slot_disk.specs.Cell.{HoldsSlot}
-use Rattle.key_commands.specs.declared.finding.CountingStore.{CountingStore}
+use Rattle.any_cells.specs.declared.finding.CountingStore.{CountingStore}
 use Rattle.slot_commands.specs.Stores.{HoldsStore}
 
 -- one cell; or two of filled slots with one counter and the same flags

@@ -9,7 +9,7 @@ use Rattle.memory_update.specs.Messages.{Confirms}
 use Rattle.slot_disk.specs.Cell.{HoldsSlot}
 use Rattle.text_lines.specs.Texts.{line}
 use Rattle.program_edge.specs.Rows.{Row, row_of}
-use Rattle.key_commands.specs.declared.finding.CountingStore.{CountingStore}
+use Rattle.any_cells.specs.declared.finding.CountingStore.{CountingStore}
 use Rattle.key_commands.specs.declared.lines.LoadLine.TheVariants.{Loaded}
 use Rattle.key_commands.specs.LoadTexts.{load_text}
 use Rattle.key_commands.specs.Opening.{bad_slot_row}

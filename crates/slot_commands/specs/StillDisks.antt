@@ -4,8 +4,8 @@ use Rattle.cut_disk.specs.State.{DiskState}
 use Rattle.cut_disk.specs.Images.{firm}
 use Rattle.cut_disk.specs.Calls.{IsQuiet}
 use Rattle.cell_store.specs.Store.{FewCells, store_size}
-use Rattle.key_commands.specs.declared.finding.CountingStore.{CountingStore}
-use Rattle.key_commands.specs.Counting.{StoreThatCounts}
+use Rattle.any_cells.specs.declared.finding.CountingStore.{CountingStore}
+use Rattle.any_cells.specs.Counting.{StoreThatCounts}
 use Rattle.key_commands.specs.Opening.{layout_of}
 use Rattle.slot_commands.specs.Cells.{slot_count}
 

@@ -10,8 +10,8 @@ use Rattle.cell_store.specs.Twin.{cell_at}
 use Rattle.freshness_routes.specs.declared.routes.Route.{Route}
 use Rattle.program_edge.specs.Rows.{Row}
 use Rattle.text_lines.specs.Written.{written}
-use Rattle.key_commands.specs.declared.finding.CountingStore.{CountingStore}
-use Rattle.key_commands.specs.Counting.{StoreThatCounts}
+use Rattle.any_cells.specs.declared.finding.CountingStore.{CountingStore}
+use Rattle.any_cells.specs.Counting.{StoreThatCounts}
 use Rattle.key_commands.specs.Opening.{layout_of, fault_row, few_cells_row}
 use Rattle.slot_commands.specs.StoreWords.{store_words, store_line_words, damaged_place_words}
 use Rattle.slot_commands.specs.Cells.{slot_count, SaysCell}

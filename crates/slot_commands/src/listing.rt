@@ -9,10 +9,9 @@ ghost use Rattle.slot_commands.specs.Stores.{ListsStore, IsUnreadable, ListsCell
 
 use crate::cells::{meaning_of, push_meaning};
 use crate::reading::read_store;
-use any_cells::AnyCells;
+use any_cells::{AnyCells, CountingStore};
 use cell_store::{Cells, Kind, Version};
 use cut_disk::MemDisk;
-use key_commands::CountingStore;
 use program_edge::Refusal;
 use std::alloc::{AllocError, Global};
 use text_lines::pushing::{end_line, push_number, push_word};

@@ -2,7 +2,7 @@
 ghost use Rattle.std.specs.Prelude.{◌≡◌, ◌≤◌, ◌^◌, ◌⊎◌, length, Some, IfOk, IfErr};
 ghost use Rattle.program_edge.specs.Rows.{memory_row};
 ghost use Rattle.any_cells.specs.Either.{any_state};
-ghost use Rattle.key_commands.specs.Counting.{StoreThatCounts};
+ghost use Rattle.any_cells.specs.Counting.{StoreThatCounts};
 ghost use Rattle.cell_store.specs.Store.{FewCells};
 ghost use Rattle.cut_disk.specs.Memory.{disk_of};
 ghost use Rattle.cut_disk.specs.MemDisk.{contents};
@@ -11,10 +11,9 @@ ghost use Rattle.slot_commands.specs.Stores.{HoldsStore, NoStoreIn, IsUnreadable
 
 use crate::cells::SLOT_COUNT;
 use crate::refusals::{few_cells, store_refusal};
-use any_cells::{AnyCells, store_size};
+use any_cells::{AnyCells, CountingStore, find_store, store_size};
 use cell_store::StoreFault;
 use cut_disk::MemDisk;
-use key_commands::{CountingStore, find_store};
 use program_edge::Refusal;
 use std::alloc::Global;
 

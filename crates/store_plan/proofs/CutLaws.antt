@@ -21,7 +21,7 @@ use Rattle.store_plan.proofs.GatedLaws.{no_bytes, splice-at, splice-empty, new_a
 use Rattle.store_plan.proofs.LeavesLaws.{gate-closed}
 
 -- a write over firm bytes
-apply-done : (w : Write) (x : List ℕ) → WriteDone w (Some (firm x)) (Some (firm (applied_write w x)))
+pub apply-done : (w : Write) (x : List ℕ) → WriteDone w (Some (firm x)) (Some (firm (applied_write w x)))
 apply-done w x = record {
   none = λ e. ap (λ (y : List ℕ). Some (firm y)) (splice-empty w x e);
   lasts = λ at new some p t told.
@@ -29,14 +29,14 @@ apply-done w x = record {
       ap (λ (y : List ℕ). Some (firm y)) (splice-at w at new x p ∙ ap (λ (u : Told). splice at new u.bytes) e));
 }
 
-outside-firm : (at n : ℕ) (x y : List ℕ) → SameOutside at n x y → LeavesOutside at n (Some (firm x)) (Some (firm y))
+pub outside-firm : (at n : ℕ) (x y : List ℕ) → SameOutside at n x y → LeavesOutside at n (Some (firm x)) (Some (firm y))
 outside-firm at n x y s b was t told z image =
     let xe : x ≡ b = ap (λ (u : Told). u.bytes) (same_Some _ _ was) in
     let te : t ≡ firm y = sym (same_Some _ _ told) in
     let ze : z ≡ y = image_of_firm (subst (λ (u : Told). Image u z) te image) in
     subst (λ (v : List ℕ). SameOutside at n b v) (sym ze) (subst (λ (v : List ℕ). SameOutside at n v y) xe s)
 
-read-firm : (n at : ℕ) (new x y : List ℕ) → LeavesUnfinished n at new (Some (firm x)) (Some (firm y)) → Unfinished n at new x y
+pub read-firm : (n at : ℕ) (new x y : List ℕ) → LeavesUnfinished n at new (Some (firm x)) (Some (firm y)) → Unfinished n at new x y
 read-firm n at new x y l = l x refl (firm y) refl y (image_is_read (firm y))
 
 -- no byte is changed

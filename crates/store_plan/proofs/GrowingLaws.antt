@@ -1,26 +1,27 @@
 -- What a growth of a store leaves of its header and its cells, if the power goes within it.
-use Rattle.std.proofs.Common.{◌≡◌, ◌≢◌, ℕ, zero, suc, ◌+◌, ◌≤◌, ◌⊎◌, inl, inr, Some, List, length, take, refl, sym, ap, subst, ◌∙◌, arith, rules}
+use Rattle.std.proofs.Common.{◌≡◌, ◌≢◌, ℕ, suc, ◌+◌, ◌<◌, ◌≤◌, ◌⊎◌, inl, inr, Bool, false, true, not, ◌&&◌, ◌||◌, ◌==◌, nat_lt, Some, None, IsSome, Option, List, [], ◌∷◌, length, take, replicate, refl, sym, ap, subst, ◌∙◌, arith, rules}
 use Rattle.std.proofs.lemmas.Bool.{cases_Bool, cases_lt, false≢true}
+use Rattle.std.proofs.lemmas.Option.{same_Some}
 use Rattle.std.proofs.lemmas.List.{places, same_lists, ext_get_or}
 use Rattle.std.proofs.lemmas.Slice.Eq.{bytes_eq-Decides}
 use Rattle.std.specs.Str.{bytes_eq}
 use Rattle.basics.specs.Numbers.{bytes_of}
 use Rattle.basics.proofs.CallerLemmas.{length-bytes_of}
-use Rattle.cut_disk.specs.Images.{splice}
-use Rattle.cut_disk.proofs.CallerLemmas.{splice-beside, length-splice, get_or-splice_before, get_or-splice_in, get_or-splice_behind}
+use Rattle.cut_disk.specs.State.{Told}
+use Rattle.cut_disk.specs.Images.{splice, firm}
+use Rattle.cut_disk.proofs.CallerLemmas.{length-splice, get_or-splice_before, get_or-splice_in, get_or-splice_behind}
 use Rattle.cell_store.specs.declared.kinds.Version.TheVariants.{One}
 use Rattle.cell_store.specs.Layout.{SameOutside, part, header, twin_layout}
-use Rattle.cell_store.specs.Twin.{twin_size, first_at, second_at, cell_of, cell_at, live_copy, fresh_cell}
+use Rattle.cell_store.specs.Twin.{twin_size, first_at, second_at, is_live, mark, next, counts, cell_of, cell_at}
+use Rattle.cell_store.specs.Copies.{other, side_at, copy}
 use Rattle.cell_store.specs.Store.{HasHeader}
-use Rattle.cell_store.proofs.CallerLemmas.{part-same, part-splice, SameOutside-after, SameOutside-refl, SameOutside-splice, SameOutside-widen, cell_at-fresh, length-fresh_cell}
-use Rattle.store_plan.specs.declared.growing.Growth.{Growth}
-use Rattle.store_plan.specs.declared.growing.Growth.TheVariants.{Before, Counting, After, Beyond}
+use Rattle.cell_store.specs.Writing.{ClosesGate, Unfinished}
+use Rattle.cell_store.proofs.CallerLemmas.{part-part, part-same, part-splice, closed-already, filling, opening, side_bounds, splice-gate, SameOutside-after, SameOutside-refl, SameOutside-splice, SameOutside-widen}
 use Rattle.store_plan.specs.declared.planning.Plan.{Plan}
-use Rattle.store_plan.specs.Plans.{CutWithin, in_first, in_second, in_third, applied, applied_write, WritesAt}
-use Rattle.store_plan.specs.Growing.{IsGrowth, NoGrowth, PlansGrowth, PlansCount, PlansFor, HasHeadButCount, HasFreshCell, IsErasedAfter, with_number, GrowsTo, Grew}
+use Rattle.store_plan.specs.Plans.{PlansPut, CutWithin, in_first, in_second, in_third, applied, applied_write, WritesAt}
+use Rattle.store_plan.specs.Growing.{PlansGrowth, PlansCount, HasHeadButCount, with_number, CountsFirst, IsErased, EndsErased, SaysCells, IsFree}
 use Rattle.store_plan.proofs.GatedLaws.{no_bytes, splice-at, splice-empty}
-use Rattle.store_plan.proofs.CutLaws.{at-place, same-all}
-use Rattle.store_plan.proofs.MakingLaws.{cell_beside}
+use Rattle.store_plan.proofs.CutLaws.{apply-done, at-place, cut-unfinished, outside-firm, read-firm, same-all}
 
 -- ---- the header
 
@@ -53,18 +54,6 @@ head-counted i n x room h =
     take-splice 10 32 (bytes_of 2 n) x (omega (arith, length-bytes_of 2 n)) room
     ∙ (ap (splice 10 (bytes_of 2 n)) h ∙ header-counted i n)
 
-pub none-but-count : (x : List ℕ) (i : ℕ) (c : List ℕ) → 32 ≤ length x → ¬ Head (i + 1) x → ¬ HasHeadButCount x (i + 1) → NoGrowth x i c
-none-but-count x i c room not_new not_head Before h = not_head (head-counted i (i + 1) x room h.0)
-none-but-count x i c room not_new not_head Counting h = not_head h.2
-none-but-count x i c room not_new not_head After h = not_new h
-none-but-count x i c room not_new not_head Beyond h = not_head h.1
-
-pub none-there : (x : List ℕ) (i : ℕ) (c : List ℕ) → ¬ Head (i + 1) x → IsErasedAfter x i → ¬ Head i x → ¬ HasFreshCell x i c → NoGrowth x i c
-none-there x i c not_new erased not_old not_fresh Before h = not_old h.0
-none-there x i c not_new erased not_old not_fresh Counting h = not_fresh h.3
-none-there x i c not_new erased not_old not_fresh After h = not_new h
-none-there x i c not_new erased not_old not_fresh Beyond h = h.2 erased
-
 -- what is written over a place doesn't depend on what stood there
 splice-over : (at : ℕ) (new x y : List ℕ) → at + length new ≤ length x → SameOutside at (length new) x y → splice at new y ≡ splice at new x
 splice-over at new x y ix s =
@@ -84,31 +73,127 @@ but-count n x y room s h =
     let two = length-bytes_of 2 n in
     ap (part 0 32) (splice-over 10 (bytes_of 2 n) x y (omega (arith, two)) (subst (λ k. SameOutside 10 k x y) (sym two) s)) ∙ h
 
+-- a header that is one but for its number is that of any number
+pub any-count : (k n : ℕ) (x : List ℕ) → 32 ≤ length x → HasHeadButCount x k → HasHeadButCount x n
+any-count k n x room h =
+    let two = length-bytes_of 2 k in
+    let s = subst (λ b. SameOutside 10 b x (with_number k x)) two (SameOutside-splice 10 (bytes_of 2 k) x (omega (arith, two))) in
+    let back : SameOutside 10 2 (with_number k x) x = record { lengths = sym s.lengths; below = λ j l. sym (s.below j l); above = λ j l. sym (s.above j l) } in
+    but-count n (with_number k x) x (let l = s.lengths in omega arith) back (head-counted k n (with_number k x) (let l = s.lengths in omega arith) h)
+
 -- ---- cells
 
--- the two bytes of the number are no cell's
-beside_count : (x y : List ℕ) (j : ℕ) → SameOutside 10 2 x y → cell_at y j ≡ cell_at x j
+-- a change beside a cell leaves it
+pub cell-apart : (x y : List ℕ) (j lo k : ℕ) → SameOutside lo k x y → (first_at j + 68 ≤ lo) ⊎ (lo + k ≤ first_at j) → cell_at y j ≡ cell_at x j
 unfolding cell_at
-beside_count x y j s =
-    let first : part (first_at j) 34 y ≡ part (first_at j) 34 x = part-same (first_at j) 34 10 2 x y s (inr (omega arith)) in
-    let second : part (second_at j) 34 y ≡ part (second_at j) 34 x = part-same (second_at j) 34 10 2 x y s (inr (omega arith)) in
+cell-apart x y j lo k s out =
+    let first : part (first_at j) 34 y ≡ part (first_at j) 34 x = part-same (first_at j) 34 lo k x y s (elim out [ inl l ↦ inl (omega arith) | inr r ↦ inr (omega arith) ]) in
+    let second : part (second_at j) 34 y ≡ part (second_at j) 34 x = part-same (second_at j) 34 lo k x y s (elim out [ inl l ↦ inl (omega arith) | inr r ↦ inr (omega arith) ]) in
     ap (λ (c : List ℕ). cell_of c (part (second_at j) 34 y)) first ∙ ap (λ (c : List ℕ). cell_of (part (first_at j) 34 x) c) second
 
-fresh-beside_count : (x y : List ℕ) (i : ℕ) (c : List ℕ) → SameOutside 10 2 x y → HasFreshCell x i c → HasFreshCell y i c
-fresh-beside_count x y i c s h = part-same (first_at i) 68 10 2 x y s (inr (omega arith)) ∙ h
+one_byte : (x : List ℕ) (j b : ℕ) → twin_size (j + 1) ≤ length x → part (first_at j) 68 x ≡ replicate 68 b
+    → (part (first_at j) 34 x ≡ replicate 34 b) × (part (second_at j) 34 x ≡ replicate 34 b)
+one_byte x j b room same =
+    let at : first_at j ≡ first_at j + 0 = omega arith in
+    let behind : second_at j ≡ first_at j + 34 = omega arith in (
+      ap (λ n. part n 34 x) at ∙ (part-part (first_at j) 68 0 34 x (omega arith) (omega arith) ∙ ap (part 0 34) same),
+      ap (λ n. part n 34 x) behind ∙ (part-part (first_at j) 68 34 34 x (omega arith) (omega arith) ∙ ap (part 34 34) same),
+    )
 
--- what is erased stays so
-still-erased : (x y : List ℕ) (i : ℕ) → part (first_at (i + 1)) 68 y ≡ part (first_at (i + 1)) 68 x → IsErasedAfter x i → IsErasedAfter y i
-still-erased x y i same erased = elim erased [ inl zeros ↦ inl (same ∙ zeros) | inr ones ↦ inr (same ∙ ones) ]
+dead-zeros : is_live (replicate 34 0) ≡ false
+unfolding is_live
+dead-zeros = refl
 
-erased-beside_count : (x y : List ℕ) (i : ℕ) → SameOutside 10 2 x y → IsErasedAfter x i → IsErasedAfter y i
-erased-beside_count x y i s erased = still-erased x y i (part-same (first_at (i + 1)) 68 10 2 x y s (inr (omega arith))) erased
+dead-ones : is_live (replicate 34 0xff) ≡ false
+unfolding is_live
+dead-ones = refl
 
--- ---- how far it went
+-- what is erased is free
+pub erased-free : (x : List ℕ) (j : ℕ) → twin_size (j + 1) ≤ length x → IsErased x j → IsFree x j
+erased-free x j room erased = elim erased [
+  | inl zeros ↦ (let two = one_byte x j 0 room zeros in record { first = ap is_live two.0 ∙ dead-zeros; second = ap is_live two.1 ∙ dead-zeros })
+  | inr ones ↦ (let two = one_byte x j 0xff room ones in record { first = ap is_live two.0 ∙ dead-ones; second = ap is_live two.1 ∙ dead-ones })
+]
 
--- the old header stands, or the number is another, or the new header stands, with the new cell
-abbrev pub Left : List ℕ → ℕ → List ℕ → Type 0
-Left y i c = IsGrowth y i c Before ⊎ (IsGrowth y i c Counting ⊎ (IsGrowth y i c After × (cell_at y i ≡ Some c)))
+closed-counts : (this that : List ℕ) → is_live this ≡ false → counts this that ≡ false
+unfolding counts
+closed-counts this that dead = ap (λ b. b && nat_lt (mark this) 3 && (not (is_live that) || (nat_lt (mark that) 3 && (mark this == next (mark that))))) dead
+
+closed-none : (first second : List ℕ) → is_live first ≡ false → is_live second ≡ false → cell_of first second ≡ None
+unfolding cell_of
+closed-none first second a b = rw (closed-counts first second a, closed-counts second first b) refl
+
+-- what is free holds no cell
+pub free-none : (x : List ℕ) (i : ℕ) → IsFree x i → cell_at x i ≡ None
+unfolding cell_at
+free-none x i f = closed-none (part (first_at i) 34 x) (part (second_at i) 34 x) f.first f.second
+
+pub erased-none : (x : List ℕ) (j : ℕ) → twin_size (j + 1) ≤ length x → IsErased x j → cell_at x j ≡ None
+erased-none x j room erased = free-none x j (erased-free x j room erased)
+
+open-counts : (c that : List ℕ) → is_live that ≡ false → counts (0xa7 ∷ 0 ∷ c) that ≡ true
+unfolding counts is_live
+open-counts c that dead = ap (λ b. not b || (nat_lt (mark that) 3 && (0 == next (mark that)))) dead
+
+open-cell : (first second c : List ℕ) → first ≡ 0xa7 ∷ 0 ∷ c → is_live second ≡ false → cell_of first second ≡ Some c
+unfolding cell_of
+open-cell first second c is dead = rw is (rw (open-counts c second dead) refl)
+
+-- a live first copy beside one that isn't
+pub cell-open : (x : List ℕ) (i : ℕ) (c : List ℕ) → part (first_at i) 34 x ≡ 0xa7 ∷ 0 ∷ c → is_live (part (second_at i) 34 x) ≡ false → cell_at x i ≡ Some c
+unfolding cell_at
+cell-open x i c is dead = open-cell (part (first_at i) 34 x) (part (second_at i) 34 x) c is dead
+
+some-none : (o : Option (List ℕ)) → IsSome o → o ≡ None → ⊥
+some-none o some none = false≢true (subst (λ (p : Option (List ℕ)). IsSome p) none some)
+
+pub is-some : (o : Option (List ℕ)) (c : List ℕ) → o ≡ Some c → IsSome o
+is-some o c e = subst (λ (p : Option (List ℕ)). IsSome p) (sym e) refl
+
+-- ---- what the cells say
+
+counts-most : (x : List ℕ) (n m : ℕ) → n < m → CountsFirst x n → CountsFirst x m → ⊥
+counts-most x n m less a b =
+    some-none (cell_at x n) (b.cells n less) (a.end (let m = b.most in omega arith) (let r = b.room in omega arith))
+
+pub counts-once : (x : List ℕ) (n m : ℕ) → CountsFirst x n → CountsFirst x m → n ≡ m
+counts-once x n m a b = elim (cases_lt n m) [
+  | inl less ↦ absurd (counts-most x n m less a b)
+  | inr from ↦ elim (cases_lt m n) [ inl more ↦ absurd (counts-most x m n more b a) | inr to ↦ omega arith ]
+]
+
+pub says-once : (x : List ℕ) (n m : ℕ) → SaysCells x n → SaysCells x m → n ≡ m
+says-once x n m a b = counts-once x n m a.counts b.counts
+
+-- what is erased at the end stays so, if the change is before it
+pub ends-kept : (x y : List ℕ) (n lo k : ℕ) → SameOutside lo k x y → lo + k ≤ first_at n → EndsErased x n → EndsErased y n
+ends-kept x y n lo k s before e =
+    let long = s.lengths in
+    let same = part-same (first_at n) 68 lo k x y s (inr before) in
+    record {
+      room = (let r = e.room in omega arith);
+      erased = elim e.erased [ inl zeros ↦ inl (same ∙ zeros) | inr ones ↦ inr (same ∙ ones) ];
+      later = λ j from few room. cell-apart x y j lo k s (inr (omega arith)) ∙ e.later j from few (omega arith);
+    }
+
+-- so many cells count, and what is after them is erased
+pub counts-erased : (x : List ℕ) (n : ℕ) → n ≤ 1024 → ((j : ℕ) → j < n → IsSome (cell_at x j)) → EndsErased x n → CountsFirst x n
+counts-erased x n few cells e = record {
+  most = few;
+  room = (let r = e.room in omega arith);
+  cells = cells;
+  end = λ _ room. erased-none x n room e.erased;
+}
+
+-- the number alone is another: the cells say the same
+pub said-beside : (x y : List ℕ) (n : ℕ) → SameOutside 10 2 x y → HasHeadButCount x n → CountsFirst x n → EndsErased x n → SaysCells y n
+said-beside x y n s head c e =
+    let ends = ends-kept x y n 10 2 s (omega arith) e in
+    record {
+      head = but-count n x y (let r = c.room in omega arith) s head;
+      counts = counts-erased y n c.most (λ j below. subst (λ (o : Option (List ℕ)). IsSome o) (sym (cell-apart x y j 10 2 s (inr (omega arith)))) (c.cells j below)) ends;
+      sure = inr ends;
+    }
 
 -- a plan that is done is one that was cut within its last write, all of which was written
 pub done-cut : (plan : Plan) (x : List ℕ) (at : ℕ) (new : List ℕ) → WritesAt plan.third at new
@@ -122,212 +207,248 @@ done-cut plan x at new p room =
     (subst (λ n. SameOutside n plan.third.size z (applied plan x)) (sym p.place)
     (subst (λ n. SameOutside at n z (applied plan x)) (sym p.count) s))
 
-module _ (i : ℕ) (c : List ℕ) (sized : length c ≡ 32) where
-  -- the new cell is there, and a number
-  sorted : (y : List ℕ) → HasHeadButCount y (i + 1) → HasFreshCell y i c → IsErasedAfter y i → Left y i c
-  sorted y head fresh erased =
-      elim (decide-head (i + 1) y) [
-        | inl new ↦ inr (inr (new, cell_at-fresh y i c sized fresh))
-        | inr not_new ↦ elim (decide-head i y) [ inl old ↦ inl (old, erased) | inr not_old ↦ inr (inl (not_old, not_new, head, fresh, erased)) ]
-      ]
+-- ---- the number alone
 
-  module _ (x : List ℕ) (room : twin_size (i + 1) ≤ length x) where
-    -- a change of the new cell alone
-    still-before : (y : List ℕ) → SameOutside (first_at i) 68 x y → IsGrowth x i c Before → IsGrowth y i c Before
-    still-before y s h = (head-kept x y (first_at i) 68 i (omega arith) s h.0, still-erased x y i (part-same (first_at (i + 1)) 68 (first_at i) 68 x y s (inr (omega arith))) h.1)
+module _ (n : ℕ) (x : List ℕ) (room : 32 ≤ length x) (plan : Plan) (p : PlansCount plan n) where
+  none-first : applied_write plan.first x ≡ x
+  none-first = splice-empty plan.first x (no_bytes plan.first p.first)
 
-    -- a change of the number alone
-    sorted-after : (y : List ℕ) → SameOutside 10 2 x y → HasHeadButCount x (i + 1) → HasFreshCell x i c → IsErasedAfter x i → Left y i c
-    sorted-after y s head fresh erased =
-        sorted y (but-count (i + 1) x y (omega arith) s head) (fresh-beside_count x y i c s fresh) (erased-beside_count x y i s erased)
+  none-second : applied_write plan.second (applied_write plan.first x) ≡ x
+  none-second = splice-empty plan.second (applied_write plan.first x) (no_bytes plan.second p.second) ∙ none-first
 
-    wide : length (fresh_cell c) ≡ 68
-    wide = length-fresh_cell c sized
+  count-third : (y : List ℕ) → SameOutside plan.third.offset plan.third.size (applied_write plan.second (applied_write plan.first x)) y → SameOutside 10 2 x y
+  count-third y s =
+      subst (λ (z : List ℕ). SameOutside 10 2 z y) none-second
+      (subst (λ k. SameOutside 10 k (applied_write plan.second (applied_write plan.first x)) y) (length-bytes_of 2 n)
+      (at-place plan.third 10 (bytes_of 2 n) (applied_write plan.second (applied_write plan.first x)) y p.third s))
 
-    abbrev made : List ℕ
-    made = splice (first_at i) (fresh_cell c) x
-
-    made-long : length made ≡ length x
-    made-long = length-splice (first_at i) (fresh_cell c) x (let w = wide in omega arith)
-
-    made-same : SameOutside (first_at i) 68 x made
-    made-same = subst (λ n. SameOutside (first_at i) n x made) wide (SameOutside-splice (first_at i) (fresh_cell c) x (let w = wide in omega arith))
-
-    made-fresh : HasFreshCell made i c
-    made-fresh = part-splice (first_at i) 68 (fresh_cell c) x (sym wide) (let w = wide in omega arith)
-
-    module _ (plan : Plan) (p : PlansGrowth plan i c) where
-      first-is : applied_write plan.first x ≡ splice (first_at i) (live_copy 0 c) x
-      first-is = splice-at plan.first (first_at i) (live_copy 0 c) x p.first
-
-      -- both copies are written: the cell is fresh
-      both-is : applied_write plan.second (applied_write plan.first x) ≡ made
-      both-is =
-          ap (applied_write plan.second) first-is
-          ∙ (splice-at plan.second (second_at i) (live_copy 2 c) (splice (first_at i) (live_copy 0 c) x) p.second
-          ∙ (ap (λ n. splice n (live_copy 2 c) (splice (first_at i) (live_copy 0 c) x)) (let n : second_at i ≡ first_at i + length (live_copy 0 c) = omega (arith, sized) in n)
-          ∙ splice-beside (first_at i) (live_copy 0 c) (live_copy 2 c) x (omega (arith, sized, room))))
-
-      first-same : SameOutside (first_at i) 68 x (applied_write plan.first x)
-      first-same =
-          subst (λ (z : List ℕ). SameOutside (first_at i) 68 x z) (sym first-is)
-          (SameOutside-widen (first_at i) (length (live_copy 0 c)) (first_at i) 68 x (splice (first_at i) (live_copy 0 c) x) (omega arith) (omega (arith, sized))
-          (SameOutside-splice (first_at i) (live_copy 0 c) x (omega (arith, sized, room))))
-
-      -- the copies are cut
-      cut-first : (y : List ℕ) → SameOutside plan.first.offset plan.first.size x y → SameOutside (first_at i) 68 x y
-      cut-first y s =
-          SameOutside-widen (first_at i) (length (live_copy 0 c)) (first_at i) 68 x y (omega arith) (omega (arith, sized)) (at-place plan.first (first_at i) (live_copy 0 c) x y p.first s)
-
-      cut-second : (y : List ℕ) → SameOutside plan.second.offset plan.second.size (applied_write plan.first x) y → SameOutside (first_at i) 68 x y
-      cut-second y s =
-          SameOutside-after (first_at i) 68 x (applied_write plan.first x) y first-same
-          (SameOutside-widen (second_at i) (length (live_copy 2 c)) (first_at i) 68 (applied_write plan.first x) y (omega arith) (omega (arith, sized)) (at-place plan.second (second_at i) (live_copy 2 c) (applied_write plan.first x) y p.second s))
-
-      -- the number is cut
-      cut-third : (y : List ℕ) → SameOutside plan.third.offset plan.third.size (applied_write plan.second (applied_write plan.first x)) y → SameOutside 10 2 made y
-      cut-third y s =
-          subst (λ (z : List ℕ). SameOutside 10 2 z y) both-is
-          (subst (λ n. SameOutside 10 n (applied_write plan.second (applied_write plan.first x)) y) (length-bytes_of 2 (i + 1))
-          (at-place plan.third 10 (bytes_of 2 (i + 1)) (applied_write plan.second (applied_write plan.first x)) y p.third s))
-
-      pub growth-cut : (y : List ℕ) → IsGrowth x i c Before → CutWithin plan x y → Left y i c
-      growth-cut y h cut = elim cut [
-        | in_first s ↦ inl (still-before y (cut-first y s) h)
-        | in_second s ↦ inl (still-before y (cut-second y s) h)
-        | in_third s ↦ (let b = still-before made made-same h in
-            sorted y (but-count (i + 1) made y (let l = made-long in omega arith) (cut-third y s) (head-counted i (i + 1) made (let l = made-long in omega arith) b.0))
-            (fresh-beside_count made y i c (cut-third y s) made-fresh) (erased-beside_count made y i (cut-third y s) b.1))
-      ]
-
-      pub growth-others : (y : List ℕ) → CutWithin plan x y → (j : ℕ) → j ≢ i → cell_at y j ≡ cell_at x j
-      growth-others y cut j ne = elim cut [
-        | in_first s ↦ cell_beside x y i j (cut-first y s) ne
-        | in_second s ↦ cell_beside x y i j (cut-second y s) ne
-        | in_third s ↦ beside_count made y j (cut-third y s) ∙ cell_beside x made i j made-same ne
-      ]
-
-      pub growth-length : (y : List ℕ) → CutWithin plan x y → length y ≡ length x
-      growth-length y cut = elim cut [
-        | in_first s ↦ (cut-first y s).lengths
-        | in_second s ↦ (cut-second y s).lengths
-        | in_third s ↦ (cut-third y s).lengths ∙ made-long
-      ]
-
-      -- what it changes lies between the number of cells and the end of the new cell
-      pub growth-within : (y : List ℕ) → CutWithin plan x y → SameOutside 10 (first_at i + 58) x y
-      growth-within y cut = elim cut [
-        | in_first s ↦ SameOutside-widen (first_at i) 68 10 (first_at i + 58) x y (omega arith) (omega arith) (cut-first y s)
-        | in_second s ↦ SameOutside-widen (first_at i) 68 10 (first_at i + 58) x y (omega arith) (omega arith) (cut-second y s)
-        | in_third s ↦ SameOutside-after 10 (first_at i + 58) x made y (SameOutside-widen (first_at i) 68 10 (first_at i + 58) x made (omega arith) (omega arith) made-same)
-            (SameOutside-widen 10 2 10 (first_at i + 58) made y (omega arith) (omega arith) (cut-third y s))
-      ]
-
-      pub growth-done : CutWithin plan x (applied plan x)
-      growth-done =
-          done-cut plan x 10 (bytes_of 2 (i + 1)) p.third
-          (let long : length (applied_write plan.second (applied_write plan.first x)) ≡ length x = ap length both-is ∙ made-long in omega (arith, room, long, length-bytes_of 2 (i + 1)))
-
-      -- all is written
-      growth-is : applied plan x ≡ with_number (i + 1) made
-      growth-is = ap (applied_write plan.third) both-is ∙ splice-at plan.third 10 (bytes_of 2 (i + 1)) made p.third
-
-    module _ (plan : Plan) (p : PlansCount plan (i + 1)) where
-      none-first : applied_write plan.first x ≡ x
-      none-first = splice-empty plan.first x (no_bytes plan.first p.first)
-
-      none-second : applied_write plan.second (applied_write plan.first x) ≡ x
-      none-second = splice-empty plan.second (applied_write plan.first x) (no_bytes plan.second p.second) ∙ none-first
-
-      count-third : (y : List ℕ) → SameOutside plan.third.offset plan.third.size (applied_write plan.second (applied_write plan.first x)) y → SameOutside 10 2 x y
-      count-third y s =
-          subst (λ (z : List ℕ). SameOutside 10 2 z y) none-second
-          (subst (λ n. SameOutside 10 n (applied_write plan.second (applied_write plan.first x)) y) (length-bytes_of 2 (i + 1))
-          (at-place plan.third 10 (bytes_of 2 (i + 1)) (applied_write plan.second (applied_write plan.first x)) y p.third s))
-
-      -- the number alone is cut, or nothing
-      count-same : (y : List ℕ) → CutWithin plan x y → SameOutside 10 2 x y
-      count-same y cut = elim cut [
-        | in_first s ↦ SameOutside-widen 10 0 10 2 x y (omega arith) (omega arith) (subst (λ (z : List ℕ). SameOutside 10 0 x z) (sym (same-all plan.first.offset x y (subst (λ n. SameOutside plan.first.offset n x y) (no_bytes plan.first p.first) s))) (SameOutside-refl 10 0 x))
-        | in_second s ↦ SameOutside-widen 10 0 10 2 x y (omega arith) (omega arith) (subst (λ (z : List ℕ). SameOutside 10 0 x z) (sym (same-all plan.second.offset (applied_write plan.first x) y (subst (λ n. SameOutside plan.second.offset n (applied_write plan.first x) y) (no_bytes plan.second p.second) s) ∙ none-first)) (SameOutside-refl 10 0 x))
-        | in_third s ↦ count-third y s
-      ]
-
-      pub count-cut : (y : List ℕ) → IsGrowth x i c Counting → CutWithin plan x y → Left y i c
-      count-cut y h cut = sorted-after y (count-same y cut) h.2 h.3 h.4
-
-      pub count-within : (y : List ℕ) → CutWithin plan x y → SameOutside 10 (first_at i + 58) x y
-      count-within y cut = SameOutside-widen 10 2 10 (first_at i + 58) x y (omega arith) (omega arith) (count-same y cut)
-
-      pub count-others : (y : List ℕ) → CutWithin plan x y → (j : ℕ) → cell_at y j ≡ cell_at x j
-      count-others y cut j = beside_count x y j (count-same y cut)
-
-      pub count-done : CutWithin plan x (applied plan x)
-      count-done =
-          done-cut plan x 10 (bytes_of 2 (i + 1)) p.third
-          (let long : length (applied_write plan.second (applied_write plan.first x)) ≡ length x = ap length none-second in omega (arith, room, long, length-bytes_of 2 (i + 1)))
-
-      count-is : applied plan x ≡ with_number (i + 1) x
-      count-is = ap (applied_write plan.third) none-second ∙ splice-at plan.third 10 (bytes_of 2 (i + 1)) x p.third
-
-  -- the number is written
-  numbered-same : (x : List ℕ) → 32 ≤ length x → SameOutside 10 2 x (with_number (i + 1) x)
-  numbered-same x room =
-      subst (λ n. SameOutside 10 n x (with_number (i + 1) x)) (length-bytes_of 2 (i + 1)) (SameOutside-splice 10 (bytes_of 2 (i + 1)) x (omega (arith, length-bytes_of 2 (i + 1))))
-
-  -- ---- over all cuts
-
-  -- every other cell is as it was, and the bytes are as many
-  abbrev KeepsOthers : List ℕ → List ℕ → Type 0
-  KeepsOthers x z = (length z ≡ length x) × ((j : ℕ) → j ≢ i → cell_at z j ≡ cell_at x j)
-
-  abbrev pub Ends : List ℕ → List ℕ → Type 0
-  Ends x z = Head (i + 1) z × (length z ≡ length x) × ((j : ℕ) → j ≢ i → cell_at z j ≡ cell_at x j)
-
-  done-before : (plan : Plan) (x z : List ℕ) → twin_size (i + 1) ≤ length x → IsGrowth x i c Before → PlansGrowth plan i c → z ≡ applied plan x → Ends x z
-  done-before plan x z room h p e =
-      let m : List ℕ = splice (first_at i) (fresh_cell c) x in
-      let long : length m ≡ length x = made-long x room in
-      let is : z ≡ with_number (i + 1) m = e ∙ growth-is x room plan p in
-      let s : SameOutside 10 2 m (with_number (i + 1) m) = numbered-same m (omega arith) in
-      let head : Head (i + 1) (with_number (i + 1) m) = head-counted i (i + 1) m (omega arith) (still-before x room m (made-same x room) h).0 in
-      subst (λ (w : List ℕ). Ends x w) (sym is) (
-        head,
-        s.lengths ∙ long,
-        λ j ne. beside_count m (with_number (i + 1) m) j s ∙ cell_beside x m i j (made-same x room) ne,
-      )
-
-  done-counting : (plan : Plan) (x z : List ℕ) → twin_size (i + 1) ≤ length x → IsGrowth x i c Counting → PlansCount plan (i + 1) → z ≡ applied plan x → Ends x z
-  done-counting plan x z room h p e =
-      let s : SameOutside 10 2 x (with_number (i + 1) x) = numbered-same x (omega arith) in
-      subst (λ (w : List ℕ). Ends x w) (sym (e ∙ count-is x room plan p)) (h.2, s.lengths, λ j ne. beside_count x (with_number (i + 1) x) j s)
-
-  done-at : (growth : Growth) (plan : Plan) (x z : List ℕ) → twin_size (i + 1) ≤ length x → IsGrowth x i c growth → PlansFor growth plan i c → z ≡ applied plan x → Ends x z
-  done-at Before plan x z room h p e = done-before plan x z room h p e
-  done-at Counting plan x z room h p e = done-counting plan x z room h p e
-  done-at After plan x z room h p e = absurd p
-  done-at Beyond plan x z room h p e = absurd p
-
-  cut-at : (growth : Growth) (plan : Plan) (x y : List ℕ) → twin_size (i + 1) ≤ length x → PlansFor growth plan i c → CutWithin plan x y → KeepsOthers x y
-  cut-at Before plan x y room p cut = (growth-length x room plan p y cut, λ j ne. growth-others x room plan p y cut j ne)
-  cut-at Counting plan x y room p cut = ((count-same x room plan p y cut).lengths, λ j ne. count-others x room plan p y cut j)
-  cut-at After plan x y room p cut = absurd p
-  cut-at Beyond plan x y room p cut = absurd p
-
-  ends-to : (x z : List ℕ) → twin_size (i + 1) ≤ length x → GrowsTo i c x z → Ends x z
-  ends-to x z room g = elim g [
-    | inl d ↦ done-at d.0 d.1.0 x z room d.1.1.0 d.1.1.1 d.1.1.2
-    | inr s ↦ subst (λ (w : List ℕ). Ends x w) (sym s.1) (s.0, refl, λ j ne. refl)
+  -- the number is cut, or nothing
+  pub count-same : (y : List ℕ) → CutWithin plan x y → SameOutside 10 2 x y
+  count-same y cut = elim cut [
+    | in_first s ↦ SameOutside-widen 10 0 10 2 x y (omega arith) (omega arith) (subst (λ (z : List ℕ). SameOutside 10 0 x z) (sym (same-all plan.first.offset x y (subst (λ k. SameOutside plan.first.offset k x y) (no_bytes plan.first p.first) s))) (SameOutside-refl 10 0 x))
+    | in_second s ↦ SameOutside-widen 10 0 10 2 x y (omega arith) (omega arith) (subst (λ (z : List ℕ). SameOutside 10 0 x z) (sym (same-all plan.second.offset (applied_write plan.first x) y (subst (λ k. SameOutside plan.second.offset k (applied_write plan.first x) y) (no_bytes plan.second p.second) s) ∙ none-first)) (SameOutside-refl 10 0 x))
+    | in_third s ↦ count-third y s
   ]
 
-  pub grew-ends : (cuts : ℕ) (x z : List ℕ) → twin_size (i + 1) ≤ length x → Grew cuts i c x z → Ends x z
-  grew-ends zero x z room g = ends-to x z room g
-  grew-ends (suc cuts) x z room g =
-      let y = g.0 in
-      let k = g.1.0 in
-      let kept = cut-at k.growth k.plan x y room k.planned k.cut in
-      let last = grew-ends cuts y z (omega (arith, kept.0)) g.1.1 in (
-        last.0,
-        last.1 ∙ kept.0,
-        λ j ne. last.2 j ne ∙ kept.1 j ne,
-      )
+  pub count-cells : (y : List ℕ) (j : ℕ) → CutWithin plan x y → cell_at y j ≡ cell_at x j
+  count-cells y j cut = cell-apart x y j 10 2 (count-same y cut) (inr (omega arith))
+
+  pub count-done : CutWithin plan x (applied plan x)
+  count-done =
+      done-cut plan x 10 (bytes_of 2 n) p.third
+      (let long : length (applied_write plan.second (applied_write plan.first x)) ≡ length x = ap length none-second in omega (arith, room, long, length-bytes_of 2 n))
+
+  pub count-is : applied plan x ≡ with_number n x
+  count-is = ap (applied_write plan.third) none-second ∙ splice-at plan.third 10 (bytes_of 2 n) x p.third
+
+  pub count-head : HasHeadButCount x n → Head n (applied plan x)
+  count-head h = subst (λ (y : List ℕ). Head n y) (sym count-is) h
+
+-- ---- a cell more
+
+module _ (n : ℕ) (c : List ℕ) (sized : length c ≡ 32) (x : List ℕ) (room : twin_size (n + 1) ≤ length x) (plan : Plan) (p : PlansGrowth plan n c) where
+  many : length (0 ∷ c) ≡ 33
+  many = ap suc sized
+
+  -- the copy is written, and its gate
+  abbrev made : List ℕ
+  made = splice (first_at n) (0xa7 ∷ 0 ∷ c) x
+
+  wide : length (0xa7 ∷ 0 ∷ c) ≡ 34
+  wide = ap suc many
+
+  made-same : SameOutside (first_at n) 34 x made
+  made-same = subst (λ k. SameOutside (first_at n) k x made) wide (SameOutside-splice (first_at n) (0xa7 ∷ 0 ∷ c) x (omega (arith, wide)))
+
+  both-is : applied_write plan.second (applied_write plan.first x) ≡ made
+  both-is =
+      ap (applied_write plan.second) (splice-at plan.first (first_at n + 1) (0 ∷ c) x p.first)
+      ∙ (splice-at plan.second (first_at n) (0xa7 ∷ []) (splice (first_at n + 1) (0 ∷ c) x) p.second
+      ∙ splice-gate 33 (first_at n) 0xa7 (0 ∷ c) x x many (omega arith) (SameOutside-refl (first_at n) 1 x))
+
+  -- the number is cut
+  cut-third : (y : List ℕ) → SameOutside plan.third.offset plan.third.size (applied_write plan.second (applied_write plan.first x)) y → SameOutside 10 2 made y
+  cut-third y s =
+      subst (λ (z : List ℕ). SameOutside 10 2 z y) both-is
+      (subst (λ k. SameOutside 10 k (applied_write plan.second (applied_write plan.first x)) y) (length-bytes_of 2 (n + 1))
+      (at-place plan.third 10 (bytes_of 2 (n + 1)) (applied_write plan.second (applied_write plan.first x)) y p.third s))
+
+  first-same : SameOutside (first_at n) 34 x (applied_write plan.first x)
+  first-same =
+      subst (λ (z : List ℕ). SameOutside (first_at n) 34 x z) (sym (splice-at plan.first (first_at n + 1) (0 ∷ c) x p.first))
+      (SameOutside-widen (first_at n + 1) (length (0 ∷ c)) (first_at n) 34 x (splice (first_at n + 1) (0 ∷ c) x) (omega arith) (omega (arith, many))
+      (SameOutside-splice (first_at n + 1) (0 ∷ c) x (omega (arith, many))))
+
+  cut-first : (y : List ℕ) → SameOutside plan.first.offset plan.first.size x y → SameOutside (first_at n) 34 x y
+  cut-first y s = SameOutside-widen (first_at n + 1) (length (0 ∷ c)) (first_at n) 34 x y (omega arith) (omega (arith, many)) (at-place plan.first (first_at n + 1) (0 ∷ c) x y p.first s)
+
+  cut-second : (y : List ℕ) → SameOutside plan.second.offset plan.second.size (applied_write plan.first x) y → SameOutside (first_at n) 34 x y
+  cut-second y s =
+      SameOutside-after (first_at n) 34 x (applied_write plan.first x) y first-same
+      (SameOutside-widen (first_at n) 1 (first_at n) 34 (applied_write plan.first x) y (omega arith) (omega arith) (at-place plan.second (first_at n) (0xa7 ∷ []) (applied_write plan.first x) y p.second s))
+
+  -- every other cell is as it was
+  beside : (y : List ℕ) (j : ℕ) → SameOutside (first_at n) 34 x y → j ≢ n → cell_at y j ≡ cell_at x j
+  beside y j s ne = cell-apart x y j (first_at n) 34 s (elim (cases_lt j n) [ inl below ↦ inl (omega arith) | inr from ↦ elim (cases_lt n j) [ inl above ↦ inr (omega arith) | inr to ↦ absurd (ne (omega arith)) ] ])
+
+  pub growth-others : (y : List ℕ) (j : ℕ) → CutWithin plan x y → j ≢ n → cell_at y j ≡ cell_at x j
+  growth-others y j cut ne = elim cut [
+    | in_first s ↦ beside y j (cut-first y s) ne
+    | in_second s ↦ beside y j (cut-second y s) ne
+    | in_third s ↦ cell-apart made y j 10 2 (cut-third y s) (inr (omega arith)) ∙ beside made j made-same ne
+  ]
+
+  -- what it changes lies between the number of cells and the end of the new cell
+  pub growth-same : (y : List ℕ) → CutWithin plan x y → SameOutside 10 (first_at n + 24) x y
+  growth-same y cut = elim cut [
+    | in_first s ↦ SameOutside-widen (first_at n) 34 10 (first_at n + 24) x y (omega arith) (omega arith) (cut-first y s)
+    | in_second s ↦ SameOutside-widen (first_at n) 34 10 (first_at n + 24) x y (omega arith) (omega arith) (cut-second y s)
+    | in_third s ↦ SameOutside-after 10 (first_at n + 24) x made y (SameOutside-widen (first_at n) 34 10 (first_at n + 24) x made (omega arith) (omega arith) made-same)
+        (SameOutside-widen 10 2 10 (first_at n + 24) made y (omega arith) (omega arith) (cut-third y s))
+  ]
+
+  pub growth-length : (y : List ℕ) → CutWithin plan x y → length y ≡ length x
+  growth-length y cut = elim cut [
+    | in_first s ↦ (cut-first y s).lengths
+    | in_second s ↦ (cut-second y s).lengths
+    | in_third s ↦ (cut-third y s).lengths ∙ made-same.lengths
+  ]
+
+  pub growth-done : CutWithin plan x (applied plan x)
+  growth-done =
+      done-cut plan x 10 (bytes_of 2 (n + 1)) p.third
+      (let long : length (applied_write plan.second (applied_write plan.first x)) ≡ length x = ap length both-is ∙ made-same.lengths in omega (arith, room, long, length-bytes_of 2 (n + 1)))
+
+  growth-is : applied plan x ≡ with_number (n + 1) made
+  growth-is = ap (applied_write plan.third) both-is ∙ splice-at plan.third 10 (bytes_of 2 (n + 1)) made p.third
+
+  module _ (head : Head n x) (free : IsFree x n) where
+    -- beside the first copy the second is as it was
+    second-dead : (y : List ℕ) → SameOutside (first_at n) 34 x y → is_live (part (second_at n) 34 y) ≡ false
+    second-dead y s = ap is_live (part-same (second_at n) 34 (first_at n) 34 x y s (inr (omega arith))) ∙ free.second
+
+    made-cell : cell_at made n ≡ Some c
+    made-cell = cell-open made n c (part-splice (first_at n) 34 (0xa7 ∷ 0 ∷ c) x (sym wide) (omega (arith, wide))) (second-dead made made-same)
+
+    made-head : Head n made
+    made-head = head-kept x made (first_at n) 34 n (omega arith) made-same head
+
+    pub growth-head : Head (n + 1) (applied plan x)
+    growth-head = subst (λ (y : List ℕ). Head (n + 1) y) (sym growth-is) (head-counted n (n + 1) made (let l = made-same.lengths in omega arith) made-head)
+
+    pub growth-cell : cell_at (applied plan x) n ≡ Some c
+    growth-cell =
+        let s : SameOutside 10 2 made (with_number (n + 1) made) = subst (λ k. SameOutside 10 k made (with_number (n + 1) made)) (length-bytes_of 2 (n + 1)) (SameOutside-splice 10 (bytes_of 2 (n + 1)) made (let l = made-same.lengths in omega (arith, length-bytes_of 2 (n + 1)))) in
+        ap (λ (y : List ℕ). cell_at y n) growth-is ∙ (cell-apart made (with_number (n + 1) made) n 10 2 s (inr (omega arith)) ∙ made-cell)
+
+    -- ---- what a cut leaves
+
+    closed : ClosesGate 33 (first_at n) (Some (firm x)) (Some (firm x))
+    closed = closed-already 33 (first_at n) (Some (firm x)) (λ t told. ap (λ (o : Option Told). told_live o) (sym told) ∙ free.first) where
+      told_live : Option Told → Bool
+      told_live None = false
+      told_live (Some t) = is_live (part (first_at n) 34 t.bytes)
+
+    abbrev Left : List ℕ → Type 0
+    Left y = Unfinished 33 (first_at n) (0xa7 ∷ 0 ∷ c) x y
+
+    left-first : (y : List ℕ) → SameOutside plan.first.offset plan.first.size x y → Left y
+    left-first y s =
+        read-firm 33 (first_at n) (0xa7 ∷ 0 ∷ c) x y (filling 33 (first_at n) (0xa7 ∷ 0 ∷ c) _ _ _ closed
+        (outside-firm (first_at n + 1) 33 x y (subst (λ k. SameOutside (first_at n + 1) k x y) many (at-place plan.first (first_at n + 1) (0 ∷ c) x y p.first s))))
+
+    left-second : (y : List ℕ) → SameOutside plan.second.offset plan.second.size (applied_write plan.first x) y → Left y
+    left-second y s =
+        read-firm 33 (first_at n) (0xa7 ∷ 0 ∷ c) x y (opening 33 (first_at n) (0 ∷ c) many _ _ _ _ (λ t told. told_room t told) closed
+        ((apply-done plan.first x).lasts (first_at n + 1) (0 ∷ c) (omega (arith, many)) p.first)
+        (outside-firm (first_at n) 1 (applied_write plan.first x) y (at-place plan.second (first_at n) (0xa7 ∷ []) (applied_write plan.first x) y p.second s))) where
+          told_room : (t : Told) → Some (firm x) ≡ Some t → first_at n + 34 ≤ length t.bytes
+          told_room t told = (let e : firm x ≡ t = same_Some _ _ told in let l : length x ≡ length t.bytes = ap (λ (u : Told). length u.bytes) e in omega arith)
+
+    module _ (few : n < 1024) (said : CountsFirst x n) (after : EndsErased x (n + 1)) where
+      -- the old number of cells
+      as-old : (y : List ℕ) → SameOutside (first_at n) 34 x y → is_live (part (first_at n) 34 y) ≡ false → SaysCells y n × IsFree y n
+      as-old y s dead =
+          let here : Head n y = head-kept x y (first_at n) 34 n (omega arith) s head in
+          let long = s.lengths in
+          let now : IsFree y n = record { first = dead; second = second-dead y s } in (
+            record {
+              head = head-counted n n y (omega arith) here;
+              counts = record {
+                most = omega arith;
+                room = omega arith;
+                cells = λ j below. subst (λ (o : Option (List ℕ)). IsSome o) (sym (beside y j s (λ e. omega arith))) (said.cells j below);
+                end = λ _ _. free-none y n now;
+              };
+              sure = inl here;
+            },
+            now,
+          )
+
+      new-cells : (y : List ℕ) → SameOutside (first_at n) 34 x y → cell_at y n ≡ Some c → (j : ℕ) → j < n + 1 → IsSome (cell_at y j)
+      new-cells y s new j below = elim (cases_lt j n) [
+        | inl before ↦ subst (λ (o : Option (List ℕ)). IsSome o) (sym (beside y j s (λ e. omega arith))) (said.cells j before)
+        | inr end ↦ (let e : n ≡ j = omega arith in subst (λ i. IsSome (cell_at y i)) e (is-some (cell_at y n) c new))
+      ]
+
+      new-ends : (y : List ℕ) → SameOutside (first_at n) 34 x y → EndsErased y (n + 1)
+      new-ends y s = ends-kept x y (n + 1) (first_at n) 34 s (omega arith) after
+
+      -- the new one
+      as-new : (y : List ℕ) → SameOutside (first_at n) 34 x y → cell_at y n ≡ Some c → SaysCells y (n + 1)
+      as-new y s new =
+          let long = s.lengths in
+          record {
+            head = head-counted n (n + 1) y (omega arith) (head-kept x y (first_at n) 34 n (omega arith) s head);
+            counts = counts-erased y (n + 1) (omega arith) (new-cells y s new) (new-ends y s);
+            sure = inr (new-ends y s);
+          }
+
+      sorted : (y : List ℕ) → Left y → (SaysCells y n × IsFree y n) ⊎ (SaysCells y (n + 1) × (cell_at y n ≡ Some c))
+      sorted y u = elim u.spare [
+        | inl dead ↦ inl (as-old y u.same dead)
+        | inr more ↦ elim more [
+          | inl was ↦ inl (as-old y u.same (ap is_live was ∙ free.first))
+          | inr new ↦ (let cell = cell-open y n c new (second-dead y u.same) in inr (as-new y u.same cell, cell))
+        ]
+      ]
+
+      pub growth-cut : (y : List ℕ) → CutWithin plan x y → (SaysCells y n × IsFree y n) ⊎ (SaysCells y (n + 1) × (cell_at y n ≡ Some c))
+      growth-cut y cut = elim cut [
+        | in_first s ↦ sorted y (left-first y s)
+        | in_second s ↦ sorted y (left-second y s)
+        | in_third s ↦ (let m = as-new made made-same made-cell in
+            let t = cut-third y s in
+            inr (said-beside made y (n + 1) t m.head m.counts (new-ends made made-same), cell-apart made y n 10 2 t (inr (omega arith)) ∙ made-cell))
+      ]
+
+-- ---- a put
+
+module _ (plan : Plan) (x : List ℕ) (i : ℕ) (c : List ℕ) (p : PlansPut plan x i c) where
+  abbrev at : ℕ
+  at = side_at i (other p.side)
+
+  first-long : length (applied_write plan.first x) ≡ length x
+  first-long =
+      let b = side_bounds i (other p.side) in
+      let r = p.room in
+      elim (cases_Bool (is_live (copy x i (other p.side)))) [
+        | inl on ↦ ap length (splice-at plan.first at (0 ∷ []) x (p.gated.closes on)) ∙ length-splice at (0 ∷ []) x (omega arith)
+        | inr off ↦ ap length (splice-empty plan.first x (no_bytes plan.first (p.gated.closed off)))
+      ]
+
+  second-long : length (applied_write plan.second (applied_write plan.first x)) ≡ length x
+  second-long =
+      let b = side_bounds i (other p.side) in
+      let r = p.room in
+      let new : List ℕ = next (mark (copy x i p.side)) ∷ c in
+      ap length (splice-at plan.second (at + 1) new (applied_write plan.first x) p.gated.fills)
+      ∙ (length-splice (at + 1) new (applied_write plan.first x) (omega (arith, p.sized, first-long)) ∙ first-long)
+
+  pub put-done : CutWithin plan x (applied plan x)
+  put-done = done-cut plan x at (167 ∷ []) p.gated.opens (let b = side_bounds i (other p.side) in let r = p.room in omega (arith, second-long))
+
+  pub put-same : (y : List ℕ) → CutWithin plan x y → SameOutside (first_at i) 68 x y
+  put-same y cut =
+      let b = side_bounds i (other p.side) in
+      SameOutside-widen at 34 (first_at i) 68 x y (omega arith) (omega arith) (cut-unfinished plan x y i c p cut).same

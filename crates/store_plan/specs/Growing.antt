@@ -1,16 +1,17 @@
--- A twin store of version 1 that gets a cell more at its end: its two copies are written behind the end, and then the
--- number of cells in the header.
-use Rattle.std.specs.Prelude.{◌≡◌, ℕ, zero, suc, ◌+◌, ◌⊎◌, List, replicate}
+-- A twin store of version 1 that gets a cell more at its end: the first copy of the cell is written as a put writes
+-- one, its gate last, and then the number of cells in the header. A cut may leave any number there. So the number of
+-- cells is what the cells say: as many as count, from the first on.
+use Rattle.std.specs.Prelude.{◌≡◌, ℕ, ◌+◌, ◌<◌, ◌≤◌, ◌⊎◌, false, None, IsSome, List, [], ◌∷◌, length, replicate}
 use Rattle.basics.specs.Numbers.{bytes_of}
 use Rattle.cut_disk.specs.Images.{splice}
 use Rattle.cell_store.specs.declared.kinds.Version.TheVariants.{One}
 use Rattle.cell_store.specs.Layout.{twin_layout, part}
-use Rattle.cell_store.specs.Twin.{first_at, second_at, live_copy, fresh_cell}
+use Rattle.cell_store.specs.Twin.{twin_size, first_at, second_at, is_live, cell_at}
 use Rattle.cell_store.specs.Store.{HasHeader}
-use Rattle.store_plan.specs.declared.growing.Growth.{Growth}
-use Rattle.store_plan.specs.declared.growing.Growth.TheVariants.{Before, Counting, After, Beyond}
+use Rattle.store_plan.specs.declared.growing.TellFault.{TellFault}
+use Rattle.store_plan.specs.declared.growing.TellFault.TheVariants.{NoStore, TooShort, Damaged}
 use Rattle.store_plan.specs.declared.planning.Plan.{Plan}
-use Rattle.store_plan.specs.Plans.{WritesAt, RestsAreZero, no_write, applied, CutWithin}
+use Rattle.store_plan.specs.Plans.{WritesAt, RestsAreZero, no_write}
 
 -- where the header has the number of cells
 abbrev pub count_at : ℕ
@@ -24,22 +25,63 @@ with_number n x = splice count_at (bytes_of 2 n) x
 abbrev pub HasHeadButCount : List ℕ → ℕ → Type 0
 HasHeadButCount x n = HasHeader (twin_layout One) n (with_number n x)
 
--- x has both copies of cell i as a fresh store has them
-abbrev pub HasFreshCell : List ℕ → ℕ → List ℕ → Type 0
-HasFreshCell x i c = part (first_at i) 68 x ≡ fresh_cell c
+-- ---- what the cells say
 
--- the bytes of x where a cell after cell i would stand are as an erase leaves them
-abbrev pub IsErasedAfter : List ℕ → ℕ → Type 0
-IsErasedAfter x i = (part (first_at (i + 1)) 68 x ≡ replicate 68 0) ⊎ (part (first_at (i + 1)) 68 x ≡ replicate 68 0xff)
+-- no cell from this one on counts, of those that x has room for
+abbrev pub NoneFrom : List ℕ → ℕ → Type 0
+NoneFrom x from = (j : ℕ) → from ≤ j → j < 1024 → twin_size (j + 1) ≤ length x → cell_at x j ≡ None
 
--- what comes of x if it gets cell i, of this payload, at its end
-unfoldable pub grown : ℕ → List ℕ → List ℕ → List ℕ
-grown i c x = with_number (i + 1) (splice (first_at i) (fresh_cell c) x)
+-- the first n cells of x each have a copy that counts, and cell n has none, if x has room for it
+pub record CountsFirst (x : List ℕ) (n : ℕ) : Type 0 where
+  pub most : n ≤ 1024
+  pub room : twin_size n ≤ length x
+  pub cells : (j : ℕ) → j < n → IsSome (cell_at x j)
+  pub end : n < 1024 → twin_size (n + 1) ≤ length x → cell_at x n ≡ None
+
+-- the place of cell i in x is as an erase leaves it: all 00, or all ff
+abbrev pub IsErased : List ℕ → ℕ → Type 0
+IsErased x i = (part (first_at i) 68 x ≡ replicate 68 0) ⊎ (part (first_at i) 68 x ≡ replicate 68 0xff)
+
+-- x has room for cell n, its place is erased, and no cell after it counts
+pub record EndsErased (x : List ℕ) (n : ℕ) : Type 0 where
+  pub room : twin_size (n + 1) ≤ length x
+  pub erased : IsErased x n
+  pub later : NoneFrom x (n + 1)
+
+-- The cells of x say that there are n: so many count, from the first on. And the number in the header is the same, or
+-- what is after them is erased: then the number was cut.
+pub record SaysCells (x : List ℕ) (n : ℕ) : Type 0 where
+  pub head : HasHeadButCount x n
+  pub counts : CountsFirst x n
+  pub sure : HasHeader (twin_layout One) n x ⊎ EndsErased x n
+
+-- x ends too soon to say it: it has no room for a cell that doesn't count, and the number is another
+abbrev pub EndsTooSoon : List ℕ → Type 0
+EndsTooSoon x =
+    (n : ℕ) × (CountsFirst x n × (length x < twin_size (n + 1)) × (¬ HasHeader (twin_layout One) n x))
+
+-- why the cells of x say nothing
+abbrev pub TellsNot : List ℕ → TellFault → Type 0
+TellsNot x NoStore = ¬ HasHeadButCount x 1
+TellsNot x TooShort = HasHeadButCount x 1 × EndsTooSoon x
+TellsNot x Damaged = HasHeadButCount x 1 × (¬ EndsTooSoon x) × ((n : ℕ) → ¬ SaysCells x n)
+
+-- ---- a cell more
+
+-- no copy at the place of cell i is live
+pub record IsFree (x : List ℕ) (i : ℕ) : Type 0 where
+  pub first : is_live (part (first_at i) 34 x) ≡ false
+  pub second : is_live (part (second_at i) 34 x) ≡ false
+
+-- x may get cell n: the place of that cell is free, and what is after it is erased
+pub record MayGrow (x : List ℕ) (n : ℕ) : Type 0 where
+  pub free : IsFree x n
+  pub after : EndsErased x (n + 1)
 
 -- the plan is to write cell i, of this payload, and the number of cells
 pub record PlansGrowth (plan : Plan) (i : ℕ) (c : List ℕ) : Type 0 where
-  pub first : WritesAt plan.first (first_at i) (live_copy 0 c)
-  pub second : WritesAt plan.second (second_at i) (live_copy 2 c)
+  pub first : WritesAt plan.first (first_at i + 1) (0 ∷ c)
+  pub second : WritesAt plan.second (first_at i) (0xa7 ∷ [])
   pub third : WritesAt plan.third count_at (bytes_of 2 (i + 1))
   pub rests : RestsAreZero plan
 
@@ -49,45 +91,3 @@ pub record PlansCount (plan : Plan) (n : ℕ) : Type 0 where
   pub second : plan.second ≡ no_write
   pub third : WritesAt plan.third count_at (bytes_of 2 n)
   pub rests : RestsAreZero plan
-
--- How far x went that gets cell i, of this payload. The old header stands, or the new one, or the new cell and a header
--- that is the new one but for its number: and what is after the new cell is erased. If it isn't, x went further, or is
--- damaged.
-abbrev pub IsGrowth : List ℕ → ℕ → List ℕ → Growth → Type 0
-IsGrowth x i c Before = HasHeader (twin_layout One) i x × IsErasedAfter x i
-IsGrowth x i c Counting =
-    (¬ HasHeader (twin_layout One) i x) × (¬ HasHeader (twin_layout One) (i + 1) x)
-    × HasHeadButCount x (i + 1) × HasFreshCell x i c × IsErasedAfter x i
-IsGrowth x i c After = HasHeader (twin_layout One) (i + 1) x
-IsGrowth x i c Beyond =
-    (¬ HasHeader (twin_layout One) (i + 1) x) × HasHeadButCount x (i + 1) × (¬ IsErasedAfter x i)
-
--- x is none of these
-abbrev pub NoGrowth : List ℕ → ℕ → List ℕ → Type 0
-NoGrowth x i c = (growth : Growth) → ¬ IsGrowth x i c growth
-
--- the plan for an image that went so far
-abbrev pub PlansFor : Growth → Plan → ℕ → List ℕ → Type 0
-PlansFor Before plan i c = PlansGrowth plan i c
-PlansFor Counting plan i c = PlansCount plan (i + 1)
-PlansFor After plan i c = ⊥
-PlansFor Beyond plan i c = ⊥
-
--- the plan for how far x went is done, and z comes of it; or x has the new header, and stays
-abbrev pub GrowsTo : ℕ → List ℕ → List ℕ → List ℕ → Type 0
-GrowsTo i c x z =
-    ((growth : Growth) × ((plan : Plan) × (IsGrowth x i c growth × PlansFor growth plan i c × (z ≡ applied plan x))))
-    ⊎ (IsGrowth x i c After × (z ≡ x))
-
--- the power goes within the plan for how far x went, and leaves y
-pub record CutGrowth (i : ℕ) (c x y : List ℕ) : Type 0 where
-  pub growth : Growth
-  pub plan : Plan
-  pub is : IsGrowth x i c growth
-  pub planned : PlansFor growth plan i c
-  pub cut : CutWithin plan x y
-
--- z comes of x that gets cell i, of this payload, over so many cuts: after each a plan is made for what the power left
-abbrev pub Grew : ℕ → ℕ → List ℕ → List ℕ → List ℕ → Type 0
-Grew zero i c x z = GrowsTo i c x z
-Grew (suc cuts) i c x z = (y : List ℕ) × (CutGrowth i c x y × Grew cuts i c y z)

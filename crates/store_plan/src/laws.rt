@@ -5,10 +5,10 @@ ghost use Rattle.cell_store.specs.Layout.{twin_layout};
 ghost use Rattle.cell_store.specs.Twin.{twin_size, cell_at};
 ghost use Rattle.cell_store.specs.Store.{Stands, HasHeader};
 ghost use Rattle.store_plan.specs.declared.planning.Plan.{Plan};
-ghost use Rattle.store_plan.specs.declared.growing.Growth.TheVariants.{Before, Counting, After};
 ghost use Rattle.store_plan.specs.Plans.{PlansPut, CutWithin, applied};
 ghost use Rattle.store_plan.specs.Leaving.{LeavesPut, IsImageOf};
-ghost use Rattle.store_plan.specs.Growing.{IsGrowth, PlansGrowth, PlansCount, Grew};
+ghost use Rattle.store_plan.specs.Growing.{HasHeadButCount, SaysCells, EndsErased, IsFree, MayGrow, PlansGrowth};
+ghost use Rattle.store_plan.specs.Growing.{PlansCount};
 
 /// If the power goes within a plan, what stands there is the old list or the new one. The device has to keep what is
 /// durable, and a write that is cut changes its own bytes alone.
@@ -52,24 +52,32 @@ pub fn a_done_put_keeps_an_image()
         → PlansPut plan x cell bytes → IsImageOf (applied plan x) (slice_set cells cell bytes) }
 {}
 
-/// If the power goes within a growth of a store, it has its old cells and the old header, or the new cell too and the
-/// new header, or the new cell and a number of cells that is another: then the same call plans the number alone. So
-/// each of the 65,536 values that the number may be left with is one of the three.
-pub fn a_cut_within_a_growth_leaves_a_store_or_the_count()
-    ensures growing { (plan : Plan) (x y : List ℕ) (i : ℕ) (c : List ℕ) → length c ≡ 32
-        → twin_size (i + 1) ≤ length x → IsGrowth x i c Before → PlansGrowth plan i c → CutWithin plan x y
-        → IsGrowth y i c Before ⊎ (IsGrowth y i c Counting ⊎ (IsGrowth y i c After × (cell_at y i ≡ Some c))) }
-    ensures counting { (plan : Plan) (x y : List ℕ) (i : ℕ) (c : List ℕ) → length c ≡ 32
-        → twin_size (i + 1) ≤ length x → IsGrowth x i c Counting → PlansCount plan (i + 1) → CutWithin plan x y
-        → IsGrowth y i c Before ⊎ (IsGrowth y i c Counting ⊎ (IsGrowth y i c After × (cell_at y i ≡ Some c))) }
-    ensures cells { (plan : Plan) (x y : List ℕ) (i j : ℕ) (c : List ℕ) → length c ≡ 32
-        → twin_size (i + 1) ≤ length x → PlansGrowth plan i c ⊎ PlansCount plan (i + 1) → CutWithin plan x y
-        → j ≢ i → cell_at y j ≡ cell_at x j }
+/// If the power goes within a growth of a store, its cells say the old number or the new one. If it is the new one,
+/// the new cell holds its payload. Once all is done, the header has the new number. Every other cell is as it was.
+pub fn a_cut_within_a_growth_leaves_a_store()
+    ensures either { (plan : Plan) (x y : List ℕ) (n : ℕ) (c : List ℕ) → length c ≡ 32 → n < 1024 → SaysCells x n
+        → HasHeader (twin_layout One) n x → MayGrow x n → PlansGrowth plan n c → CutWithin plan x y
+        → (SaysCells y n × IsFree y n) ⊎ (SaysCells y (n + 1) × (cell_at y n ≡ Some c)) }
+    ensures others { (plan : Plan) (x y : List ℕ) (n j : ℕ) (c : List ℕ) → length c ≡ 32 → twin_size (n + 1) ≤ length x
+        → PlansGrowth plan n c → CutWithin plan x y → j ≢ n → cell_at y j ≡ cell_at x j }
+    ensures done { (plan : Plan) (x : List ℕ) (n : ℕ) (c : List ℕ) → length c ≡ 32 → twin_size (n + 1) ≤ length x
+        → HasHeader (twin_layout One) n x → IsFree x n → PlansGrowth plan n c
+        → CutWithin plan x (applied plan x) × HasHeader (twin_layout One) (n + 1) (applied plan x)
+        × (cell_at (applied plan x) n ≡ Some c) }
 {}
 
-/// Whatever cuts there were, the store in the end has the new header, and every other cell as it was.
-pub fn a_growth_ends_with_a_cell_more()
-    ensures { (cuts i : ℕ) (c x z : List ℕ) → length c ≡ 32 → twin_size (i + 1) ≤ length x
-        → Grew cuts i c x z → HasHeader (twin_layout One) (i + 1) z × (length z ≡ length x)
-        × ((j : ℕ) → j ≢ i → cell_at z j ≡ cell_at x j) }
+/// The same of the number alone: whatever a cut leaves of it, the cells say the same. Once it is written, it is what
+/// they say.
+pub fn a_cut_within_a_number_leaves_the_cells()
+    ensures told { (plan : Plan) (x y : List ℕ) (n : ℕ) → SaysCells x n → EndsErased x n → PlansCount plan n
+        → CutWithin plan x y → SaysCells y n }
+    ensures cells { (plan : Plan) (x y : List ℕ) (n j : ℕ) → 32 ≤ length x → PlansCount plan n → CutWithin plan x y
+        → cell_at y j ≡ cell_at x j }
+    ensures done { (plan : Plan) (x : List ℕ) (n : ℕ) → 32 ≤ length x → HasHeadButCount x n → PlansCount plan n
+        → CutWithin plan x (applied plan x) × HasHeader (twin_layout One) n (applied plan x) }
+{}
+
+/// The cells of an image say one number.
+pub fn cells_say_one_number()
+    ensures { (x : List ℕ) (n m : ℕ) → SaysCells x n → SaysCells x m → n ≡ m }
 {}

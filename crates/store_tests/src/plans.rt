@@ -9,8 +9,8 @@ use std::alloc::Global;
 use std::process::Abort;
 use std::test::Fail;
 use store_plan::{
-    Growth, Plan, check, count_in, done, growth_of, is_within, make, make_cell, perform,
-    plan_count, plan_growth, plan_put,
+    Plan, TellFault, cells_told, check, count_in, done, is_within, make, make_cell, may_grow,
+    perform, plan_count, plan_growth, plan_put,
 };
 
 // All bytes of a disk that has room for two cells.
@@ -105,20 +105,18 @@ enum Behind {
     Damaged,
 }
 
-/// A number of cells in the header of a store of one cell that got another, what is after that one, and how far the
-/// store went.
-const NUMBERS: [(u16, Behind, Option<Growth>); 11] = [
-    (1, Behind::Zeros, Some(Growth::Before)),
-    (2, Behind::Zeros, Some(Growth::After)),
-    (0, Behind::Zeros, Some(Growth::Counting)),
-    (3, Behind::Ones, Some(Growth::Counting)),
-    (0xffff, Behind::Ones, Some(Growth::Counting)),
-    (1, Behind::Ones, Some(Growth::Before)),
-    (1, Behind::Cell, Some(Growth::Beyond)),
-    (3, Behind::Cell, Some(Growth::Beyond)),
-    (0xffff, Behind::Cell, Some(Growth::Beyond)),
-    (3, Behind::Damaged, Some(Growth::Beyond)),
-    (1, Behind::Damaged, Some(Growth::Beyond)),
+/// A number of cells in the header of a store of two cells, what is after them, and what the cells tell.
+const NUMBERS: [(u16, Behind, Result<u16, TellFault>); 10] = [
+    (2, Behind::Zeros, Ok(2)),
+    (1, Behind::Zeros, Ok(2)),
+    (0, Behind::Zeros, Ok(2)),
+    (3, Behind::Ones, Ok(2)),
+    (0xffff, Behind::Ones, Ok(2)),
+    (3, Behind::Cell, Ok(3)),
+    (2, Behind::Cell, Err(TellFault::TooShort)),
+    (0xffff, Behind::Cell, Err(TellFault::TooShort)),
+    (2, Behind::Damaged, Ok(2)),
+    (3, Behind::Damaged, Err(TellFault::Damaged)),
 ];
 
 /// Puts it there: of the damaged cell no copy counts.
@@ -129,8 +127,8 @@ fn put_behind(image: &mut [u8; 236], behind: Behind) {
         Behind::Cell => make_cell(image, 2, &ELEVENS),
         Behind::Damaged => {
             make_cell(image, 2, &ELEVENS);
-            image[168] = 0xa7;
-            image[202] = 0xa7;
+            image[168] = 0;
+            image[202] = 0;
         }
     }
 }
@@ -138,6 +136,7 @@ fn put_behind(image: &mut [u8; 236], behind: Behind) {
 /// A store of one cell, which gets another, of elevens.
 fn grown(rt: &impl Abort, image: &mut [u8; 236]) {
     make(&mut image[..100], 1);
+    holds(rt, "the store may grow", may_grow(image, 1));
     let mut plan = plan_growth(1, &ELEVENS);
     done(image, &mut plan);
     holds(
@@ -155,13 +154,13 @@ fn count_at(image: &[u8; 236]) -> Option<u16> {
 }
 
 #[test]
-fn a_growth_goes_as_far_as_header_and_cells_say(rt: HostRuntime) {
-    for (number, behind, growth) in NUMBERS {
+fn the_cells_tell_their_number(rt: HostRuntime) {
+    for (number, behind, told) in NUMBERS {
         let mut image = [0; 236];
         grown(&rt, &mut image);
         put_behind(&mut image, behind);
         image[10..12].copy_from_slice(&number.to_be_bytes());
-        same(&rt, number, &growth_of(&image, 1, &ELEVENS), &growth);
+        same(&rt, number, &cells_told(&image), &told);
     }
 }
 

@@ -1,7 +1,7 @@
 -- The state goes on by a line.
-use Rattle.std.proofs.Common.{◌≡◌, ℕ, zero, suc, ◌+◌, ◌<◌, ◌≤◌, ◌==◌, ◌&&◌, ◌||◌, Bool, true, false, List, [], ◌∷◌, ◌++◌, length, map, take, set, refl, sym, ◌∙◌, ap, subst, arith, append-nil, append_assoc, inl, inr, length-append, get_or-set_same, get_or-set_other, length-set}
-use Rattle.std.specs.Prelude.{if◌then◌else◌, nat_lt, slice_index, filter, Option, None, Some, IfSome, option_map, unwrap_or}
-use Rattle.std.specs.List.{flat_map, list_all, range_with_len, slice_get}
+use Rattle.std.proofs.Common.{◌≡◌, ℕ, zero, suc, ◌+◌, ◌<◌, ◌≤◌, ◌==◌, ◌&&◌, Bool, true, false, List, [], ◌∷◌, ◌++◌, length, map, take, set, refl, sym, ◌∙◌, ap, subst, arith, append-nil, append_assoc, inl, inr, length-append, get_or-set_same, get_or-set_other, length-set}
+use Rattle.std.specs.Prelude.{if◌then◌else◌, nat_lt, slice_index, filter, Option, None, Some, IfSome}
+use Rattle.std.specs.List.{flat_map, list_all, range_with_len}
 use Rattle.std.proofs.lemmas.Bool.Decides.{nat_tests}
 use Rattle.std.proofs.lemmas.Grind.{flat_map-append}
 use Rattle.std.proofs.lemmas.List.{map-append, length-map, get_or-replicate, length-replicate}
@@ -17,6 +17,8 @@ use Rattle.can_logs.specs.declared.frames.OtherLine.TheVariants as kind
 use Rattle.can_logs.specs.declared.findings.FrameTally.{FrameTally}
 use Rattle.can_logs.specs.declared.findings.FrameTally.TheVariants as tally
 use Rattle.watch_commands.specs.declared.counts.WatchCounts.{WatchCounts}
+use Rattle.watch_commands.specs.declared.counts.LineCounts.{LineCounts}
+use Rattle.watch_commands.specs.Limits.{limits_in}
 use Rattle.watch_commands.specs.WatchedMaps.{WatchedMap}
 use Rattle.can_logs.specs.Findings.{Finding, other, too_short, verdict, tally_of, finding_accepts, first_counters, counter_of_place, AuditsLine, is_accepted_tally}
 use Rattle.can_logs.proofs.CallerLemmas.{AuditsLine-same}
@@ -25,7 +27,7 @@ use Rattle.line_stream.specs.Pieces.{line_limit, in_64_bits}
 use Rattle.watch_commands.specs.Watching.{Found, stamped, findings_of, WatchesLine, none, more, told_text, found_text}
 use Rattle.watch_commands.specs.Stamps.{stamp_of}
 use Rattle.watch_commands.proofs.Stamping.{findings_more, stamped_kept}
-use Rattle.watch_commands.specs.WatchTotals.{is_failed_tally, is_accepted_at, is_failed_at, is_other_of, is_unmapped_line, is_other_frame, is_malformed_line, count_of, counted_of, counts_of, counts_text, total_line_at, map_places, LineTotals, totals_of, totals_text_of, totals_text, is_heard_at, are_heard, watch_status}
+use Rattle.watch_commands.specs.WatchTotals.{is_failed_tally, is_accepted_at, is_failed_at, is_other_of, is_unmapped_line, is_other_frame, is_malformed_line, counted_of, counts_of, counts_text, total_line_at, map_places, line_over_at, log_over, totals_of, totals_text_of, totals_text, passes_at, log_passes, status_of, watch_status}
 use Rattle.line_stream.specs.Streams.{kept_of}
 use Rattle.watch_commands.specs.States.{WatchState, IsFreshWatch, Watched, JudgesLine, WatchesNext, IsPlaced, tally_found, counts_as, counts_after, accepted_place, failed_place, raised_at, totals_in, end_text, end_status}
 
@@ -327,54 +329,58 @@ places_same {X} f g a (suc n) m all same =
     ap (λ (x : X). x ∷ map f (range_with_len (a + 1) n)) (same a (omega (arith, all)))
     ∙ ap (λ (xs : List X). g a ∷ xs) (places_same f g (a + 1) n m (omega (arith, all)) same)
 
--- the numbers of the lines depend on what is known of the places of the map alone
-module _ (mapping : WatchedMap) (one two : LineTotals)
-    (accepted : (place : ℕ) → place < length mapping.lines → one.accepted place ≡ two.accepted place)
-    (failed : (place : ℕ) → place < length mapping.lines → one.failed place ≡ two.failed place)
-    (last : (place : ℕ) → place < length mapping.lines → one.last place ≡ two.last place) where
-  same_at : (place : ℕ) → place < length mapping.lines → total_line_at mapping one place ≡ total_line_at mapping two place
-  same_at place inside =
-      ap (λ n. total_line_at mapping (record { accepted = λ p. n; failed = one.failed; last = one.last }) place) (accepted place inside)
-      ∙ ap (λ n. total_line_at mapping (record { accepted = two.accepted; failed = λ p. n; last = one.last }) place) (failed place inside)
-      ∙ ap (λ n. total_line_at mapping (record { accepted = two.accepted; failed = two.failed; last = λ p. n }) place) (last place inside)
+-- texts and tests of all lines of a map depend on the numbers of these lines alone
+module _ (mapping : WatchedMap) (one two : ℕ → LineCounts) (same : (place : ℕ) → place < length mapping.lines → one place ≡ two place) where
+  same_places : {X : Type 0} (f : ℕ → LineCounts → X) → map (λ place. f place (one place)) (map_places mapping) ≡ map (λ place. f place (two place)) (map_places mapping)
+  same_places f =
+      places_same (λ place. f place (one place)) (λ place. f place (two place)) 0 (length mapping.lines) (length mapping.lines) (omega arith)
+      (λ place inside. ap (f place) (same place inside))
 
-  same_totals : flat_map (total_line_at mapping one) (map_places mapping) ≡ flat_map (total_line_at mapping two) (map_places mapping)
-  same_totals =
-      sym (flat_map-map (λ (t : List ℕ). t) (total_line_at mapping one) (map_places mapping))
-      ∙ ap (flat_map (λ (t : List ℕ). t)) (places_same (total_line_at mapping one) (total_line_at mapping two) 0 (length mapping.lines) (length mapping.lines) (omega arith) same_at)
-      ∙ flat_map-map (λ (t : List ℕ). t) (total_line_at mapping two) (map_places mapping)
+  same_texts : (f : ℕ → LineCounts → List ℕ) → flat_map (λ place. f place (one place)) (map_places mapping) ≡ flat_map (λ place. f place (two place)) (map_places mapping)
+  same_texts f =
+      sym (flat_map-map (λ (t : List ℕ). t) (λ place. f place (one place)) (map_places mapping))
+      ∙ ap (flat_map (λ (t : List ℕ). t)) (same_places f)
+      ∙ flat_map-map (λ (t : List ℕ). t) (λ place. f place (two place)) (map_places mapping)
 
--- the text at the end of a log is that of what was found
+  same_tests : (f : ℕ → LineCounts → Bool) → list_all (λ place. f place (one place)) (map_places mapping) ≡ list_all (λ place. f place (two place)) (map_places mapping)
+  same_tests f =
+      sym (list_all-map (λ (b : Bool). b) (λ place. f place (one place)) (map_places mapping))
+      ∙ ap (list_all (λ (b : Bool). b)) (same_places f)
+      ∙ list_all-map (λ (b : Bool). b) (λ place. f place (two place)) (map_places mapping)
+
+  totals_same : (counts : WatchCounts) → totals_text_of mapping one counts ≡ totals_text_of mapping two counts
+  totals_same counts =
+      let said : List ℕ = counts_text mapping.options.json counts in
+      let over : List ℕ = log_over mapping.options counts in
+      let overs : List ℕ = flat_map (line_over_at mapping one) (map_places mapping) in
+      let totals : List ℕ = flat_map (total_line_at mapping two) (map_places mapping) in
+      ap (λ (t : List ℕ). t ++ said ++ overs ++ over) (same_texts (λ place n. total_line_at mapping (λ _. n) place))
+      ∙ ap (λ (t : List ℕ). totals ++ said ++ t ++ over) (same_texts (λ place n. line_over_at mapping (λ _. n) place))
+
+  status_same : (counts : WatchCounts) → status_of mapping one counts ≡ status_of mapping two counts
+  status_same counts =
+      ap (λ (b : Bool). if nat_lt 0 counts.failed then 1 else if (b && nat_lt 0 (length mapping.lines)) && log_passes (limits_in mapping.options) counts then 0 else 3)
+      (same_tests (λ place n. passes_at mapping (λ _. n) place))
+
+-- the numbers of a line of the map are those of what was found
+abbrev line_numbers_of : ℕ → ℕ → ℕ → ℕ → LineCounts
+line_numbers_of number accepted failed last = record { number = number; accepted = accepted; failed = failed; last = last }
+
+totals_are : (state : WatchState) (lines : List (List ℕ)) (findings : List Found) → Watched state lines findings → (place : ℕ) → place < length state.mapping.lines
+    → totals_in state place ≡ totals_of state.mapping (findings_of findings) place
+totals_are state lines findings w place inside =
+    let number : ℕ = slice_index state.mapping.numbers place in
+    ap (λ (n : ℕ). line_numbers_of number n (slice_index state.failed place) (slice_index state.counters place)) (w.accepted_are place inside)
+    ∙ ap (λ (n : ℕ). line_numbers_of number (counted_of (is_accepted_at place) (findings_of findings)) n (slice_index state.counters place)) (w.failed_are place inside)
+    ∙ ap (λ (n : ℕ). line_numbers_of number (counted_of (is_accepted_at place) (findings_of findings)) (counted_of (is_failed_at place) (findings_of findings)) n) (w.counters_are place inside)
+
+-- the text at the end of a log is that of what was found, and so is the status
 pub end_text_is : (state : WatchState) (lines : List (List ℕ)) (findings : List Found) → Watched state lines findings → end_text state ≡ totals_text state.mapping (findings_of findings)
 end_text_is state lines findings w =
-    ap (λ t. t ++ counts_text state.mapping.options.json state.counts)
-    (same_totals state.mapping (totals_in state) (totals_of state.mapping (findings_of findings)) w.accepted_are w.failed_are w.counters_are)
-    ∙ ap (λ (counts : WatchCounts). totals_text_of state.mapping (totals_of state.mapping (findings_of findings)) counts) w.counts_are
+    ap (λ (counts : WatchCounts). totals_text_of state.mapping (totals_in state) counts) w.counts_are
+    ∙ totals_same state.mapping (totals_in state) (totals_of state.mapping (findings_of findings)) (totals_are state lines findings w) (counts_of (findings_of findings))
 
--- more than none in 64 bits are more than none
-some_in_64_bits : (n : ℕ) → nat_lt 0 (in_64_bits n) ≡ nat_lt 0 n
-some_in_64_bits zero = refl
-some_in_64_bits (suc n) = grind (arith, nat_tests)
-
-heard_at_same : (mapping : WatchedMap) (one two : ℕ → ℕ) (place : ℕ) → nat_lt 0 (one place) ≡ nat_lt 0 (two place)
-    → is_heard_at mapping one place ≡ is_heard_at mapping two place
-heard_at_same mapping one two place same =
-    ap (λ b. unwrap_or (option_map (λ (entry : MapLine). entry.optional || b) (slice_get mapping.lines place)) true) same
-
--- so is the status
 pub end_status_is : (state : WatchState) (lines : List (List ℕ)) (findings : List Found) → Watched state lines findings → end_status state ≡ watch_status state.mapping (findings_of findings)
 end_status_is state lines findings w =
-    let mapping : WatchedMap = state.mapping in
-    let counts_in : ℕ → ℕ = λ place. count_of (is_accepted_at place) (findings_of findings) in
-    let failed : nat_lt 0 state.counts.failed ≡ nat_lt 0 (count_of is_failed_tally (findings_of findings)) =
-    ap (λ (counts : WatchCounts). nat_lt 0 counts.failed) w.counts_are ∙ some_in_64_bits (count_of is_failed_tally (findings_of findings)) in
-    let at : (place : ℕ) → place < length mapping.lines → is_heard_at mapping (slice_index state.accepted) place ≡ is_heard_at mapping counts_in place =
-    λ place inside. heard_at_same mapping (slice_index state.accepted) counts_in place
-    (ap (nat_lt 0) (w.accepted_are place inside) ∙ some_in_64_bits (counts_in place)) in
-    let heard : are_heard mapping (slice_index state.accepted) ≡ are_heard mapping counts_in =
-    ap (λ b. b && nat_lt 0 (length mapping.lines))
-    (sym (list_all-map (λ (b : Bool). b) (is_heard_at mapping (slice_index state.accepted)) (map_places mapping))
-    ∙ ap (list_all (λ (b : Bool). b)) (places_same (is_heard_at mapping (slice_index state.accepted)) (is_heard_at mapping counts_in) 0 (length mapping.lines) (length mapping.lines) (omega arith) at)
-    ∙ list_all-map (λ (b : Bool). b) (is_heard_at mapping counts_in) (map_places mapping)) in
-    ap (λ b. if b then 1 else if are_heard mapping (slice_index state.accepted) then 0 else 3) failed
-    ∙ ap (λ b. if nat_lt 0 (count_of is_failed_tally (findings_of findings)) then 1 else if b then 0 else 3) heard
+    ap (λ (counts : WatchCounts). status_of state.mapping (totals_in state) counts) w.counts_are
+    ∙ status_same state.mapping (totals_in state) (totals_of state.mapping (findings_of findings)) (totals_are state lines findings w) (counts_of (findings_of findings))

@@ -5,6 +5,7 @@ pub mod TotalVectors
 pub mod StampVectors
 pub mod Stamping
 pub mod WordSizes
+pub mod Reading
 pub mod Going
 pub mod WatchRising
 pub mod OneWatch

@@ -26,3 +26,8 @@ pub six_parts : (o a b c d e f t1 t2 t3 t4 t5 t6 : List ℕ) → t1 ≡ o ++ a �
     → t6 ≡ o ++ (((((a ++ b) ++ c) ++ d) ++ e) ++ f)
 six_parts o a b c d e f t1 t2 t3 t4 t5 t6 p q r s t u =
     u ∙ ap (λ (x : List ℕ). x ++ f) (five_parts o a b c d e t1 t2 t3 t4 t5 p q r s t) ∙ append_assoc o ((((a ++ b) ++ c) ++ d) ++ e) f
+
+pub seven_parts : (o a b c d e f g t1 t2 t3 t4 t5 t6 t7 : List ℕ) → t1 ≡ o ++ a → t2 ≡ t1 ++ b → t3 ≡ t2 ++ c → t4 ≡ t3 ++ d → t5 ≡ t4 ++ e → t6 ≡ t5 ++ f → t7 ≡ t6 ++ g
+    → t7 ≡ o ++ ((((((a ++ b) ++ c) ++ d) ++ e) ++ f) ++ g)
+seven_parts o a b c d e f g t1 t2 t3 t4 t5 t6 t7 p q r s t u v =
+    v ∙ ap (λ (x : List ℕ). x ++ g) (six_parts o a b c d e f t1 t2 t3 t4 t5 t6 p q r s t u) ∙ append_assoc o (((((a ++ b) ++ c) ++ d) ++ e) ++ f) g

@@ -2,10 +2,11 @@
 use Rattle.std.proofs.Common.{◌≡◌, Bool, true, false, [], ◌∷◌, refl}
 use Rattle.std.specs.Prelude.{codes}
 use Rattle.watch_commands.specs.declared.options.WatchOptions.{WatchOptions}
+use Rattle.watch_commands.specs.Limits.{no_limits}
 use Rattle.watch_commands.specs.Stamps.{LineStamp, stamp_of, is_plain_ascii, escaped, lead_text}
 
 options : Bool → Bool → WatchOptions
-options json time = record { quiet = false; json = json; time = time }
+options json time = record { quiet = false; json = json; time = time; strict = false; limits = no_limits }
 
 stamp : LineStamp
 stamp = stamp_of (codes "(1.5)" ∷ codes "can0" ∷ codes "123#00" ∷ [])
@@ -29,7 +30,7 @@ in_words : lead_text (options false true) stamp ≡ codes "(1.5) can0 "
 unfolding options stamp
 in_words = refl
 
-in_an_object : lead_text (options true true) stamp ≡ codes "{\"time\":\"1.5\",\"channel\":\"can0\","
+in_an_object : lead_text (options true true) stamp ≡ codes "{\"kind\":\"frame\",\"time\":\"1.5\",\"channel\":\"can0\","
 unfolding options stamp
 in_an_object = refl
 
@@ -37,6 +38,6 @@ not_asked_for : lead_text (options false false) stamp ≡ []
 unfolding options stamp
 not_asked_for = refl
 
-no_parentheses : lead_text (options true true) (stamp_of (codes "()" ∷ codes "c" ∷ [])) ≡ codes "{\"time\":\"\",\"channel\":\"c\","
+no_parentheses : lead_text (options true true) (stamp_of (codes "()" ∷ codes "c" ∷ [])) ≡ codes "{\"kind\":\"frame\",\"time\":\"\",\"channel\":\"c\","
 unfolding options
 no_parentheses = refl

@@ -1,11 +1,12 @@
 -- The definitions of what stands behind the answers of a log, tried on written-out maps and lines
-use Rattle.std.proofs.Common.{◌≡◌, Bool, true, false, List, [], ◌∷◌, refl}
-use Rattle.std.specs.Prelude.{codes, None}
+use Rattle.std.proofs.Common.{◌≡◌, ℕ, Bool, true, false, List, [], ◌∷◌, refl}
+use Rattle.std.specs.Prelude.{codes, Option, None, Some}
 use Rattle.secured_pdu.specs.Verdict.{Accepted, VerificationFailure}
 use Rattle.can_logs.specs.declared.map_lines.MapLine.{MapLine}
 use Rattle.can_logs.specs.declared.frames.OtherLine.TheVariants as kind
 use Rattle.can_logs.specs.Frames.{unheard_kind, is_dataless_word}
 use Rattle.watch_commands.specs.declared.options.WatchOptions.{WatchOptions}
+use Rattle.watch_commands.specs.Limits.{no_limits, share_of}
 use Rattle.watch_commands.specs.WatchedMaps.{WatchedMap}
 use Rattle.can_logs.specs.Findings.{Finding, other, too_short, verdict}
 use Rattle.watch_commands.specs.WatchTotals.{totals_of, counts_of, watch_status}
@@ -56,7 +57,7 @@ entry optional = record {
 
 -- two lines, at 3 and 5 of the map's text
 no_options : WatchOptions
-no_options = record { quiet = false; json = false; time = false }
+no_options = record { quiet = false; json = false; time = false; strict = false; limits = no_limits }
 
 mapping : Bool → Bool → WatchedMap
 mapping first second = record { lines = entry first ∷ entry second ∷ []; numbers = 3 ∷ 5 ∷ []; options = no_options }
@@ -67,12 +68,12 @@ found =
     verdict 1 0 (codes "123") (Accepted [] 12) ∷ other kind.OtherFrame ∷ verdict 3 0 (codes "123") VerificationFailure
     ∷ too_short 4 1 (codes "123") ∷ verdict 5 0 (codes "123") (Accepted [] 15) ∷ []
 
-the_last_freshness : (totals_of (mapping false false) found).last 0 ≡ 15
-unfolding mapping found entry
+the_last_freshness : (totals_of (mapping false false) found 0).last ≡ 15
+unfolding mapping found entry no_options
 the_last_freshness = refl
 
-none_for_the_second : (totals_of (mapping false false) found).last 1 ≡ 10
-unfolding mapping found entry
+none_for_the_second : (totals_of (mapping false false) found 1).last ≡ 10
+unfolding mapping found entry no_options
 none_for_the_second = refl
 
 the_five_numbers : counts_of found ≡ record { accepted = 2; failed = 2; unmapped = 0; other_frames = 1; malformed = 0 }
@@ -85,16 +86,55 @@ accepted : Finding
 accepted = verdict 1 0 (codes "123") (Accepted [] 12)
 
 a_silent_line : watch_status (mapping false false) (accepted ∷ []) ≡ 3
-unfolding mapping accepted entry
+unfolding mapping accepted entry no_options
 a_silent_line = refl
 
 an_optional_line : watch_status (mapping false true) (accepted ∷ []) ≡ 0
-unfolding mapping accepted entry
+unfolding mapping accepted entry no_options
 an_optional_line = refl
 
 a_failure_comes_first : watch_status (mapping false false) found ≡ 1
-unfolding mapping found entry
+unfolding mapping found entry no_options
 a_failure_comes_first = refl
 
 no_lines : watch_status (record { lines = []; numbers = []; options = no_options }) [] ≡ 3
 no_lines = refl
+
+-- ---- limits
+
+-- freshness 11, 13 and 14 were missed
+strictly : Option ℕ → Option ℕ → WatchedMap
+strictly missed share = record (mapping false true) {
+  options = record no_options { strict = true; limits = record no_limits { missed = missed; missed_share = share } };
+}
+
+good : List Finding
+good = accepted ∷ verdict 5 0 (codes "123") (Accepted [] 15) ∷ []
+
+missed_by_three : watch_status (strictly (Some 3) None) good ≡ 0
+unfolding strictly mapping good accepted entry no_options
+missed_by_three = refl
+
+more_than_two : watch_status (strictly (Some 2) None) good ≡ 3
+unfolding strictly mapping good accepted entry no_options
+more_than_two = refl
+
+strict_without_a_limit : watch_status (strictly None None) good ≡ 3
+unfolding strictly mapping good accepted entry no_options
+strict_without_a_limit = refl
+
+-- three of five
+at_60_percent : watch_status (strictly None (Some 60)) good ≡ 0
+unfolding strictly mapping good accepted entry no_options
+at_60_percent = refl
+
+at_59_percent : watch_status (strictly None (Some 59)) good ≡ 3
+unfolding strictly mapping good accepted entry no_options
+at_59_percent = refl
+
+a_malformed_line : watch_status (strictly (Some 3) None) (other kind.Malformed ∷ good) ≡ 3
+unfolding strictly mapping good accepted entry no_options
+a_malformed_line = refl
+
+shares_are_rounded_up : (share_of 1 3 ≡ 34) × (share_of 0 0 ≡ 0) × (share_of 1 1000 ≡ 1)
+shares_are_rounded_up = (refl, refl, refl)

@@ -1,9 +1,8 @@
 -- What a run that ends so promises
-use Rattle.std.proofs.Common.{◌≡◌, ◌⊎◌, ℕ, ◌<◌, ◌≤◌, Bool, true, false, List, [], ◌∷◌, length, drop, inl, inr, refl, sym, ◌∙◌, ap, subst, arith}
-use Rattle.std.specs.Prelude.{None, Some, Ok, Err, if◌then◌else◌, nat_lt, ◌==◌, is_some}
+use Rattle.std.proofs.Common.{◌≡◌, ◌⊎◌, ℕ, ◌<◌, ◌≤◌, Bool, true, false, List, [], ◌∷◌, length, inl, inr, refl, sym, ◌∙◌, ap, subst, arith}
+use Rattle.std.specs.Prelude.{None, Some, Ok, Err, if◌then◌else◌, nat_lt, ◌==◌, ◌&&◌}
 use Rattle.std.proofs.lemmas.Bool.Decides.{nat_tests}
 use Rattle.std.proofs.lemmas.Option.{same_Some}
-use Rattle.std.proofs.lemmas.List.{length-drop}
 use Rattle.bus_port.specs.Fault.{last_count}
 use Rattle.bus_port.specs.Source.{SourceState, Came}
 use Rattle.bus_port.specs.Sink.{SinkState}
@@ -19,12 +18,13 @@ use Rattle.can_logs.specs.declared.map_lines.MapLine.{MapLine}
 use Rattle.can_logs.specs.Findings.{Finding}
 use Rattle.can_logs.specs.LogRuns.{LogInputs, IsWatchMapFault, IsUnwritten, WritesWhole, WatchEnding, on_output, on_errors, log_failed_text, log_too_long_text, IsAnswer}
 use Rattle.can_logs.specs.MapFaults.{map_fault_text, map_input_text}
-use Rattle.watch_commands.specs.OptionWords.{flags_before, behind_flags, kept_first, behind_kept, watch_inputs}
+use Rattle.watch_commands.specs.Limits.{limits_in}
+use Rattle.watch_commands.proofs.Reading.{few_inputs}
 use Rattle.watch_commands.specs.Words.{watch_usage, AsksWatch, text_asked}
 use Rattle.watch_commands.specs.WatchedMaps.{WatchedMap}
 use Rattle.can_logs.specs.WatchMaps.{watch_map_of}
 use Rattle.watch_commands.specs.Watching.{findings_of}
-use Rattle.watch_commands.specs.WatchTotals.{is_failed_tally, is_accepted_at, count_of, are_heard, watch_status}
+use Rattle.watch_commands.specs.WatchTotals.{counts_of, totals_of, all_pass, log_passes, watch_status}
 use Rattle.watch_commands.specs.WatchRows.{ReadsWatchMap, ComesOfLog, done, FailsOfLog, failed, too_long, Stops, FailsBoth, OverMap, ComesOnOutput, asked, of_log, ComesOnErrors, no_form, no_map, map_fault, no_log, EndsWatch}
 use Rattle.watch_commands.specs.Watches.{AnswersLog, HoldsNothingBack, Watches}
 use Rattle.watch_commands.proofs.PrintedRise.{rises}
@@ -39,7 +39,8 @@ two_tests false false = inr (inr refl)
 
 status_answers : (mapping : WatchedMap) (findings : List Finding) → IsAnswer (watch_status mapping findings)
 status_answers mapping findings =
-    two_tests (nat_lt 0 (count_of is_failed_tally findings)) (are_heard mapping (λ place. count_of (is_accepted_at place) findings))
+    two_tests (nat_lt 0 (counts_of findings).failed)
+    (all_pass mapping (totals_of mapping findings) && log_passes (limits_in mapping.options) (counts_of findings))
 
 answer_few : (status : ℕ) → IsAnswer status → (status ≤ 3) × (¬ (status ≡ 2))
 answer_few status (inl zero) = (omega (arith, zero), λ two. omega (arith, zero, two))
@@ -53,15 +54,6 @@ above_3 status above = λ is. omega (arith, above, (answer_few status is).0)
 -- ---- words
 
 -- words that ask for a watch ask for no text
-few_behind : (b : Bool) (words : List (List ℕ)) → length (if b then drop 2 words else words) ≤ length words
-few_behind true words = omega (arith, length-drop 2 words)
-few_behind false words = omega arith
-
-few_inputs : (words : List (List ℕ)) → length (watch_inputs words) ≤ length words
-few_inputs words =
-    let behind : List (List ℕ) = behind_flags words in
-    omega (arith, length-drop (flags_before words) words, few_behind (is_some (kept_first behind)) behind, length-drop (flags_before (behind_kept behind)) (behind_kept behind))
-
 pub asks_no_text : (words : List (List ℕ)) (text : List ℕ) → AsksWatch words → text_asked words ≡ Some text → ⊥
 asks_no_text [] text asks is = omega (arith, asks, few_inputs [])
 asks_no_text (word ∷ []) text asks is = omega (arith, asks, few_inputs (word ∷ []))

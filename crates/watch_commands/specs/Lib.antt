@@ -1,3 +1,4 @@
+pub mod Limits
 pub mod OptionWords
 pub mod WatchedMaps
 pub mod Words

@@ -29,18 +29,19 @@ escaped_byte byte = if is_plain_ascii byte then byte ∷ [] else codes "\\u00" +
 abbrev pub escaped : List ℕ → List ℕ
 escaped bytes = flat_map escaped_byte bytes
 
--- both with a space after them; and as the first two members of an object of JSON
+-- both with a space after them; and as members of an object of JSON, behind its kind
 abbrev pub stamp_words : LineStamp → List ℕ
 stamp_words stamp = stamp.time ++ codes " " ++ stamp.channel ++ codes " "
 
 abbrev pub stamp_object : LineStamp → List ℕ
 stamp_object stamp =
-    codes "{\"time\":\"" ++ escaped (within_ends stamp.time)
+    codes "{\"kind\":\"frame\",\"time\":\"" ++ escaped (within_ends stamp.time)
     ++ codes "\",\"channel\":\"" ++ escaped stamp.channel ++ codes "\","
 
--- what stands before an answer: the time and the channel if they are asked for, and of an object its bracket
+-- what stands before an answer: the time and the channel if they are asked for, and of an object its
+-- bracket and kind
 abbrev pub lead_text : WatchOptions → LineStamp → List ℕ
 lead_text options stamp =
     if options.time then (if options.json then stamp_object stamp else stamp_words stamp)
-    else if options.json then codes "{"
+    else if options.json then codes "{\"kind\":\"frame\","
     else []

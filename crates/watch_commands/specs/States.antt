@@ -1,5 +1,5 @@
 -- The state between two lines of a log, what the steps say to one another, and what the driver of a log is told
-use Rattle.std.specs.Prelude.{◌≡◌, ℕ, ◌<◌, nat_lt, Bool, if◌then◌else◌, List, [], ◌∷◌, ◌++◌, length, map, set, replicate}
+use Rattle.std.specs.Prelude.{◌≡◌, ℕ, ◌<◌, Bool, if◌then◌else◌, List, [], ◌∷◌, ◌++◌, length, map, set, replicate}
 use Rattle.std.specs.Prelude.{slice_index, Option, None, Some, Result, Ok, Err, IfErr}
 use Rattle.bus_port.specs.Fault.{counted}
 use Rattle.bus_port.specs.Sink.{SinkState}
@@ -7,12 +7,13 @@ use Rattle.program_edge.specs.Told.{EndingTold}
 use Rattle.can_logs.specs.declared.findings.FrameTally.{FrameTally}
 use Rattle.can_logs.specs.declared.findings.FrameTally.TheVariants as tally
 use Rattle.watch_commands.specs.declared.counts.WatchCounts.{WatchCounts}
+use Rattle.watch_commands.specs.declared.counts.LineCounts.{LineCounts}
 use Rattle.secoc_words.specs.Counting.{last_accepted}
 use Rattle.watch_commands.specs.WatchedMaps.{WatchedMap}
 use Rattle.can_logs.specs.Findings.{Finding, tally_of, finding_accepts, first_counters, counter_of_place, is_accepted_tally}
 use Rattle.line_stream.specs.Pieces.{PutsPiece}
 use Rattle.watch_commands.specs.Watching.{Found, stamped, findings_of, WatchesLine, WatchesEach, found_text}
-use Rattle.watch_commands.specs.WatchTotals.{counted_of, counts_of, is_failed_tally, is_accepted_at, is_failed_at, is_other_of, is_unmapped_line, is_other_frame, is_malformed_line, LineTotals, totals_text_of, are_heard}
+use Rattle.watch_commands.specs.WatchTotals.{counted_of, counts_of, is_failed_tally, is_accepted_at, is_failed_at, is_other_of, is_unmapped_line, is_other_frame, is_malformed_line, totals_text_of, status_of}
 
 -- the map; for each of its lines the counter, how many frames it accepted, and how many it didn't; the numbers of the
 -- log so far; what was found of the last lines, as it is printed
@@ -124,11 +125,12 @@ pub record WatchesNext (old : WatchState) (number : ℕ) (line : List ℕ) (new 
   }
 
 -- what a state has of the lines of its map
-abbrev pub totals_in : WatchState → LineTotals
-totals_in state = record {
-  accepted = slice_index state.accepted;
-  failed = slice_index state.failed;
-  last = slice_index state.counters;
+abbrev pub totals_in : WatchState → ℕ → LineCounts
+totals_in state place = record {
+  number = slice_index state.mapping.numbers place;
+  accepted = slice_index state.accepted place;
+  failed = slice_index state.failed place;
+  last = slice_index state.counters place;
 }
 
 -- the text and the status at the end of a log, of a state
@@ -136,10 +138,7 @@ abbrev pub end_text : WatchState → List ℕ
 end_text state = totals_text_of state.mapping (totals_in state) state.counts
 
 abbrev pub end_status : WatchState → ℕ
-end_status state =
-    if nat_lt 0 state.counts.failed then 1
-    else if are_heard state.mapping (slice_index state.accepted) then 0
-    else 3
+end_status state = status_of state.mapping (totals_in state) state.counts
 
 -- ---- over a sink
 

@@ -1,5 +1,5 @@
 -- The numbers at the end of a log: those of each line of the map, and those of the whole log
-use Rattle.std.specs.Prelude.{ℕ, ◌-◌, ◌==◌, ◌&&◌, ◌||◌, nat_lt, Bool, true, false, if◌then◌else◌, List, [], ◌++◌, length, filter, slice_index, codes, option_map, unwrap_or}
+use Rattle.std.specs.Prelude.{ℕ, ◌-◌, ◌==◌, ◌&&◌, ◌||◌, nat_lt, Bool, true, false, if◌then◌else◌, List, [], ◌++◌, length, filter, slice_index, codes, Option, None, Some, option_map, unwrap_or}
 use Rattle.std.specs.List.{flat_map, list_all, range_with_len, slice_get}
 use Rattle.std.specs.Fmt.{decimal}
 use Rattle.basics.specs.Numbers.{bytes_of}
@@ -11,6 +11,10 @@ use Rattle.can_logs.specs.declared.frames.OtherLine.TheVariants as kind
 use Rattle.can_logs.specs.declared.findings.FrameTally.{FrameTally}
 use Rattle.can_logs.specs.declared.findings.FrameTally.TheVariants as tally
 use Rattle.watch_commands.specs.declared.counts.WatchCounts.{WatchCounts}
+use Rattle.watch_commands.specs.declared.counts.LineCounts.{LineCounts}
+use Rattle.watch_commands.specs.declared.limits.Limits.{Limits}
+use Rattle.watch_commands.specs.declared.options.WatchOptions.{WatchOptions}
+use Rattle.watch_commands.specs.Limits.{limit_over, is_within, share_of, limits_in}
 use Rattle.can_logs.specs.MapLines.{row_head}
 use Rattle.line_stream.specs.Pieces.{in_64_bits}
 use Rattle.watch_commands.specs.WatchedMaps.{WatchedMap}
@@ -92,18 +96,23 @@ count_text json object words number =
 -- a line for each of the five numbers, or an object
 abbrev pub counts_text : Bool → WatchCounts → List ℕ
 counts_text json counts =
-    count_text json (codes "{\"accepted\":") (codes "accepted ") counts.accepted
+    before_value json (codes "{\"kind\":\"log\"") []
+    ++ count_text json (codes ",\"accepted\":") (codes "accepted ") counts.accepted
     ++ count_text json (codes ",\"failed\":") (codes "failed ") counts.failed
     ++ count_text json (codes ",\"unmapped\":") (codes "unmapped ") counts.unmapped
-    ++ count_text json (codes ",\"other frames\":") (codes "other frames ") counts.other_frames
+    ++ count_text json (codes ",\"other_frames\":") (codes "other frames ") counts.other_frames
     ++ count_text json (codes ",\"malformed\":") (codes "malformed ") counts.malformed
     ++ before_value json (line (codes "}")) []
 
--- the number of a line of the map, its name or else its CAN identifier, and its Data ID
+-- the CAN identifier of a line of the map, in an object
+abbrev pub can_text : Bool → MapLine → List ℕ
+can_text json entry = if json then codes "\",\"can\":\"" ++ entry.can else []
+
+-- the number of a line of the map, its name or else its CAN identifier, that identifier in an object, and its Data ID
 abbrev pub line_head : Bool → ℕ → MapLine → List ℕ
 line_head json number entry =
-    named (before_value json (codes "{\"line\":") (codes "line ")) number
-    ++ before_value json (codes ",\"name\":\"") (codes " ") ++ row_head entry
+    named (before_value json (codes "\"line\":") (codes "line ")) number
+    ++ before_value json (codes ",\"name\":\"") (codes " ") ++ row_head entry ++ can_text json entry
     ++ before_value json (codes "\",\"id\":\"") (codes " ") ++ encode_lower (bytes_of 2 entry.id)
 
 -- the freshness that was accepted last, as FRESH of a map
@@ -112,44 +121,91 @@ last_text json last =
     before_value json (codes ",\"last\":\"") (codes " last ") ++ encode_lower (bytes_of 8 last)
     ++ before_value json (line (codes "\"}")) (line [])
 
--- the numbers of a line of the map: how many frames it accepted, how many it didn't, how many values of freshness above
--- the map's and up to the last one weren't accepted, and that last one
-abbrev pub total_line : Bool → ℕ → ℕ → ℕ → ℕ → MapLine → List ℕ
-total_line json number accepted failed last entry =
-    line_head json number entry ++ named (before_value json (codes "\",\"accepted\":") (codes " accepted ")) accepted
-    ++ named (before_value json (codes ",\"failed\":") (codes " failed ")) failed
-    ++ named (before_value json (codes ",\"missed\":") (codes " missed ")) (last - entry.counter - accepted)
-    ++ last_text json last
+-- how many values of freshness above the map's and up to the last one a line of the map has, how many of them weren't
+-- accepted, and their share in percent
+abbrev pub values_of : MapLine → LineCounts → ℕ
+values_of entry counts = counts.last - entry.counter
 
--- what is known of the lines of a map, by their places: how many frames each accepted, how many it didn't, and the
--- freshness that it accepted last
-pub record LineTotals : Type 0 where
-  pub accepted : ℕ → ℕ
-  pub failed : ℕ → ℕ
-  pub last : ℕ → ℕ
+abbrev pub missed_of : MapLine → LineCounts → ℕ
+missed_of entry counts = values_of entry counts - counts.accepted
 
--- the numbers of the line at a place
-abbrev pub total_line_at : WatchedMap → LineTotals → ℕ → List ℕ
-total_line_at mapping totals place = unwrap_or (option_map
-    (total_line mapping.options.json (slice_index mapping.numbers place) (totals.accepted place) (totals.failed place)
-    (totals.last place))
-    (slice_get mapping.lines place)) []
+abbrev pub missed_share_of : MapLine → LineCounts → ℕ
+missed_share_of entry counts = share_of (missed_of entry counts) (values_of entry counts)
+
+-- the numbers of a line of the map: how many frames it accepted, how many it didn't, how many values of freshness it
+-- missed, and the one that it accepted last
+abbrev pub total_line : Bool → LineCounts → MapLine → List ℕ
+total_line json counts entry =
+    before_value json (codes "{\"kind\":\"line\",") [] ++ line_head json counts.number entry
+    ++ named (before_value json (codes "\",\"accepted\":") (codes " accepted ")) counts.accepted
+    ++ named (before_value json (codes ",\"failed\":") (codes " failed ")) counts.failed
+    ++ named (before_value json (codes ",\"missed\":") (codes " missed ")) (missed_of entry counts)
+    ++ last_text json counts.last
+
+-- the numbers of the line at a place; `totals` has those of each line by its place
+abbrev pub total_line_at : WatchedMap → (ℕ → LineCounts) → ℕ → List ℕ
+total_line_at mapping totals place =
+    unwrap_or (option_map (total_line mapping.options.json (totals place)) (slice_get mapping.lines place)) []
 
 -- the places of the lines of a map, in their order
 abbrev pub map_places : WatchedMap → List ℕ
 map_places mapping = range_with_len 0 (length mapping.lines)
 
--- a line for each line of the map, and one for each of the five numbers
-abbrev pub totals_text_of : WatchedMap → LineTotals → WatchCounts → List ℕ
+-- ---- what is more than it may be
+
+-- the name, the number and the limit of what is more than it may be
+abbrev pub over_end : Bool → List ℕ → ℕ → ℕ → List ℕ
+over_end json name number most =
+    before_value json (codes "\"what\":\"") [] ++ name
+    ++ named (before_value json (codes "\",\"number\":") (codes " ")) number
+    ++ named (before_value json (codes ",\"limit\":") (codes " limit ")) most
+    ++ before_value json (line (codes "}")) (line [])
+
+-- a line for it, behind what it is a number of; none if it is within its limit
+abbrev pub over_text : Bool → List ℕ → List ℕ → ℕ → Option ℕ → List ℕ
+over_text json head name number None = []
+over_text json head name number (Some most) =
+    before_value json (codes "{\"kind\":\"over\",") (codes "over ") ++ head ++ over_end json name number most
+
+-- what stands before a number of a line of the map
+abbrev pub over_head : Bool → ℕ → MapLine → List ℕ
+over_head json number entry = line_head json number entry ++ before_value json (codes "\",") (codes " ")
+
+-- what is more than it may be of a line of the map: the values that it missed, and their share
+abbrev pub line_over : WatchOptions → LineCounts → MapLine → List ℕ
+line_over options counts entry =
+    over_text options.json (over_head options.json counts.number entry) (codes "missed") (missed_of entry counts)
+    (limit_over (limits_in options).missed (missed_of entry counts))
+    ++ over_text options.json (over_head options.json counts.number entry) (codes "missed-share")
+    (missed_share_of entry counts) (limit_over (limits_in options).missed_share (missed_share_of entry counts))
+
+abbrev pub line_over_at : WatchedMap → (ℕ → LineCounts) → ℕ → List ℕ
+line_over_at mapping totals place =
+    unwrap_or (option_map (line_over mapping.options (totals place)) (slice_get mapping.lines place)) []
+
+-- and of the whole log: malformed lines, and data frames that no line of the map hears
+abbrev pub log_over : WatchOptions → WatchCounts → List ℕ
+log_over options counts =
+    over_text options.json [] (codes "malformed") counts.malformed
+    (limit_over (limits_in options).malformed counts.malformed)
+    ++ over_text options.json [] (codes "unmapped") counts.unmapped
+    (limit_over (limits_in options).unmapped counts.unmapped)
+
+-- ---- the end of a log
+
+-- a line for each line of the map, the five numbers, and a line for each number that is more than it may be
+abbrev pub totals_text_of : WatchedMap → (ℕ → LineCounts) → WatchCounts → List ℕ
 totals_text_of mapping totals counts =
     flat_map (total_line_at mapping totals) (map_places mapping) ++ counts_text mapping.options.json counts
+    ++ flat_map (line_over_at mapping totals) (map_places mapping) ++ log_over mapping.options counts
 
 -- the totals of what was found
-abbrev pub totals_of : WatchedMap → List Finding → LineTotals
-totals_of mapping findings = record {
-  accepted = λ place. counted_of (is_accepted_at place) findings;
-  failed = λ place. counted_of (is_failed_at place) findings;
-  last = counter_of_place mapping.lines findings;
+abbrev pub totals_of : WatchedMap → List Finding → ℕ → LineCounts
+totals_of mapping findings place = record {
+  number = slice_index mapping.numbers place;
+  accepted = counted_of (is_accepted_at place) findings;
+  failed = counted_of (is_failed_at place) findings;
+  last = counter_of_place mapping.lines findings place;
 }
 
 abbrev pub totals_text : WatchedMap → List Finding → List ℕ
@@ -157,23 +213,35 @@ totals_text mapping findings = totals_text_of mapping (totals_of mapping finding
 
 -- ---- the status at the end of a log
 
--- a line of the map is optional, or one frame at least was accepted for it
+-- a line of the map is optional, or one frame at least was accepted for it; and it is within its limits
 abbrev pub is_heard : ℕ → MapLine → Bool
 is_heard accepted entry = entry.optional || nat_lt 0 accepted
 
-abbrev pub is_heard_at : WatchedMap → (ℕ → ℕ) → ℕ → Bool
-is_heard_at mapping accepted place =
-    unwrap_or (option_map (is_heard (accepted place)) (slice_get mapping.lines place)) true
+abbrev pub does_pass : Limits → LineCounts → MapLine → Bool
+does_pass limits counts entry =
+    is_heard counts.accepted entry && is_within limits.missed (missed_of entry counts)
+    && is_within limits.missed_share (missed_share_of entry counts)
 
--- a map has lines, and each of them is heard
-abbrev pub are_heard : WatchedMap → (ℕ → ℕ) → Bool
-are_heard mapping accepted =
-    list_all (is_heard_at mapping accepted) (map_places mapping) && nat_lt 0 (length mapping.lines)
+abbrev pub passes_at : WatchedMap → (ℕ → LineCounts) → ℕ → Bool
+passes_at mapping totals place =
+    unwrap_or (option_map (does_pass (limits_in mapping.options) (totals place)) (slice_get mapping.lines place)) true
 
--- 1 if a mapped frame wasn't accepted; else 3 if a line of the map that isn't optional accepted none, or the map has no
--- line; else 0
-abbrev pub watch_status : WatchedMap → List Finding → ℕ
-watch_status mapping findings =
-    if nat_lt 0 (count_of is_failed_tally findings) then 1
-    else if are_heard mapping (λ place. count_of (is_accepted_at place) findings) then 0
+-- a map has lines, and each of them passes
+abbrev pub all_pass : WatchedMap → (ℕ → LineCounts) → Bool
+all_pass mapping totals = list_all (passes_at mapping totals) (map_places mapping) && nat_lt 0 (length mapping.lines)
+
+-- the whole log is within its limits
+abbrev pub log_passes : Limits → WatchCounts → Bool
+log_passes limits counts =
+    is_within limits.malformed counts.malformed && is_within limits.unmapped counts.unmapped
+
+-- 1 if a mapped frame wasn't accepted; else 3 if a line of the map that isn't optional accepted none, the map has no
+-- line, or a number is more than it may be; else 0
+abbrev pub status_of : WatchedMap → (ℕ → LineCounts) → WatchCounts → ℕ
+status_of mapping totals counts =
+    if nat_lt 0 counts.failed then 1
+    else if all_pass mapping totals && log_passes (limits_in mapping.options) counts then 0
     else 3
+
+abbrev pub watch_status : WatchedMap → List Finding → ℕ
+watch_status mapping findings = status_of mapping (totals_of mapping findings) (counts_of findings)

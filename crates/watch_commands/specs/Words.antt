@@ -7,7 +7,7 @@ use Rattle.watch_commands.specs.declared.run.TheConstants.{HELP, VERSION}
 
 -- the line that is printed if the words are of no form
 abbrev pub watch_usage : List ℕ
-watch_usage = line (codes "usage: watch [--quiet] [--json] [--time] [--expect FILE] MAP LOG")
+watch_usage = line (codes "usage: watch [--quiet] [--json] [--time] [--strict] [LIMIT..] [--expect FILE] MAP LOG")
 
 -- two words ask for the watch of the map and the log that they name
 abbrev pub AsksWatch : List (List ℕ) → Type 0

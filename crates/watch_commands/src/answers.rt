@@ -12,7 +12,7 @@ use can_logs::FrameTally;
 use itoa::Buffer;
 use line_stream::add_bytes;
 
-/// Adds what is printed of the answer to the line with this number of the log, in room for 320 bytes, and for 6 bytes
+/// Adds what is printed of the answer to the line with this number of the log, in room for 368 bytes, and for 6 bytes
 /// for each byte of the line's stamp. The answer is empty if no line of the map judged it. It takes no memory.
 pub fn add_answer(
     text: &mut Vec<u8>,
@@ -22,14 +22,14 @@ pub fn add_answer(
     stamp: &Stamp<'_>,
     answer: &[u8],
 )
-    requires room { vec_len text.old + 320 + 6 * (length stamp.now.time + length stamp.now.channel)
+    requires room { vec_len text.old + 368 + 6 * (length stamp.now.time + length stamp.now.channel)
         ≤ vec_capacity text.old }
     requires answer { length answer.now ≤ 232 }
     requires answers { (finding : Finding) × IsAnswerIn map.now.lines number tally answer.now finding }
     ensures told { (finding : Finding) → IsAnswerIn map.now.lines number tally answer.now finding → text.new.items
         ≡ text.old.items ++ told_text map.now.options (record { finding = finding; stamp = stamp.now }) }
     ensures few { vec_len text.new
-        ≤ vec_len text.old + 320 + 6 * (length stamp.now.time + length stamp.now.channel) }
+        ≤ vec_len text.old + 368 + 6 * (length stamp.now.time + length stamp.now.channel) }
     ensures capacity { vec_capacity text.old ≤ vec_capacity text.new }
 {
     let Some(place) = judging_place(tally) else {
@@ -70,7 +70,7 @@ fn add_judged(
     stamp: &Stamp<'_>,
     answer: &[u8],
 )
-    requires room { vec_len text.old + 320 + 6 * (length stamp.now.time + length stamp.now.channel)
+    requires room { vec_len text.old + 368 + 6 * (length stamp.now.time + length stamp.now.channel)
         ≤ vec_capacity text.old }
     requires head { length head.now ≤ 32 }
     requires answer { length answer.now ≤ 232 }
@@ -78,7 +78,7 @@ fn add_judged(
     ensures told { (finding : Finding) → IsAnswerTo number head.now accepted answer.now finding → text.new.items
         ≡ text.old.items ++ told_text options (record { finding = finding; stamp = stamp.now }) }
     ensures few { vec_len text.new
-        ≤ vec_len text.old + 320 + 6 * (length stamp.now.time + length stamp.now.channel) }
+        ≤ vec_len text.old + 368 + 6 * (length stamp.now.time + length stamp.now.channel) }
     ensures capacity { vec_capacity text.old ≤ vec_capacity text.new }
 {
     if accepted && options.quiet {

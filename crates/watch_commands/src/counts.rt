@@ -3,8 +3,10 @@ ghost use Rattle.std.specs.Prelude.{◌≡◌, ◌≤◌, ◌+◌, ◌++◌, [],
 ghost use Rattle.hex.specs.Hex.{encode_lower};
 ghost use Rattle.watch_commands.specs.States.{counts_after};
 ghost use Rattle.watch_commands.specs.WatchTotals.{counts_of, named, before_value, count_text, counts_text};
-ghost use Rattle.watch_commands.specs.WatchTotals.{line_head, last_text, total_line};
+ghost use Rattle.watch_commands.specs.WatchTotals.{can_text, line_head, last_text, total_line};
+ghost use Rattle.watch_commands.specs.WatchTotals.{values_of, missed_of, missed_share_of, does_pass};
 
+use crate::limits::{Limits, is_within, share_of};
 use can_logs::{FrameTally, MapLine, OtherLine};
 use itoa::Buffer;
 use line_stream::add_bytes;
@@ -61,7 +63,7 @@ impl WatchCounts {
 }
 
 /// What stands before a value: in an object of JSON, or in a line of words.
-fn before_value(json: bool, object: &'static [u8], words: &'static [u8]) -> &'static [u8]
+pub fn before_value(json: bool, object: &'static [u8], words: &'static [u8]) -> &'static [u8]
     requires { length words.now ≤ length object.now }
     ensures text { result.now ≡ before_value json object.now words.now }
     ensures few { length result.now ≤ length object.now }
@@ -70,7 +72,7 @@ fn before_value(json: bool, object: &'static [u8], words: &'static [u8]) -> &'st
 }
 
 /// Adds a name of at most 16 bytes and a number, in room for 56 bytes. It takes no memory.
-fn add_number(text: &mut Vec<u8>, name: &[u8], number: u64)
+pub fn add_number(text: &mut Vec<u8>, name: &[u8], number: u64)
     requires name { length name.now ≤ 16 }
     requires room { vec_len text.old + 56 ≤ vec_capacity text.old }
     ensures number { text.new.items ≡ text.old.items ++ named name.now number }
@@ -114,19 +116,21 @@ fn add_count(
     }
 }
 
-/// Adds a line for each number of a log, or an object of them, in room for 287 bytes. It takes no memory.
+/// Adds a line for each number of a log, or an object of them, in room for 300 bytes. It takes no memory.
 pub fn add_counts(text: &mut Vec<u8>, json: bool, counts: &WatchCounts)
-    requires { vec_len text.old + 287 ≤ vec_capacity text.old }
+    requires { vec_len text.old + 300 ≤ vec_capacity text.old }
     ensures lines { text.new.items ≡ text.old.items ++ counts_text json counts.now }
+    ensures few { vec_len text.new ≤ vec_len text.old + 300 }
     ensures capacity { vec_capacity text.old ≤ vec_capacity text.new }
 {
-    add_count(text, json, b"{\"accepted\":", b"accepted ", counts.accepted);
+    add_bytes(text, before_value(json, b"{\"kind\":\"log\"", b""));
+    add_count(text, json, b",\"accepted\":", b"accepted ", counts.accepted);
     add_count(text, json, b",\"failed\":", b"failed ", counts.failed);
     add_count(text, json, b",\"unmapped\":", b"unmapped ", counts.unmapped);
     add_count(
         text,
         json,
-        b",\"other frames\":",
+        b",\"other_frames\":",
         b"other frames ",
         counts.other_frames,
     );
@@ -153,18 +157,46 @@ pub struct LineCounts {
     pub last: u64,
 }
 
-/// Adds these numbers of a line of a map, in room for 320 bytes. It takes no memory.
+impl LineCounts {
+    /// How many values of freshness above the map's and up to the last one it has.
+    fn values(&self, entry: &MapLine) -> u64
+        ensures { result ≡ values_of entry.now self.now }
+    {
+        self.last.saturating_sub(entry.counter)
+    }
+
+    /// How many of these it didn't accept.
+    pub fn missed(&self, entry: &MapLine) -> u64
+        ensures { result ≡ missed_of entry.now self.now }
+    {
+        self.values(entry).saturating_sub(self.accepted)
+    }
+
+    /// Their share in percent, rounded up.
+    pub fn missed_share(&self, entry: &MapLine) -> u64
+        ensures { result ≡ missed_share_of entry.now self.now }
+    {
+        share_of(self.missed(entry), self.values(entry))
+    }
+
+    /// Whether the line is optional or accepted a frame, and is within its limits.
+    pub fn does_pass(&self, entry: &MapLine, limits: &Limits) -> bool
+        ensures { result ≡ does_pass limits.now self.now entry.now }
+    {
+        (entry.optional || self.accepted > 0)
+            && is_within(limits.missed, self.missed(entry))
+            && is_within(limits.missed_share, self.missed_share(entry))
+    }
+}
+
+/// Adds these numbers of a line of a map, in room for 360 bytes. It takes no memory.
 pub fn add_line_counts(text: &mut Vec<u8>, json: bool, entry: &MapLine, counts: &LineCounts)
-    requires { vec_len text.old + 320 ≤ vec_capacity text.old }
-    ensures line { text.new.items ≡ text.old.items
-        ++ total_line json counts.now.number counts.now.accepted counts.now.failed counts.now.last entry.now }
-    ensures few { vec_len text.new ≤ vec_len text.old + 320 }
+    requires { vec_len text.old + 360 ≤ vec_capacity text.old }
+    ensures line { text.new.items ≡ text.old.items ++ total_line json counts.now entry.now }
+    ensures few { vec_len text.new ≤ vec_len text.old + 360 }
     ensures capacity { vec_capacity text.old ≤ vec_capacity text.new }
 {
-    let missed = counts
-        .last
-        .saturating_sub(entry.counter)
-        .saturating_sub(counts.accepted);
+    add_bytes(text, before_value(json, b"{\"kind\":\"line\",", b""));
     add_line_head(text, json, entry, counts.number);
     add_number(
         text,
@@ -179,7 +211,7 @@ pub fn add_line_counts(text: &mut Vec<u8>, json: bool, entry: &MapLine, counts: 
     add_number(
         text,
         before_value(json, b",\"missed\":", b" missed "),
-        missed,
+        counts.missed(entry),
     );
     add_last(text, json, counts.last);
 }
@@ -196,17 +228,31 @@ fn add_last(text: &mut Vec<u8>, json: bool, last: u64)
     add_bytes(text, before_value(json, b"\"}\n", b"\n"));
 }
 
-/// Adds the number of a line of a map, its name or CAN identifier, and its Data ID, in room for 121 bytes. It takes no
-/// memory.
-fn add_line_head(text: &mut Vec<u8>, json: bool, entry: &MapLine, number: u64)
-    requires { vec_len text.old + 121 ≤ vec_capacity text.old }
+/// Adds the number of a line of a map, its name or CAN identifier, in an object this identifier, and its Data ID, in
+/// room for 140 bytes. It takes no memory.
+pub fn add_line_head(text: &mut Vec<u8>, json: bool, entry: &MapLine, number: u64)
+    requires { vec_len text.old + 140 ≤ vec_capacity text.old }
     ensures head { text.new.items ≡ text.old.items ++ line_head json number entry.now }
-    ensures few { vec_len text.new ≤ vec_len text.old + 121 }
+    ensures few { vec_len text.new ≤ vec_len text.old + 140 }
     ensures capacity { vec_capacity text.old ≤ vec_capacity text.new }
 {
-    add_number(text, before_value(json, b"{\"line\":", b"line "), number);
+    add_number(text, before_value(json, b"\"line\":", b"line "), number);
     add_bytes(text, before_value(json, b",\"name\":\"", b" "));
     add_bytes(text, entry.head());
+    add_can(text, json, entry);
     add_bytes(text, before_value(json, b"\",\"id\":\"", b" "));
     add_digits(text, &entry.id.to_be_bytes());
+}
+
+/// Adds the CAN identifier of a line of a map, if the text is an object, in room for 17 bytes. It takes no memory.
+fn add_can(text: &mut Vec<u8>, json: bool, entry: &MapLine)
+    requires { vec_len text.old + 17 ≤ vec_capacity text.old }
+    ensures can { text.new.items ≡ text.old.items ++ can_text json entry.now }
+    ensures few { vec_len text.new ≤ vec_len text.old + 17 }
+    ensures capacity { vec_capacity text.old ≤ vec_capacity text.new }
+{
+    if json {
+        add_bytes(text, b"\",\"can\":\"");
+        add_bytes(text, entry.can.digits());
+    }
 }

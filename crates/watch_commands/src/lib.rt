@@ -11,7 +11,9 @@
 mod answers;
 mod counts;
 pub mod laws;
+mod limits;
 mod options;
+mod over;
 mod port;
 mod run;
 mod stamps;
@@ -19,6 +21,7 @@ mod start;
 mod state;
 mod task;
 
+pub use limits::Limits;
 pub use options::{WatchOptions, inputs_of, kept_file};
 pub use run::{prepare, run_watch};
 pub use start::watch_words;

@@ -21,7 +21,7 @@ impl<'a, K: Sink> LineTaker for WatchPort<'a, K> {
 
     ghost state = { λ port. record { watch = port.watch.now; sink = K.state port.sink.now } };
 
-    ghost ready = { λ port bytes feeds. length port.watch.now.text + 12 * bytes + 320 * feeds ≤ 1409356 };
+    ghost ready = { λ port bytes feeds. length port.watch.now.text + 12 * bytes + 368 * feeds ≤ 1606012 };
 
     ghost borrows = { λ port. port.watch.ghost_name ∷ port.sink.ghost_name ∷ [] };
 

@@ -18,22 +18,27 @@ use line_stream::{StreamFault, stream_lines};
 use program_edge::{DONE, Refusal, tell, tell_refusal};
 use std::alloc::{AllocError, Global};
 
-const USAGE: &str = "usage: watch [--quiet] [--json] [--time] [--expect FILE] MAP LOG\n";
+const USAGE: &str =
+    "usage: watch [--quiet] [--json] [--time] [--strict] [LIMIT..] [--expect FILE] MAP LOG\n";
 
 /// What is printed for `--help`.
-const HELP: &str = "usage: watch [--quiet] [--json] [--time] [--expect FILE] MAP LOG
+const HELP: &str =
+    "usage: watch [--quiet] [--json] [--time] [--strict] [LIMIT..] [--expect FILE] MAP LOG
 Says of each frame of LOG that MAP names whether its Secured I-PDU verifies (AUTOSAR SecOC, profile 1).
 LOG is a log of candump -L; - is standard input.
 --quiet leaves the answers to accepted frames out. --json prints an object of JSON a line.
 --time prints the time and the channel of the log before each answer.
+LIMIT is what a log may have at most: --missed N and --missed-share PERCENT of freshness for a line of MAP,
+--malformed N lines, --unmapped for no frame that MAP doesn't name. --strict is all of them, with 0.
 --expect compares the output with FILE and prints none: 0 if it is the same, else 1 and the line that differs.
 A line of MAP: CANID ID KEY FRESH LEN [WINDOW [CHANNEL]] [optional] [name=NAME] [# COMMENT]
 Status 0: each mapped frame was accepted, and one at least for each line of MAP that isn't optional.
-1: a mapped frame wasn't accepted. 3: a line of MAP accepted none. 2: usage. 4: MAP. 5, 8: input. 6: output. 7: memory.
+1: a mapped frame wasn't accepted. 3: a line of MAP accepted none, or a LIMIT is passed. 2: usage. 4: MAP.
+5, 8: input. 6: output. 7: memory.
 ";
 
 /// What is printed for `--version`.
-const VERSION: &str = "watch (Rathonsi) 0.19.0\n";
+const VERSION: &str = "watch (Rathonsi) 0.20.0\n";
 
 /// What is printed if the log fails.
 const LOG_FAILED: &str = "log: read fault\n";

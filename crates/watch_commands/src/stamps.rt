@@ -49,28 +49,28 @@ fn word_or_empty<'a>(words: &Words<'a>, number: usize) -> &'a [u8]
     words.word(number)
 }
 
-/// Adds what stands before an answer, in room for 24 bytes, and for 6 bytes for each byte of the stamp.
+/// Adds what stands before an answer, in room for 39 bytes, and for 6 bytes for each byte of the stamp.
 pub fn add_lead(text: &mut Vec<u8>, options: WatchOptions, stamp: &Stamp<'_>)
-    requires { vec_len text.old + 24 + 6 * (length stamp.now.time + length stamp.now.channel) ≤ vec_capacity text.old }
+    requires { vec_len text.old + 39 + 6 * (length stamp.now.time + length stamp.now.channel) ≤ vec_capacity text.old }
     ensures lead { text.new.items ≡ text.old.items ++ lead_text options stamp.now }
     ensures few { vec_len text.new
-        ≤ vec_len text.old + 24 + 6 * (length stamp.now.time + length stamp.now.channel) }
+        ≤ vec_len text.old + 39 + 6 * (length stamp.now.time + length stamp.now.channel) }
     ensures capacity { vec_capacity text.old ≤ vec_capacity text.new }
 {
     if options.time {
         add_stamp(text, options.json, stamp);
     } else if options.json {
-        add_bytes(text, b"{");
+        add_bytes(text, b"{\"kind\":\"frame\",");
     }
 }
 
 /// Adds the time and the channel, as the first members of an object of JSON or in words.
 fn add_stamp(text: &mut Vec<u8>, json: bool, stamp: &Stamp<'_>)
-    requires { vec_len text.old + 24 + 6 * (length stamp.now.time + length stamp.now.channel) ≤ vec_capacity text.old }
+    requires { vec_len text.old + 39 + 6 * (length stamp.now.time + length stamp.now.channel) ≤ vec_capacity text.old }
     ensures stamp { text.new.items
         ≡ text.old.items ++ (if json then stamp_object stamp.now else stamp_words stamp.now) }
     ensures few { vec_len text.new
-        ≤ vec_len text.old + 24 + 6 * (length stamp.now.time + length stamp.now.channel) }
+        ≤ vec_len text.old + 39 + 6 * (length stamp.now.time + length stamp.now.channel) }
     ensures capacity { vec_capacity text.old ≤ vec_capacity text.new }
 {
     if json {
@@ -94,15 +94,15 @@ fn add_words(text: &mut Vec<u8>, time: &[u8], channel: &[u8])
     add_bytes(text, b" ");
 }
 
-/// Adds a time without its parentheses and a channel as the first two members of an object of JSON.
+/// Adds a time without its parentheses and a channel as members of an object of JSON, behind its kind.
 fn add_members(text: &mut Vec<u8>, time: &[u8], channel: &[u8])
-    requires { vec_len text.old + 24 + 6 * (length time.now + length channel.now) ≤ vec_capacity text.old }
+    requires { vec_len text.old + 39 + 6 * (length time.now + length channel.now) ≤ vec_capacity text.old }
     ensures members { text.new.items
         ≡ text.old.items ++ stamp_object (record { time = time.now; channel = channel.now }) }
-    ensures few { vec_len text.new ≤ vec_len text.old + 24 + 6 * (length time.now + length channel.now) }
+    ensures few { vec_len text.new ≤ vec_len text.old + 39 + 6 * (length time.now + length channel.now) }
     ensures capacity { vec_capacity text.old ≤ vec_capacity text.new }
 {
-    add_bytes(text, b"{\"time\":\"");
+    add_bytes(text, b"{\"kind\":\"frame\",\"time\":\"");
     add_escaped(text, inside_ends(time));
     add_bytes(text, b"\",\"channel\":\"");
     add_escaped(text, channel);

@@ -3,12 +3,17 @@ ghost use Rattle.std.specs.Prelude.{◌≡◌, ◌+◌, ◌*◌, ◌<◌, ◌≤
 ghost use Rattle.std.specs.Prelude.{IfOk, IfSome};
 ghost use Rattle.std.specs.List.{position_or_len};
 ghost use Rattle.text_lines.specs.Lines.{is_line_feed};
-ghost use Rattle.watch_commands.specs.WatchTotals.{total_line_at, is_heard_at, are_heard};
+ghost use Rattle.std.specs.List.{flat_map};
+ghost use Rattle.watch_commands.specs.Limits.{limits_in};
+ghost use Rattle.watch_commands.specs.WatchTotals.{total_line_at, map_places, counts_text, line_over_at, log_over};
+ghost use Rattle.watch_commands.specs.WatchTotals.{passes_at, all_pass, log_passes};
 ghost use Rattle.watch_commands.specs.States.{IsFreshWatch, WatchesNext, JudgesLine, IsPlaced, counts_after};
 ghost use Rattle.watch_commands.specs.States.{raised_at, accepted_place, failed_place, totals_in, end_text, end_status};
 
 use crate::answers::add_answer;
 use crate::counts::{LineCounts, WatchCounts, add_counts, add_line_counts};
+use crate::limits::is_within;
+use crate::over::{add_line_over, add_log_over};
 use crate::stamps::Stamp;
 use crate::task::WatchTask;
 use can_logs::{FrameTally, OtherLine, counters_of, push_finding};
@@ -22,7 +27,7 @@ use text_lines::words::{Words, put_words};
 const LINE_LIMIT: usize = 4096;
 
 /// The most bytes that are printed for a line, as an object of JSON, but for its time and channel.
-const FINDING_ROOM: usize = 320;
+const FINDING_ROOM: usize = 368;
 
 /// The most bytes that are printed for a byte of a line in its time or its channel: each has at most six as a string of
 /// JSON has it, and neither is longer than the line.
@@ -67,7 +72,7 @@ impl Model for Watch {
 
     ghost invariant = { λ w. (length w.counters.items ≡ length w.map.lines)
         × (length w.accepted.items ≡ length w.map.lines) × (length w.failed.items ≡ length w.map.lines)
-        × (1409356 ≤ vec_capacity w.text) × (232 ≤ vec_capacity w.answer) × (4097 ≤ vec_capacity w.spans) };
+        × (1606012 ≤ vec_capacity w.text) × (232 ≤ vec_capacity w.answer) × (4097 ≤ vec_capacity w.spans) };
 }
 
 impl Watch {
@@ -98,8 +103,8 @@ impl Watch {
     /// memory.
     pub fn take(&mut self, number: u64, line: &[u8])
         requires one { position_or_len is_line_feed line.now ≡ length line.now }
-        requires room { length self.old.text + 12 * length line.now + 320 ≤ 1409356 }
-        ensures few { length self.new.text ≤ length self.old.text + 12 * length line.now + 320 }
+        requires room { length self.old.text + 12 * length line.now + 368 ≤ 1606012 }
+        ensures few { length self.new.text ≤ length self.old.text + 12 * length line.now + 368 }
         ensures takes { WatchesNext self.old number line.now self.new }
     {
         let tally = self.judge_line(number, line);
@@ -120,46 +125,75 @@ impl Watch {
         self.text.clear();
     }
 
-    /// The end of the log: adds a line for each line of the map, and the five numbers. It gives the status that the
-    /// program ends with, and takes no memory.
+    /// The end of the log: adds a line for each line of the map, the five numbers, and a line for each number that is
+    /// more than it may be. It gives the status that the program ends with, and takes no memory.
     pub fn end(&mut self) -> u8
-        requires { length self.old.text ≤ 49484 }
+        requires { length self.old.text ≤ 49532 }
         ensures text { self.new ≡ record self.old { text = self.old.text ++ end_text self.old } }
         ensures status { result ≡ end_status self.old }
     {
         self.push_totals();
+        self.push_over();
         self.status()
     }
 
     /// The status at the end of the log: 1 if a mapped frame wasn't accepted, 3 if a line of the map that isn't
-    /// optional accepted none, else 0.
+    /// optional accepted none, or a number is more than it may be, else 0.
     fn status(&self) -> u8
         ensures { result ≡ end_status self.now }
     {
         if self.counts.failed > 0 {
             return 1;
         }
-        if self.hears_each() { 0 } else { 3 }
+        if self.all_pass() && self.log_passes() {
+            0
+        } else {
+            3
+        }
     }
 
-    /// Whether the map has lines, and each that isn't optional accepted a frame.
-    fn hears_each(&self) -> bool
-        ensures { result ≡ are_heard self.now.mapping (slice_index self.now.accepted) }
+    /// Whether the map has lines, and each passes.
+    fn all_pass(&self) -> bool
+        ensures { result ≡ all_pass self.now.mapping (totals_in self.now) }
     {
         let size = self.map.lines().len();
         let mut each = true;
         for place in 0..size {
-            each = each && self.hears_at(place);
+            each = each && self.passes_at(place);
         }
         each && size > 0
     }
 
-    /// Whether the line of the map at a place is optional, or accepted a frame.
-    fn hears_at(&self, place: usize) -> bool
+    /// Whether the line of the map at a place passes.
+    fn passes_at(&self, place: usize) -> bool
         requires { place < length self.now.mapping.lines }
-        ensures { result ≡ is_heard_at self.now.mapping (slice_index self.now.accepted) place }
+        ensures { result ≡ passes_at self.now.mapping (totals_in self.now) place }
     {
-        self.map.lines()[place].optional || self.accepted[place] > 0
+        let limits = self.map.options().limits_in();
+        self.counts_at(place)
+            .does_pass(&self.map.lines()[place], &limits)
+    }
+
+    /// Whether the whole log is within its limits.
+    fn log_passes(&self) -> bool
+        ensures { result ≡ log_passes (limits_in self.now.mapping.options) self.now.counts }
+    {
+        let limits = self.map.options().limits_in();
+        is_within(limits.malformed, self.counts.malformed)
+            && is_within(limits.unmapped, self.counts.unmapped)
+    }
+
+    /// The numbers of the line of the map at a place.
+    fn counts_at(&self, place: usize) -> LineCounts
+        requires { place < length self.now.mapping.lines }
+        ensures { result ≡ totals_in self.now place }
+    {
+        LineCounts {
+            number: self.map.numbers()[place],
+            accepted: self.accepted[place],
+            failed: self.failed[place],
+            last: self.counters[place],
+        }
     }
 
     /// Counts a line by what it counts as.
@@ -186,8 +220,8 @@ impl Watch {
     /// Adds what is found of a line, and tells what it counts as; `None` if it is skipped.
     fn judge_line(&mut self, number: u64, line: &[u8]) -> Option<FrameTally>
         requires one { position_or_len is_line_feed line.now ≡ length line.now }
-        requires room { length self.old.text + 12 * length line.now + 320 ≤ 1409356 }
-        ensures few { length self.new.text ≤ length self.old.text + 12 * length line.now + 320 }
+        requires room { length self.old.text + 12 * length line.now + 368 ≤ 1606012 }
+        ensures few { length self.new.text ≤ length self.old.text + 12 * length line.now + 368 }
         ensures judges { JudgesLine self.old number line.now self.new result }
         ensures placed { IfSome result (IsPlaced (length self.old.mapping.lines)) }
     {
@@ -222,8 +256,12 @@ impl Watch {
 
     /// Adds a line for each line of the map, and one for each number.
     fn push_totals(&mut self)
-        requires { length self.old.text ≤ 49484 }
-        ensures { self.new ≡ record self.old { text = self.old.text ++ end_text self.old } }
+        requires { length self.old.text ≤ 49532 }
+        ensures text { self.new ≡ record self.old {
+          text = self.old.text ++ flat_map (total_line_at self.old.mapping (totals_in self.old))
+              (map_places self.old.mapping) ++ counts_text self.old.mapping.options.json self.old.counts;
+        } }
+        ensures few { length self.new.text ≤ 142048 }
     {
         let size = self.map.lines().len();
         for place in 0..size {
@@ -235,20 +273,44 @@ impl Watch {
     /// Adds the line of the map's line at a place.
     fn push_line_counts(&mut self, place: usize)
         requires place { place < length self.old.mapping.lines }
-        requires room { length self.old.text + 320 ≤ 1409356 }
+        requires room { length self.old.text + 360 ≤ 1606012 }
         ensures text { self.new ≡ record self.old {
           text = self.old.text ++ total_line_at self.old.mapping (totals_in self.old) place;
         } }
-        ensures few { length self.new.text ≤ length self.old.text + 320 }
+        ensures few { length self.new.text ≤ length self.old.text + 360 }
     {
-        let counts = LineCounts {
-            number: self.map.numbers()[place],
-            accepted: self.accepted[place],
-            failed: self.failed[place],
-            last: self.counters[place],
-        };
+        let counts = self.counts_at(place);
         let json = self.map.options().json;
         add_line_counts(&mut self.text, json, &self.map.lines()[place], &counts);
+    }
+
+    /// Adds a line for each number that is more than it may be.
+    fn push_over(&mut self)
+        requires { length self.old.text ≤ 142048 }
+        ensures { self.new ≡ record self.old {
+          text = self.old.text ++ flat_map (line_over_at self.old.mapping (totals_in self.old))
+              (map_places self.old.mapping) ++ log_over self.old.mapping.options self.old.counts;
+        } }
+    {
+        let size = self.map.lines().len();
+        for place in 0..size {
+            self.push_line_over(place);
+        }
+        add_log_over(&mut self.text, self.map.options(), &self.counts);
+    }
+
+    /// Adds a line for each number of the map's line at a place that is more than it may be.
+    fn push_line_over(&mut self, place: usize)
+        requires place { place < length self.old.mapping.lines }
+        requires room { length self.old.text + 600 ≤ 1606012 }
+        ensures text { self.new ≡ record self.old {
+          text = self.old.text ++ line_over_at self.old.mapping (totals_in self.old) place;
+        } }
+        ensures few { length self.new.text ≤ length self.old.text + 600 }
+    {
+        let counts = self.counts_at(place);
+        let options = self.map.options();
+        add_line_over(&mut self.text, options, &self.map.lines()[place], &counts);
     }
 }
 

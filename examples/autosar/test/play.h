@@ -1,4 +1,4 @@
-/* What play_secoc.c and faults.c share: the unit, and the production line of other software. */
+/* What play_secoc.c, keys.c and faults.c share: the units, their keys, and the production line of other software. */
 #ifndef PLAY_H
 #define PLAY_H
 
@@ -13,6 +13,19 @@ enum { SPEED, BRAKE, JASPAR, WHOLE, SHORT_ONE, ECHO };
 
 /* Ends the program with 1. */
 void fail(const char *why, uint64 number);
+
+/* Ends it unless the status is RATHONSI_OK. */
+void right(int32_t status, const char *what);
+
+/* The store of the other unit, and what it plans; its plan is done. */
+extern uint8 other_image[RATHONSI_STORE_SIZE(FVM_ROUTES)];
+extern RathonsiPlan other_plan;
+void other_done(void);
+
+/* keys.c: the key of the PDUs. A new key for answers, and one for the slot of a key ID, whose proof is compared. */
+extern uint8 key[16];
+void load_answer_key(void);
+void load_key(uint32 keyId, uint32 counter);
 
 /* The last freshness of a route that its bits can tell. */
 uint64 last_of(uint32 route);

@@ -5,7 +5,8 @@
  * A unit sends three PDUs and receives three, with truncated freshness of 4, 8 and 64 bits and authenticators of 24
  * to 128 bits. Another unit is at the other end of each. An attacker repeats what was sent before, and forges. The power
  * goes at any moment of a job of the memory, and jobs fail. Units come from the line of this software, of an older one
- * with fewer cells, and of a newer one with more. A receiver that sleeps for too long asks for an answer. The program ends
+ * with fewer cells, and of a newer one with more. A receiver that sleeps for too long asks for an answer, and some rejoin
+ * by one after a reset. The program ends
  * with 1, and says why, if a freshness is given or accepted twice, a forged PDU is accepted, a unit doesn't come up, or it
  * is deaf for longer than its window and reserve explain. Before that faults.c plays units that are at fault.
  */
@@ -24,9 +25,6 @@ enum { PAYLOAD = 8, KEPT = 64, BUILD_ATTEMPTS = 8, A_UNIT = 2000, CHANCES = 3 };
 
 const uint8 FvM_Uid[15] = {0u, 0u, 0u, 0u, 0u, 0u, 0u, 0u, 0u, 0u, 0u, 0u, 0u, 0u, 1u};
 const uint8 FvM_SlotOfKey[FVM_KEYS] = {4u, 5u};
-static const uint8 EMPTY_KEY[16] = {255u, 255u, 255u, 255u, 255u, 255u, 255u, 255u,
-                                    255u, 255u, 255u, 255u, 255u, 255u, 255u, 255u};
-static uint8 key[16];
 
 /* ---- Numbers at random, always the same ones ---------------------------------------------------------------------- */
 
@@ -121,17 +119,17 @@ static boolean verifies(const uint8 *input, uint32 length, const uint8 *mac, uin
 
 /* ---- The other unit: it sends what the unit receives, and takes answers of what the unit sends ---------------------- */
 
-static uint8 other_image[RATHONSI_STORE_SIZE(FVM_ROUTES)];
+uint8 other_image[RATHONSI_STORE_SIZE(FVM_ROUTES)];
 static RathonsiRoute other[FVM_ROUTES];
-static RathonsiPlan other_plan;
+RathonsiPlan other_plan;
 
-static void right(int32_t status, const char *what)
+void right(int32_t status, const char *what)
 {
     if (status != RATHONSI_OK)
         fail(what, (uint64)status);
 }
 
-static void other_done(void)
+void other_done(void)
 {
     right(rathonsi_store_done(other_image, sizeof other_image, &other_plan), "the other unit's plan isn't done");
 }
@@ -265,22 +263,39 @@ void forget_given(void)
     memset(given, 0, sizeof given);
 }
 
+/* The name of the other unit, and a question of one of the two to the other. */
+enum { OTHER = 2 };
+
+static RathonsiQuestion draw_question(uint32 asker, uint32 answerer)
+{
+    RathonsiQuestion question = {.asker = asker, .answerer = answerer};
+    for (uint32 i = 0u; i < RATHONSI_NONCE; i++)
+        question.nonce[i] = (uint8)below(256u);
+    return question;
+}
+
+/* The unit makes an answer, and is asked again while it is busy. */
+static Std_ReturnType make_answer(uint32 route, uint8 direction, uint32 asker, const uint8 *nonce, uint8 *answer)
+{
+    Std_ReturnType result = E_BUSY;
+    for (uint32 i = 0u; i < 100u && result == E_BUSY; i++)
+        result = FvM_MakeAnswer(FvM_Routes[route].freshnessId, direction, asker, nonce, answer);
+    return result;
+}
+
 /* The other unit asks the unit for its counter: all freshness that was given is at most what it tells, and all later
- * freshness is above it. The unit makes no answer for an ID that it receives, too. */
+ * freshness is above it. */
 static void answer_other(uint32 route)
 {
-    uint8 nonce[RATHONSI_NONCE], answer[RATHONSI_ANSWER];
-    for (uint32 i = 0u; i < RATHONSI_NONCE; i++)
-        nonce[i] = (uint8)below(256u);
-    if (FvM_MakeAnswer(FvM_Routes[route].freshnessId, nonce, answer) != ((route == ECHO) ? E_NOT_OK : E_OK))
-        fail("an answer is made or refused wrongly, ID", FvM_Routes[route].freshnessId);
-    if (route == ECHO)
-        return;
-    RathonsiVerdict verdict = rathonsi_sync_take(&other[route], other_image, sizeof other_image, nonce, answer);
+    uint8 answer[RATHONSI_ANSWER];
+    const RathonsiQuestion question = draw_question(OTHER, FVM_NAME);
+    if (make_answer(route, RATHONSI_SENDS, OTHER, question.nonce, answer) != E_OK)
+        fail("no answer is made, ID", FvM_Routes[route].freshnessId);
+    RathonsiVerdict verdict = rathonsi_sync_take(&other[route], other_image, sizeof other_image, &question, answer);
     if (verdict.status == RATHONSI_RESERVE) {
         right(rathonsi_route_advance(&other[route], verdict.freshness, other_image, sizeof other_image, &other_plan), "no advance");
         other_done();
-        verdict = rathonsi_sync_take(&other[route], other_image, sizeof other_image, nonce, answer);
+        verdict = rathonsi_sync_take(&other[route], other_image, sizeof other_image, &question, answer);
     }
     if (verdict.status == RATHONSI_OK) {
         if (verdict.freshness < given[route])
@@ -440,42 +455,68 @@ static boolean take(const Pdu *pdu)
     return 0u;
 }
 
-/* The unit takes an answer, and asks again while it is busy. */
-static Std_ReturnType take_answer(uint32 route, const uint8 *nonce, const uint8 *answer)
+/* The unit takes an answer of the other one, or rejoins by it, and asks again while it is busy. */
+static Std_ReturnType take_answer(uint32 route, boolean rejoins, const uint8 *nonce, const uint8 *answer)
 {
+    const uint16 id = FvM_Routes[route].freshnessId;
+    const uint64 before = cuts + failures;
     Std_ReturnType result = E_BUSY;
     for (uint32 i = 0u; i < 100u && result == E_BUSY; i++) {
-        result = FvM_TakeAnswer(FvM_Routes[route].freshnessId, nonce, answer);
+        /* a nonce of another life isn't taken for a rejoin */
+        if (rejoins && before != cuts + failures)
+            return E_NOT_OK;
+        result = rejoins ? FvM_Rejoin(id, OTHER, nonce, answer)
+                         : FvM_TakeAnswer(id, FvM_Routes[route].direction, OTHER, nonce, answer);
         if (result == E_BUSY)
             run(1u);
     }
     return result;
 }
 
-/* The unit draws a nonce for a route that is behind. The attacker comes first: he gives the nonce to the unit itself, and
- * comes with an answer of before, and with one that is altered. After an answer that was taken, the next PDU is accepted, unless the power goes. */
-static void ask(uint32 route)
+/* The attacker gives the nonce of the unit to the unit itself, in the name of each of the two. */
+static void reflect(uint32 route, boolean rejoins, const uint8 *nonce)
 {
-    uint8 nonce[RATHONSI_NONCE], answer[RATHONSI_ANSWER], forged[RATHONSI_ANSWER], reflected[RATHONSI_ANSWER];
-    for (uint32 i = 0u; i < RATHONSI_NONCE; i++)
-        nonce[i] = (uint8)below(256u);
+    uint8 answer[RATHONSI_ANSWER];
+    for (uint8 direction = RATHONSI_SENDS; direction <= RATHONSI_RECEIVES; direction++) {
+        if (make_answer(route, direction, FVM_NAME, nonce, answer) != E_NOT_OK)
+            fail("a unit answers itself, ID", FvM_Routes[route].freshnessId);
+        if (make_answer(route, direction, OTHER, nonce, answer) == E_OK && take_answer(route, rejoins, nonce, answer) != E_NOT_OK)
+            fail("a unit takes its own answer, ID", FvM_Routes[route].freshnessId);
+    }
+}
+
+/* The unit draws a nonce for a route that is behind, or that rejoins. The attacker comes first: he gives the nonce to the unit itself, and
+ * comes with an answer of before, and with one that is altered. After an answer that was taken, the next PDU is accepted, or
+ * the one after it, unless the power goes. */
+static void ask(uint32 route, boolean rejoins)
+{
+    uint8 answer[RATHONSI_ANSWER], forged[RATHONSI_ANSWER];
+    const RathonsiQuestion question = draw_question(FVM_NAME, OTHER);
+    const uint64 since = cuts + failures;
     asked++;
-    right(rathonsi_sync_answer(&other[route], other_image, sizeof other_image, nonce, answer), "the other unit answers nothing");
+    right(rathonsi_sync_answer(&other[route], other_image, sizeof other_image, &question, answer), "the other unit answers nothing");
     memcpy(forged, answer, sizeof forged);
     forged[below(RATHONSI_ANSWER)] ^= (uint8)(1u << below(8u));
-    if (FvM_MakeAnswer(FvM_Routes[route].freshnessId, nonce, reflected) != E_NOT_OK)
-        fail("a unit answers itself, ID", FvM_Routes[route].freshnessId);
-    if (take_answer(route, nonce, old_answer[route]) != E_NOT_OK || take_answer(route, nonce, forged) != E_NOT_OK)
+    reflect(route, rejoins, question.nonce);
+    if (take_answer(route, rejoins, question.nonce, old_answer[route]) != E_NOT_OK
+        || take_answer(route, rejoins, question.nonce, forged) != E_NOT_OK)
         fail("a forged answer is taken, ID", FvM_Routes[route].freshnessId);
     memcpy(old_answer[route], answer, sizeof answer);
-    const Std_ReturnType result = take_answer(route, nonce, answer);
+    const Std_ReturnType result = take_answer(route, rejoins, question.nonce, answer);
     if (result == E_BUSY || FvM_IsBehind(FvM_Routes[route].freshnessId))
         fail("an answer is never taken, ID", FvM_Routes[route].freshnessId);
+    if (rejoins && result != E_OK && since == cuts + failures)
+        fail("a receiver doesn't rejoin, ID", FvM_Routes[route].freshnessId);
     if (result == E_OK) {
         const uint64 before = cuts + failures;
-        const Pdu pdu = genuine(route);
+        boolean is_heard = 0u;
         taken++;
-        if (pdu.freshness != 0u && !take(&pdu) && before == cuts + failures)
+        /* A memory that is busy with other routes may be late for the first one. */
+        for (uint32 i = 0u; i < 2u && is_heard == 0u; i++) {
+            const Pdu pdu = genuine(route);
+            is_heard = (pdu.freshness == 0u || take(&pdu)) ? 1u : 0u;
+        }
+        if (is_heard == 0u && before == cuts + failures)
             fail("deaf after an answer, ID", FvM_Routes[route].freshnessId);
     }
 }
@@ -488,7 +529,7 @@ static void hear(uint32 route)
         return;
     (void)take(&pdu);
     if (FvM_IsBehind(FvM_Routes[route].freshnessId))
-        ask(route);
+        ask(route, 0u);
 }
 
 /* The attacker repeats a PDU: one of those kept, or one of years ago, whose freshness has the same low bits. */
@@ -522,7 +563,7 @@ static void tell_wrongly(uint32 route)
     const Pdu pdu = genuine(route);
     if (pdu.freshness == 0u || query(&pdu, freshness) != E_OK)
         return;
-    if (FvM_TakeAnswer(FvM_Routes[route].freshnessId, bytes, bytes) != E_BUSY)
+    if (FvM_TakeAnswer(FvM_Routes[route].freshnessId, RATHONSI_RECEIVES, OTHER, bytes, bytes) != E_BUSY)
         fail("an answer comes between, ID", FvM_Routes[route].freshnessId);
     Pdu replayed = pdu_of(route, accepted[route]);
     if (below(2u) == 0u)
@@ -552,8 +593,11 @@ static void event(void)
     else
         run(1u + below(4u));
     run(1u);
-    if (below(4000u) == 0u)
+    if (below(4000u) == 0u) {
         power_up();
+        if (below(2u) == 0u)
+            ask(route, 1u);
+    }
     if (below(1000u) == 0u)
         other_power_up();
     if (below(1000u) == 0u)
@@ -563,70 +607,6 @@ static void event(void)
         answer_other(sender);
     if (below(2000u) == 0u)
         tell_wrongly(route);
-}
-
-/* ---- Keys --------------------------------------------------------------------------------------------------------- */
-
-/* A new key for a slot. The other unit gets it, too. */
-static RathonsiUpdate new_key(uint8 slot, uint32 counter, RathonsiRequest *request, RathonsiReply *reply)
-{
-    RathonsiUpdate update;
-    memset(&update, 0, sizeof update);
-    memcpy(update.uid, FvM_Uid, 15u);
-    update.id = slot;
-    update.auth = slot;
-    update.counter = counter;
-    update.flags = RATHONSI_KEY_USAGE;
-    for (uint32 i = 0u; i < 16u; i++)
-        update.key[i] = (uint8)below(256u);
-    right(rathonsi_she_make_update(counter == 1u ? EMPTY_KEY : key, 16u, &update, request), "no update");
-    right(rathonsi_she_confirm(&update, FvM_Uid, reply), "no proof");
-    right(rathonsi_slot_load(FvM_Uid, 0u, request, other_image, sizeof other_image, &other_plan), "the other unit has no key");
-    other_done();
-    return update;
-}
-
-/* Loads the key for answers, which the Crypto driver can't reach. */
-static void load_answer_key(void)
-{
-    RathonsiRequest request;
-    RathonsiReply wanted, reply;
-    (void)new_key(FVM_ANSWER_SLOT, 1u, &request, &wanted);
-    right(FvM_LoadKey(&request), "no key for answers");
-    while (FvM_ConfirmKey(request.m1, &reply) == RATHONSI_BUSY)
-        main_function();
-    if (memcmp(reply.m4, wanted.m4, 32u) != 0)
-        fail("the proof is another, slot", FVM_ANSWER_SLOT);
-}
-
-/* Loads a key into the slot of a key ID by its M1 to M3, and compares the proof. */
-static void load_key(uint32 keyId, uint32 counter)
-{
-    RathonsiRequest request;
-    RathonsiReply reply;
-    uint8 messages[64], proof[48];
-    uint32 room = sizeof proof;
-    const RathonsiUpdate update = new_key(FvM_SlotOfKey[keyId], counter, &request, &reply);
-    memcpy(messages, request.m1, 16u);
-    memcpy(&messages[16], request.m2, 32u);
-    memcpy(&messages[48], request.m3, 16u);
-    Std_ReturnType answer;
-    while ((answer = Crypto_KeyElementSet(keyId, CRYPTO_KE_MAC_KEY, messages, 64u)) == CRYPTO_E_BUSY)
-        main_function();
-    if (answer != E_OK)
-        fail("the key isn't taken, answer", answer);
-    messages[15] = (uint8)((FvM_SlotOfKey[1u] << 4u) | FvM_SlotOfKey[1u]);
-    if (Crypto_KeyElementSet(1u, CRYPTO_KE_MAC_KEY, messages, 64u) != CRYPTO_E_BUSY)
-        fail("two keys are taken at once, counter", counter);
-    messages[15] = request.m1[15];
-    while ((answer = Crypto_KeyElementGet(keyId, CRYPTO_KE_MAC_PROOF, proof, &room)) == CRYPTO_E_BUSY)
-        main_function();
-    if (answer != E_OK || memcmp(proof, reply.m4, 32u) != 0 || memcmp(&proof[32], reply.m5, 16u) != 0)
-        fail("the proof is another, answer", answer);
-    messages[63] ^= 1u;
-    if (Crypto_KeyElementSet(keyId, CRYPTO_KE_MAC_KEY, messages, 64u) != CRYPTO_E_KEY_WRITE_FAIL)
-        fail("an altered update is taken, counter", counter);
-    memcpy(key, update.key, 16u);
 }
 
 /* ---- The production line ------------------------------------------------------------------------------------------ */
@@ -734,13 +714,31 @@ static void send_fast(void)
             fail("a route starves, ID", FvM_Routes[SENDERS[k]].freshnessId);
 }
 
+/* The unit was put in place of one that sent more. It takes the receiver's answer, and sends above it. */
+static void replace_sender(void)
+{
+    const RathonsiQuestion question = draw_question(FVM_NAME, OTHER);
+    const uint64 before = failures;
+    uint8 answer[RATHONSI_ANSWER];
+    right(rathonsi_route_advance(&other[SPEED], other[SPEED].counter + 5000u, other_image, sizeof other_image, &other_plan), "no advance");
+    other_done();
+    other_power_up();
+    right(rathonsi_sync_answer(&other[SPEED], other_image, sizeof other_image, &question, answer), "the receiver answers nothing");
+    if (take_answer(SPEED, 0u, question.nonce, answer) != E_OK && before == failures)
+        fail("a sender doesn't take its receiver's answer, ID", FvM_Routes[SPEED].freshnessId);
+    if (send(SPEED) && given[SPEED] <= other[SPEED].counter && before == failures)
+        fail("a sender stays behind its receiver, ID", FvM_Routes[SPEED].freshnessId);
+}
+
 /* A new pair of units. One in four comes from the line of this software; so do all on flash, whose stores don't grow. Some
  * counters are near the end of 32 bits. */
 static void new_pair(void)
 {
     uint64 bounds[FVM_ROUTES];
+#ifndef FVM_ANSWER_JOB
     const uint8 nonce[RATHONSI_NONCE] = {0};
     uint8 answer[RATHONSI_ANSWER];
+#endif
     const boolean is_near_end = below(4u) == 0u;
     const uint32 cells = FVM_MADE + below(FVM_ROOM - FVM_MADE);
     for (uint32 i = 0u; i < FVM_ROUTES; i++)
@@ -763,8 +761,10 @@ static void new_pair(void)
     memory_cut((FVM_MADE == FVM_CELLS) ? 4u : 60u);
     power_up();
     memory_cut(0u);
-    if (FvM_MakeAnswer(FvM_Routes[SPEED].freshnessId, nonce, answer) != E_NOT_OK)
+#ifndef FVM_ANSWER_JOB
+    if (make_answer(SPEED, RATHONSI_SENDS, OTHER, nonce, answer) != E_NOT_OK)
         fail("an answer is made without a key, ID", FvM_Routes[SPEED].freshnessId);
+#endif
     load_answer_key();
     load_key(0u, 1u);
     load_key(0u, 2u);
@@ -772,6 +772,8 @@ static void new_pair(void)
         send_calmly();
     if (units % 10u == 1u && !is_near_end)
         send_fast();
+    if (units % 10u == 2u)
+        replace_sender();
     memory_cut(4u);
     units++;
 }

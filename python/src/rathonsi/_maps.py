@@ -58,9 +58,14 @@ class MapLine:
             raise ValueError("name: 1 to 32 letters, digits, _, - and . are wanted")
 
     @property
+    def digits(self) -> str:
+        """The identifier in three or eight digits."""
+        return f"{self.arbitration_id:0{8 if self.is_extended_id else 3}x}"
+
+    @property
     def title(self) -> str:
         """The name, or else the identifier in three or eight digits."""
-        return self.name or f"{self.arbitration_id:0{8 if self.is_extended_id else 3}x}"
+        return self.name or self.digits
 
     def __repr__(self) -> str:
         return f"MapLine({self.arbitration_id:#x}, is_extended_id={self.is_extended_id}, data_id={self.data_id:#06x})"

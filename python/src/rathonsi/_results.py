@@ -50,7 +50,8 @@ class LineResult:
 
     def as_object(self) -> dict[str, int | str]:
         """The object that `watch --json` prints for the line."""
-        head: dict[str, int | str] = {"line": self.number, "name": self.line.title, "id": f"{self.line.data_id:04x}"}
+        head: dict[str, int | str] = {"kind": "line", "line": self.number, "name": self.line.title}
+        head |= {"can": self.line.digits, "id": f"{self.line.data_id:04x}"}
         counts = {"accepted": self.accepted, "failed": self.failed, "missed": self.missed}
         return head | counts | {"last": f"{self.last:016x}"}
 
@@ -96,8 +97,8 @@ class LogResults:
 
     def as_objects(self) -> list[dict[str, int | str]]:
         """The objects that `watch --json` prints at its end: one a line of the map, and the totals."""
-        totals: dict[str, int | str] = {"accepted": self.accepted, "failed": self.failed, "unmapped": self.unmapped}
-        totals |= {"other frames": self.other_frames, "malformed": self.malformed}
+        totals: dict[str, int | str] = {"kind": "log", "accepted": self.accepted, "failed": self.failed}
+        totals |= {"unmapped": self.unmapped, "other_frames": self.other_frames, "malformed": self.malformed}
         return [*(it.as_object() for it in self.lines), totals]
 
     def __str__(self) -> str:
@@ -105,7 +106,7 @@ class LogResults:
         *lines, totals = self.as_objects()
         form = "line {line} {name} {id} accepted {accepted} failed {failed} missed {missed} last {last}"
         rows = [form.format_map(it) for it in lines]
-        rows += [f"{name} {count}" for name, count in totals.items()]
+        rows += [f"{name.replace('_', ' ')} {count}" for name, count in totals.items() if name != "kind"]
         for it in self.lines:
             head = f"silent line {it.number} {it.line.title}"
             rows += [f"{head} from {at.begin:.6f} to {at.end:.6f}" for at in it.silences]

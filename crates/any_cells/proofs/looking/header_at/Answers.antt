@@ -2,7 +2,8 @@ use Rattle.std.proofs.Common.{arith, sym, subst}
 use Rattle.cell_store.specs.declared.faults.StoreFault.{StoreFault}
 use Rattle.cell_store.specs.Attaching.{NotProbed}
 use Rattle.cell_store.specs.Reading.{ReadOnly}
-use Rattle.any_cells.proofs.LookingLaws.{short-probe, read-none}
+use Rattle.cell_store.proofs.CallerLemmas.{reads_more, reads_none}
+use Rattle.any_cells.proofs.LookingLaws.{short-probe}
 use Rattle.any_cells.proofs.looking.header_at.Goals as goal
 
 pub returns-in-Err-TooSmall-clause-found : goal.returns-in-Err-TooSmall-clause-found
@@ -14,4 +15,4 @@ returns-in-Err-TooSmall-clause-found g c = λ t told.
 pub returns-in-Err-TooSmall-clause-as_before : goal.returns-in-Err-TooSmall-clause-as_before
 returns-in-Err-TooSmall-clause-as_before g c =
     let small = subst (λ (f : StoreFault). NotProbed c.args.version (g.D.Disk.state c.args.disk.now) (g.D.Disk.state c.probe_as.new.disk) f) c.in-Err-TooSmall.field-0-is (c.in-Err-TooSmall.ensures.refused) in
-    subst (λ s. ReadOnly 1 (g.D.Disk.state c.args.disk.now) s) (sym small.1) (read-none (g.D.Disk.state c.args.disk.now))
+    subst (λ s. ReadOnly 1 (g.D.Disk.state c.args.disk.now) s) (sym small.1) (reads_more 1 (omega arith) (reads_none (g.D.Disk.state c.args.disk.now)))

@@ -1,4 +1,4 @@
-use Rattle.std.proofs.Common.{◌≡◌, Any, subst, arith}
+use Rattle.std.proofs.Common.{inl, inr, ◌≡◌, Any, subst, arith}
 use Rattle.std.proofs.lemmas.List.Sorted.{IsPermutation-sym}
 use Rattle.sqlite.specs.State.{HasCleanDisk}
 use Rattle.sqlite.specs.Held.{state}
@@ -8,6 +8,9 @@ use Rattle.ledger_rows.specs.Steps.{AnswersRow, HasConfirmed, RefusesAnswer, con
 use Rattle.ledger_rows.proofs.CallerLemmas.{refuses_permuted}
 use Rattle.ledger_tables.specs.Held.{ledger_of, ledger_in}
 use Rattle.ledger_tables.specs.Adding.{origin_by}
+use Rattle.std.proofs.lemmas.Result.{err_from_is_err_and}
+use Rattle.ledger_tables.proofs.Stated.{on_err}
+use Rattle.ledger_tables.proofs.Failed.{looked_fails, looked_undone}
 use Rattle.ledger_tables.proofs.Deciding.{confirms, from_old, looked_then}
 use Rattle.ledger_tables.proofs.verbs.confirm.Goals as goal
 
@@ -57,3 +60,34 @@ returns-clause-crash g c =
     let none = subst (λ xs. ¬ HasConfirmed n xs) c.as_slice.ensures.value c.in-Ok.ensures.unconfirmed in
     looked_then old mid new (confirmed_row k origin n) _ (λ clean. c.in_ok-rows.ensures.same clean) c.rows_for.ensures.survives (rw c.check_value.ensures at c.add.ensures.crash)
     (λ clean left adds. (n, confirms k origin n (ledger_in old) (ledger_of (left 0)) c.in_ok-rows.rows.items (c.in_ok-rows.ensures.rows (omega (arith, c.add.ensures.crash.clean))) answers none adds))
+
+pub returns-in_err-rows-clause-failed : goal.returns-in_err-rows-clause-failed
+returns-in_err-rows-clause-failed g c clean =
+    let p = err_from_is_err_and c.from_residual.result c.from_residual.ensures.1 in
+    rw (p.1, p.2) (inl (c.in_err-rows.ensures.failed clean))
+
+pub returns-in_err-rows-clause-undone : goal.returns-in_err-rows-clause-undone
+returns-in_err-rows-clause-undone g c clean = on_err c.from_residual.result (c.in_err-rows.ensures.undone clean)
+
+pub returns-in_err-add-clause-failed : goal.returns-in_err-add-clause-failed
+returns-in_err-add-clause-failed g c clean =
+    let k = c.args.confirm.now in
+    let origin = origin_by c.args.station.now c.args.operator.now c.args.time.now in
+    let old = state g.S.Store c.args.conn.now in
+    let mid = state g.S.Store c.rows_for.new.conn in
+    let new = state g.S.Store c.add.new.conn in
+    let early : HasCleanDisk mid = omega (arith, c.add.ensures.crash.clean) in
+    let p = err_from_is_err_and c.from_residual-in_err-add.result c.from_residual-in_err-add.ensures.1 in
+    rw (p.1, p.2) (inr (
+      c.in-Ok.counter,
+      looked_fails old mid new (confirmed_row k origin c.in-Ok.counter) c.in_err-add.field-0.0 (c.in_ok-rows.ensures.same early) c.rows_for.ensures.survives.counts c.rows_for.ensures.survives.limit
+          (rw c.check_value.ensures at (c.in_err-add.ensures.failed clean)),
+    ))
+
+pub returns-in_err-add-clause-undone : goal.returns-in_err-add-clause-undone
+returns-in_err-add-clause-undone g c clean =
+    let old = state g.S.Store c.args.conn.now in
+    let mid = state g.S.Store c.rows_for.new.conn in
+    let new = state g.S.Store c.add.new.conn in
+    let early : HasCleanDisk mid = omega (arith, c.add.ensures.crash.clean) in
+    on_err c.from_residual-in_err-add.result (looked_undone old mid new (c.in_ok-rows.ensures.same early) (c.in_err-add.ensures.undone clean))

@@ -1,4 +1,4 @@
-use Rattle.std.proofs.Common.{◌≡◌, ◌+◌, ◌≤◌, ap, sym, subst, ◌∙◌, true, false, arith}
+use Rattle.std.proofs.Common.{inl, inr, ◌≡◌, ◌+◌, ◌≤◌, ap, sym, subst, ◌∙◌, true, false, arith}
 use Rattle.key_slots.specs.Authority.{is_pair}
 use Rattle.key_slots.proofs.CallerLemmas.{answer_is_pair}
 use Rattle.key_campaign.specs.Entries.{greatest_counter}
@@ -9,6 +9,9 @@ use Rattle.ledger_rows.specs.Steps.{issued_row}
 use Rattle.ledger_rows.proofs.CallerLemmas.{greatest_permuted}
 use Rattle.ledger_tables.specs.Held.{ledger_of, ledger_in}
 use Rattle.ledger_tables.specs.Adding.{origin_by}
+use Rattle.std.proofs.lemmas.Result.{err_from_is_err_and}
+use Rattle.ledger_tables.proofs.Stated.{on_err}
+use Rattle.ledger_tables.proofs.Failed.{looked_fails, looked_undone}
 use Rattle.ledger_tables.proofs.Deciding.{issues, from_old, looked_then}
 use Rattle.ledger_tables.proofs.verbs.issue.Goals as goal
 
@@ -58,3 +61,34 @@ returns-clause-crash g c =
     let next : c.in-Some.counter ≡ greatest_in c.in_ok-rows.rows.items + 1 = c.in-Some.ensures.next ∙ ap (λ xs. greatest_in xs + 1) c.as_slice.ensures.value in
     looked_then old mid new (issued_row i origin c.in-Some.counter) _ (λ clean. c.in_ok-rows.ensures.same clean) c.rows_for.ensures.survives (rw c.check_value.ensures at c.add.ensures.crash)
     (λ clean left adds. (c.in-Some.counter, issues i origin c.in-Some.counter (ledger_in old) (ledger_of (left 0)) c.in_ok-rows.rows.items pair (c.in_ok-rows.ensures.rows (omega (arith, c.add.ensures.crash.clean))) next c.in-Some.ensures.fits adds))
+
+pub returns-in_err-rows-clause-failed : goal.returns-in_err-rows-clause-failed
+returns-in_err-rows-clause-failed g c clean =
+    let p = err_from_is_err_and c.from_residual.result c.from_residual.ensures.1 in
+    rw (p.1, p.2) (inl (c.in_err-rows.ensures.failed clean))
+
+pub returns-in_err-rows-clause-undone : goal.returns-in_err-rows-clause-undone
+returns-in_err-rows-clause-undone g c clean = on_err c.from_residual.result (c.in_err-rows.ensures.undone clean)
+
+pub returns-in_err-add-clause-failed : goal.returns-in_err-add-clause-failed
+returns-in_err-add-clause-failed g c clean =
+    let i = c.args.issue.now in
+    let origin = origin_by c.args.station.now c.args.operator.now c.args.time.now in
+    let old = state g.S.Store c.args.conn.now in
+    let mid = state g.S.Store c.rows_for.new.conn in
+    let new = state g.S.Store c.add.new.conn in
+    let early : HasCleanDisk mid = omega (arith, c.add.ensures.crash.clean) in
+    let p = err_from_is_err_and c.from_residual-in_err-add.result c.from_residual-in_err-add.ensures.1 in
+    rw (p.1, p.2) (inr (
+      c.in-Some.counter,
+      looked_fails old mid new (issued_row i origin c.in-Some.counter) c.in_err-add.field-0.0 (c.in_ok-rows.ensures.same early) c.rows_for.ensures.survives.counts c.rows_for.ensures.survives.limit
+          (rw c.check_value.ensures at (c.in_err-add.ensures.failed clean)),
+    ))
+
+pub returns-in_err-add-clause-undone : goal.returns-in_err-add-clause-undone
+returns-in_err-add-clause-undone g c clean =
+    let old = state g.S.Store c.args.conn.now in
+    let mid = state g.S.Store c.rows_for.new.conn in
+    let new = state g.S.Store c.add.new.conn in
+    let early : HasCleanDisk mid = omega (arith, c.add.ensures.crash.clean) in
+    on_err c.from_residual-in_err-add.result (looked_undone old mid new (c.in_ok-rows.ensures.same early) (c.in_err-add.ensures.undone clean))

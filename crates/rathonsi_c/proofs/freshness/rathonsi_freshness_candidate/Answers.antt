@@ -1,9 +1,10 @@
 use Rattle.std.proofs.Common.{ℕ, inr, refl, rules, sym, subst, FitsSigned, w32}
 use Rattle.freshness_routes.specs.declared.routes.Direction.TheVariants.{Receives}
+use Rattle.secured_pdu.specs.Frame.{AheadWithBits, TakesBits}
 use Rattle.rathonsi_c.specs.declared.TheConstants.{FRESHNESS_FAILURE, RESERVE}
 use Rattle.rathonsi_c.specs.Causes.{IfCause, IsDone}
 use Rattle.rathonsi_c.specs.Routes.{status_alone}
-use Rattle.rathonsi_c.specs.Freshness.{AheadWithBits, TakesBits, AheadOfBound, CandidateAnswers}
+use Rattle.rathonsi_c.specs.Freshness.{AheadOfBound, CandidateAnswers}
 use Rattle.rathonsi_c.proofs.BoundLaws.{bounded_rest, weaker_rest}
 use Rattle.rathonsi_c.proofs.FreshnessLaws.{candidate_covered}
 use Rattle.std.proofs.lemmas.Int.{to_z-of_z}

@@ -1,19 +1,15 @@
-use Rattle.std.proofs.Common.{◌≡◌, inl, refl, sym, ◌∙◌, arith}
-use Rattle.cell_store.specs.declared.kinds.Version.TheVariants.{One}
-use Rattle.cell_store.specs.Layout.{twin_layout}
-use Rattle.cell_store.proofs.CallerLemmas.{header-number}
+use Rattle.std.proofs.Common.{refl, sym, subst, FitsSigned, w32, rules}
+use Rattle.std.proofs.lemmas.Int.{to_z-of_z}
+use Rattle.rathonsi_c.specs.Causes.{IsDone}
+use Rattle.rathonsi_c.specs.Growing.{SizeAnswers}
+use Rattle.rathonsi_c.proofs.GrowthAnswers.{tell-says, tell-none}
 use Rattle.rathonsi_c.proofs.growing.rathonsi_store_size.Goals as goal
 
-pub returns-in_default-clause-answer : goal.returns-in_default-clause-answer
-returns-in_default-clause-answer c =
-    inl ((λ n size is e. c.in_default.ensures n (record { some = (let l = is.least in omega arith); most = (let m = is.most in omega arith) }) e), refl)
+pub returns-in-Ok-clause-answer : goal.returns-in-Ok-clause-answer
+returns-in-Ok-clause-answer c = tell-says c.args.image.now c.in-Ok.cells IsDone _ c.in-Ok.ensures.told refl
 
-pub returns-then-cells-lt14-clause-answer : goal.returns-then-cells-lt14-clause-answer
-returns-then-cells-lt14-clause-answer c =
-    inl (
-      (λ n size is e.
-          let few = c.in-Some.ensures.0 in
-          let same : n ≡ c.in-Some.cells = header-number (twin_layout One) (twin_layout One) n c.in-Some.cells (let m = is.most in omega arith) (let m = few.most in omega arith) (sym e ∙ c.in-Some.ensures.1) in
-          absurd (omega (arith, same, is.least, is.most))),
-      refl,
-    )
+pub returns-in-Err-clause-answer : goal.returns-in-Err-clause-answer
+returns-in-Err-clause-answer c =
+    let fits : FitsSigned w32 c.untold_status.result = search rules in
+    subst (λ s. SizeAnswers c.args.image.now s) (sym (to_z-of_z w32 c.untold_status.result fits))
+    (subst (λ s. SizeAnswers c.args.image.now s) (sym c.untold_status.ensures) (tell-none c.args.image.now IsDone _ c.in-Err.ensures.untold))

@@ -20,8 +20,8 @@ loop-place-preserved c =
       room = omega (arith, c.loop-place.invariant.room, c.push_line_counts.ensures.few);
     }
 
-pub returns : goal.returns
-returns c =
+pub returns-clause-text : goal.returns-clause-text
+returns-clause-text c =
     let old : WatchState = c.args.self.now in
     let place : ℕ = c.loop-place.place in
     let text : ℕ → List ℕ = total_line_at old.mapping (totals_in old) in
@@ -32,6 +32,4 @@ returns c =
     ap (λ (t : List ℕ). record (the_view c.self-2.inside) { text = t })
     (c.add_counts.ensures.lines ∙ ap (λ (o : WatchOptions). (the_view c.self-2.inside).text ++ counts_text o.json (the_view c.self-2.inside).counts) c.options.ensures)
     ∙ ap (λ (v : WatchState). record v { text = v.text ++ counts_text v.mapping.options.json v.counts }) (c.self-2.view_is ∙ c.loop-place.invariant.so_far)
-    ∙ ap (λ (t : List ℕ). record old { text = t })
-    (append_assoc old.text (flat_map text (range_with_len 0 place)) (counts_text json old.counts)
-    ∙ ap (λ (n : ℕ). old.text ++ (flat_map text (range_with_len 0 n) ++ counts_text json old.counts)) whole)
+    ∙ ap (λ (n : ℕ). record old { text = (old.text ++ flat_map text (range_with_len 0 n)) ++ counts_text json old.counts }) whole

@@ -10,5 +10,5 @@ invariant-loop-place l = record {
   so_far : l.self ≡ record l.initial.self {
     text = l.initial.self.text ++ flat_map (total_line_at l.initial.self.mapping (totals_in l.initial.self)) (range_with_len 0 l.place);
   };
-  room : length l.self.text ≤ 49484 + 320 * l.place;
+  room : length l.self.text ≤ 49532 + 360 * l.place;
 }

@@ -1,0 +1,2 @@
+-- The lemmas that crates above cite.
+pub use Rattle.counter_answers.proofs.AnsweringLaws.{both_parts, first_is, one_counter_told, one_question}

@@ -1,0 +1,4 @@
+pub mod LookLaws
+pub mod KeepLaws
+pub mod RowLaws
+pub mod CallerLemmas

@@ -1,0 +1,55 @@
+-- The rows of a start that keeps what stands on the disk, if it doesn't go on
+use Rattle.std.specs.Prelude.{◌≡◌, ◌⊎◌, ℕ, List, get_or}
+use Rattle.cut_disk.specs.State.{DiskState}
+use Rattle.cell_store.specs.declared.faults.Reread.TheVariants as reread
+use Rattle.program_edge.specs.Rows.{Row, row_of, memory_row}
+use Rattle.disk_looks.specs.Texts.{standing_text}
+use Rattle.bus_config.specs.Buses.{NamedBus}
+use Rattle.bus_world.specs.declared.start.Start.TheVariants.{Attach}
+use Rattle.bus_world.specs.declared.start.StartFault.{StartFault}
+use Rattle.bus_world.specs.declared.start.StartFault.TheVariants as fault
+use Rattle.bus_world.specs.Starts.{HasRoom}
+use Rattle.bus_world.specs.StartRows.{start_row, StoreCause, LeavesEach}
+use Rattle.bus_world.specs.StartAnswers.{DiskStates, ComesUnstarted, BusHasDisks}
+use Rattle.kept_starts.specs.declared.first.KeepFault.{KeepFault}
+use Rattle.kept_starts.specs.declared.first.KeepFault.TheVariants as keep
+use Rattle.kept_starts.specs.LookedAt.{LookedAt, NotKept, KeepsTold}
+
+-- 10 and the line of the store that stands, or that the node's store isn't there or failed; and out of memory
+abbrev pub keep_row : KeepFault → Row
+keep_row (keep.OtherStore there) = row_of 10 (standing_text there)
+keep_row keep.NotFormatted = start_row (fault.Store 1 reread.NotFormatted)
+keep_row keep.DiskFailed = start_row (fault.Store 1 reread.DiskFailed)
+keep_row keep.Memory = memory_row
+
+-- its text names a store, and is made when it is printed
+abbrev pub NamesStore : KeepFault → Type 0
+NamesStore (keep.OtherStore there) = Unit {0}
+NamesStore fault = ⊥
+
+-- that row; or out of memory, if its text is made
+abbrev pub IsKeepRow : KeepFault → Row → Type 0
+IsKeepRow fault row = (row ≡ keep_row fault) ⊎ (NamesStore fault × (row ≡ memory_row))
+
+-- The row of a start that doesn't go on: of the look at the disk; or of the start after it, over the disk as it was
+-- then. If it is that of 9 every disk is as before, and `same` says so of the disks themselves.
+pub data ComesKept (same : Type 0) (bus : NamedBus) (d : DiskStates) (row : Row) : Type 0 where
+  of_look : (fault : KeepFault) → NotKept bus d.before d.after fault → IsKeepRow fault row → ComesKept same bus d row
+  of_start : (seen : List DiskState) → LookedAt bus d.before seen
+      → ComesUnstarted same Attach bus (record { before = seen; after = d.after }) row → ComesKept same bus d row
+
+-- a start of the bus goes on over these disks, and the bytes of the first, if it tells them, are all zeros or the
+-- node's store
+abbrev pub BusKeepsDisk : NamedBus → DiskStates → Type 0
+BusKeepsDisk bus d = BusHasDisks Attach bus d × ((disk : DiskState) → KeepsTold bus (get_or d.before 0 disk))
+
+-- Why a start of the bus refuses what stands on its disk, in a row of 10, and this of the text that tells it. There is
+-- room for the store. At the look: another store's header stands, or none does and a byte isn't zero, or the disk
+-- failed; it was only read. Or at the start after the look: the disk failed, or its bytes are refused, and it is left as
+-- an unfinished start leaves it.
+pub data RefusesDisk (bus : NamedBus) (d : DiskStates) (Tells : List ℕ → Type 0) : Type 0 where
+  at_look : (fault : KeepFault) → NotKept bus d.before d.after fault → (keep_row fault).status ≡ 10
+      → Tells (keep_row fault).text → RefusesDisk bus d Tells
+  at_start : (seen : List DiskState) → LookedAt bus d.before seen → (fault : StartFault) → HasRoom bus seen
+      → StoreCause Attach bus seen d.after fault → LeavesEach Attach bus seen d.after
+      → Tells (start_row fault).text → RefusesDisk bus d Tells

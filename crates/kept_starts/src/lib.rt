@@ -1,0 +1,15 @@
+//! Starts that keep what stands on a disk, under whatever bus file.
+//!
+//! Before the one node of a bus is started over its disk, [`look_first`] looks at the whole disk. The start goes on only
+//! if the disk is unused or the node's store stands there; of a store in version 1 for a bus of version 2 too, which is
+//! moved. Another store is refused by its name, and anything else too. So a start never formats a disk on which a store
+//! stands, and each store keeps all its cells ([`starts_keep_stores`]). [`keep_refusal`] is the row of a refusal.
+#![tactic(auto)]
+
+mod first;
+mod laws;
+mod refusals;
+
+pub use first::{KeepFault, look_first};
+pub use laws::starts_keep_stores;
+pub use refusals::keep_refusal;

@@ -1,0 +1,49 @@
+-- What a line of a shift's script asks (own; a UID, a slot, flags and keys are those of the SHE specification)
+use Rattle.std.specs.Prelude.{ℕ, List, Option, None, Some, Result, Ok, Err, codes, if◌then◌else◌}
+use Rattle.std.specs.Str.{bytes_eq, is_utf8}
+use Rattle.key_campaign.specs.declared.commands.LedgerCommand.{LedgerCommand}
+use Rattle.key_campaign.specs.declared.commands.LedgerCommand.TheVariants as command
+use Rattle.text_lines.specs.declared.fault.Cause.{Cause}
+use Rattle.text_lines.specs.declared.fault.Cause.TheVariants as cause
+use Rattle.text_lines.specs.Lines.{is_skipped}
+use Rattle.text_lines.specs.Readings.{◌>>=◌, nth_word, field, with_count}
+use Rattle.campaign_commands.specs.CommandForms.{ledger_command_of}
+use Rattle.ledger_rows.specs.Rows.{RowOrigin}
+use Rattle.ledger_tables.specs.Adding.{origin_by}
+use Rattle.ledger_shift.specs.declared.line.ShiftLine.{ShiftLine}
+use Rattle.ledger_shift.specs.declared.line.ShiftLine.TheVariants as ask
+
+-- a word in UTF-8
+unfoldable pub text_form : List ℕ → Option (List ℕ)
+text_form word = if is_utf8 word then Some word else None
+
+-- `by STATION OPERATOR TIME`
+unfoldable pub origin_of : List (List ℕ) → Result RowOrigin Cause
+origin_of words = do
+  station ← field 2 (text_form (nth_word words 2))
+  operator ← field 3 (text_form (nth_word words 3))
+  time ← field 4 (text_form (nth_word words 4))
+  Ok (origin_by station operator time)
+
+abbrev pub entered_by : RowOrigin → Result ShiftLine Cause
+entered_by origin = Ok (ask.By origin)
+
+-- of campaign's commands those that aren't of a disk
+abbrev pub asked_by : LedgerCommand → Result ShiftLine Cause
+asked_by (command.Issue i) = Ok (ask.Issue i)
+asked_by (command.Confirm k) = Ok (ask.Confirm k)
+asked_by (command.Show uid id) = Ok (ask.Show uid id)
+asked_by (command.Cut torn) = Err cause.Event
+asked_by (command.Stop calls) = Err cause.Event
+asked_by (command.Fail calls) = Err cause.Event
+
+-- what is asked by the words of a command
+abbrev pub command_asked : List (List ℕ) → Result ShiftLine Cause
+command_asked words = ledger_command_of words >>= asked_by
+
+-- what the words of a line ask
+unfoldable pub shift_line_of : List (List ℕ) → Result ShiftLine Cause
+shift_line_of words =
+    if is_skipped words then Ok ask.Skipped
+    else (if bytes_eq (nth_word words 1) (codes "by") then (with_count 4 words (origin_of words) >>= entered_by)
+    else command_asked words)

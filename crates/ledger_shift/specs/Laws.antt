@@ -1,0 +1,54 @@
+-- The calls of a shift as a run of a ledger's file (own)
+use Rattle.std.specs.Prelude.{◌≡◌, ℕ, ◌+◌, Option, None, Some, List, [], ◌∷◌, ◌++◌}
+use Rattle.machine_runs.specs.Run.{Run}
+use Rattle.program_edge.specs.Told.{AppendedWell}
+use Rattle.key_campaign.specs.declared.lines.LedgerLine.{LedgerLine}
+use Rattle.key_campaign.specs.declared.lines.LedgerLine.TheVariants as line
+use Rattle.line_stream.specs.Pieces.{in_64_bits}
+use Rattle.line_stream.specs.Streams.{TakesLines}
+use Rattle.campaign_commands.specs.LedgerTexts.{ledger_line_text}
+use Rattle.sqlite_trees.specs.declared.store.Store.{Ghosts}
+use Rattle.sqlite.specs.State.{HasCleanDisk}
+use Rattle.ledger_rows.specs.Rows.{LedgerRow}
+use Rattle.ledger_rows.specs.Files.{FileMoment, FileStep, AnsweredCountersRise}
+use Rattle.ledger_tables.specs.Held.{ledger_in}
+use Rattle.ledger_shift.specs.Shifts.{ShiftAt, conn_of, line_number, TakesShiftLine}
+
+-- the counter that a line tells
+abbrev pub counter_told : LedgerLine → Option ℕ
+counter_told (line.Issued counter request) = Some counter
+counter_told (line.Confirmed counter) = Some counter
+counter_told (line.Shown told) = None
+counter_told line.Up = None
+counter_told line.Armed = None
+counter_told (line.Refused why) = None
+
+module _ {S : Type 0} (g : Ghosts S) where
+  abbrev pub rows_of : ShiftAt S → List LedgerRow
+  rows_of s = ledger_in (conn_of g s)
+
+  -- A line made no call that may add a row, and the rows are as before. Or it made this one, and the counter that it
+  -- answered was written with the line's number.
+  abbrev pub IsCallOf : ShiftAt S → ℕ → ShiftAt S → List FileMoment → Type 0
+  IsCallOf before number after [] = rows_of after ≡ rows_of before
+  IsCallOf before number after (m ∷ []) =
+      (told : LedgerLine) × (m.line ≡ counter_told told) × (m.after ≡ rows_of after)
+      × FileStep (rows_of before) m.command m.line m.after
+      × AppendedWell before.sink after.sink (ledger_line_text (line_number number) told)
+  IsCallOf before number after _ = ⊥
+
+  -- the calls of these lines after so many, one after another
+  abbrev pub AreCallsOf : ℕ → ShiftAt S → List (List ℕ) → ShiftAt S → List FileMoment → Type 0
+  AreCallsOf count before [] last ms = (last ≡ before) × (ms ≡ [])
+  AreCallsOf count before (text ∷ lines) last ms =
+      (mid : ShiftAt S) × (here : List FileMoment) × (more : List FileMoment) × (ms ≡ here ++ more)
+      × IsCallOf before (in_64_bits (count + 1)) mid here × AreCallsOf (count + 1) mid lines last more
+
+  -- As long as the disk has returned what was written, the calls of the lines that were taken are a run of the file. So
+  -- the counters that were written for a unit and slot strictly rise.
+  abbrev pub ShiftsAreRuns : Type 0
+  ShiftsAreRuns =
+      (count : ℕ) (start last : ShiftAt S) (lines : List (List ℕ)) → TakesLines (TakesShiftLine g) count start lines last
+      → HasCleanDisk (conn_of g last)
+      → (ms : List FileMoment) × AreCallsOf count start lines last ms × Run FileStep (rows_of start) ms (rows_of last)
+      × AnsweredCountersRise ms

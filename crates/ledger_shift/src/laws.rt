@@ -1,0 +1,13 @@
+//! What holds of each shift over a ledger, put together from the laws of the crates below.
+ghost use Rattle.ledger_shift.specs.Laws.{ShiftsAreRuns};
+
+use ledger_rows::laws::answered_counters_rise;
+use sqlite::Alter;
+
+/// The calls of the lines that were taken are a run of the ledger's file, so the counters that were written for a unit
+/// and slot strictly rise.
+pub fn shifts_are_runs<S: Alter>()
+    ensures { ShiftsAreRuns S.Store }
+{
+    answered_counters_rise();
+}

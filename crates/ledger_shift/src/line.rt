@@ -1,0 +1,131 @@
+//! What a line of a script asks.
+ghost use Rattle.std.specs.Prelude.{◌≡◌, ◌<◌, ◌≤◌, ◌^◌, length, None, Some, IfOk, IfErr};
+ghost use Rattle.std.specs.List.{position_or_len};
+ghost use Rattle.text_lines.specs.Lines.{is_line_feed, words_of};
+ghost use Rattle.text_lines.specs.Readings.{GivesLine, nth_word, with_count};
+ghost use Rattle.ledger_shift.specs.Asks.{text_form, origin_of, asked_by, command_asked, shift_line_of};
+
+use crate::origin::Origin;
+use campaign_commands::CommandReader;
+use key_campaign::{Confirm, Issue, LedgerCommand};
+use key_slots::SlotId;
+use memory_update::Uid;
+use std::alloc::{AllocError, Global};
+use text_lines::reader::LineReader;
+use text_lines::words::{Words, put_words};
+use text_lines::{Cause, LineFault, Memory};
+
+/// What a line of a script asks.
+#[derive(Drop)]
+pub enum ShiftLine {
+    /// Nothing: it has no word, or its first begins with `#`.
+    Skipped,
+    /// The rows from here on are entered by these.
+    By(Origin),
+    /// A request.
+    Issue(Issue),
+    /// A reply.
+    Confirm(Confirm),
+    /// A look at a unit's slot.
+    Show(Uid, SlotId),
+}
+
+/// A word as text.
+#[tactic(auto, using(crate::proofs::Words::text_is, crate::proofs::Words::text_none))]
+fn text_word<'a>(words: &Words<'a>, number: u8) -> Result<&'a str, Cause>
+    requires positive { 0 < number }
+    requires within { number ≤ length words.now }
+    ensures given { IfOk result (λ text. text_form (nth_word words.now number) ≡ Some text.now) }
+    ensures refused { IfErr result (λ cause. (text_form (nth_word words.now number) ≡ None)
+        × (cause ≡ Cause.Field number)) }
+{
+    match std::str::from_utf8(words.word(usize::from(number))) {
+        Ok(text) => Ok(text),
+        Err(_) => Err(Cause::Field(number)),
+    }
+}
+
+/// Who enters rows, of the four words of a line.
+#[tactic(auto, unfolding(crate::specs::Asks::origin_of))]
+fn read_origin(alloc: Global, words: &Words<'_>) -> Result<Origin, LineFault>
+    requires { length words.now ≡ 4 }
+    ensures { GivesLine (origin_of words.now) result }
+{
+    let station = text_word(words, 2)?;
+    let operator = text_word(words, 3)?;
+    let time = text_word(words, 4)?;
+    match Origin::of(alloc, station, operator, time) {
+        Ok(origin) => Ok(origin),
+        Err(AllocError) => Err(LineFault::OutOfMemory),
+    }
+}
+
+/// Who enters rows, of the words of a line that begins with `by`.
+fn read_by(alloc: Global, words: &Words<'_>) -> Result<Origin, LineFault>
+    ensures { GivesLine (with_count 4 words.now (origin_of words.now)) result }
+{
+    if words.len() != 4 {
+        return Err(LineFault::Refused(Cause::Count));
+    }
+    read_origin(alloc, words)
+}
+
+/// What a command asks, if it isn't one of a disk.
+fn asked_of(command: LedgerCommand) -> Result<ShiftLine, Cause>
+    ensures { result ≡ asked_by command }
+{
+    match command {
+        LedgerCommand::Issue(asked) => Ok(ShiftLine::Issue(asked)),
+        LedgerCommand::Confirm(asked) => Ok(ShiftLine::Confirm(asked)),
+        LedgerCommand::Show { uid, id } => Ok(ShiftLine::Show(uid, id)),
+        LedgerCommand::Cut(_) => Err(Cause::Event),
+        LedgerCommand::Stop(_) => Err(Cause::Event),
+        LedgerCommand::Fail(_) => Err(Cause::Event),
+    }
+}
+
+/// A command of `campaign` that isn't of its disk.
+fn read_asked(alloc: Global, words: &Words<'_>) -> Result<ShiftLine, LineFault>
+    ensures { GivesLine (command_asked words.now) result }
+{
+    let none: Vec<LedgerCommand> = Vec::new(alloc);
+    match CommandReader.read(alloc, words, none.as_slice()) {
+        Ok(command) => match asked_of(command) {
+            Ok(asked) => Ok(asked),
+            Err(cause) => Err(LineFault::Refused(cause)),
+        },
+        Err(LineFault::Refused(cause)) => Err(LineFault::Refused(cause)),
+        Err(LineFault::OutOfMemory) => Err(LineFault::OutOfMemory),
+    }
+}
+
+/// What the words of a line ask.
+#[tactic(auto, using(crate::proofs::Words::has_word), unfolding(crate::specs::Asks::shift_line_of))]
+fn read_words(alloc: Global, words: &Words<'_>) -> Result<ShiftLine, LineFault>
+    ensures { GivesLine (shift_line_of words.now) result }
+{
+    if words.is_skipped() {
+        return Ok(ShiftLine::Skipped);
+    }
+    if words.word(1) == b"by".as_slice() {
+        return match read_by(alloc, words) {
+            Ok(origin) => Ok(ShiftLine::By(origin)),
+            Err(LineFault::Refused(cause)) => Err(LineFault::Refused(cause)),
+            Err(LineFault::OutOfMemory) => Err(LineFault::OutOfMemory),
+        };
+    }
+    read_asked(alloc, words)
+}
+
+/// What a line asks.
+pub(crate) fn read_shift_line(alloc: Global, line: &[u8]) -> Result<ShiftLine, LineFault>
+    requires short { length line.now < 2 ^ 32 }
+    requires one { position_or_len is_line_feed line.now ≡ length line.now }
+    ensures { GivesLine (shift_line_of (words_of line.now)) result }
+{
+    let mut spans = Vec::new(alloc);
+    match put_words(&mut spans, line) {
+        Ok(()) => read_words(alloc, &Words::of(line, spans.as_slice())),
+        Err(Memory) => Err(LineFault::OutOfMemory),
+    }
+}

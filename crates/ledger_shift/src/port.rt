@@ -1,0 +1,236 @@
+//! Lines of a script that are served over a ledger, and answered on a sink.
+ghost use Rattle.std.specs.Prelude.{◌≡◌, ◌<◌, ◌≤◌, ◌^◌, [], ◌∷◌, length, OnOk};
+ghost use Rattle.std.specs.List.{position_or_len};
+ghost use Rattle.text_lines.specs.Lines.{is_line_feed};
+ghost use Rattle.campaign_commands.specs.LedgerTexts.{ledger_line_text};
+ghost use Rattle.sqlite.specs.State.{HasCleanDisk};
+ghost use Rattle.sqlite.specs.Held.{state};
+ghost use Rattle.ledger_tables.specs.Held.{HasLedgerTable};
+ghost use Rattle.ledger_shift.specs.declared.line.ShiftLine.TheVariants as ask;
+ghost use Rattle.ledger_shift.specs.Shifts.{ShiftAt, TellsAnswer, TellsServed, ServesCommand, ServesAsk, ServesLine};
+ghost use Rattle.ledger_shift.specs.Shifts.{TakesShiftLine, PausesShift, EndsShift, line_number};
+
+use crate::line::{ShiftLine, read_shift_line};
+use crate::origin::Origin;
+use crate::serving::{serve_confirm, serve_issue, serve_show};
+use bus_port::{PortFailed, Sink, write_all};
+use campaign_commands::push_ledger_line;
+use key_campaign::{Confirm, Issue, LedgerLine};
+use key_slots::SlotId;
+use line_stream::LineTaker;
+use memory_update::Uid;
+use sqlite::{Alter, Connection, Error};
+use std::alloc::{AllocError, Global};
+use text_lines::{LineFault, ScriptFault};
+
+/// How a shift ends.
+#[derive(Clone, Copy, Debug, PartialEq, Eq)]
+pub enum ShiftEnd {
+    /// The script ended.
+    Done,
+    /// A line of the script is refused, or there was no memory for it or for its answer.
+    Refused(ScriptFault),
+    /// The file failed.
+    Failed(Error),
+    /// The sink failed.
+    Unwritten,
+}
+
+/// A ledger in a file, who enters its rows, and the sink that is answered on.
+#[derive(Drop)]
+pub(crate) struct ShiftPort<'a, 'b, 'c, S: Alter, K: Sink> {
+    pub(crate) alloc: Global,
+    pub(crate) conn: &'a mut Connection<S>,
+    pub(crate) origin: &'b mut Origin,
+    pub(crate) sink: &'c mut K,
+}
+
+/// Writes the text of an answer.
+fn answer<K: Sink>(
+    alloc: Global,
+    sink: &mut K,
+    number: u32,
+    line: &LedgerLine,
+) -> Result<(), ShiftEnd>
+    ensures { TellsAnswer (K.state sink.old) (K.state sink.new) (ledger_line_text number line.now) result }
+{
+    let mut text = Vec::new(alloc);
+    match push_ledger_line(&mut text, number, line) {
+        Ok(()) => (),
+        Err(AllocError) => return Err(ShiftEnd::Refused(ScriptFault::Memory)),
+    }
+    match write_all(sink, text.as_slice()) {
+        Ok(()) => Ok(()),
+        Err(PortFailed) => Err(ShiftEnd::Unwritten),
+    }
+}
+
+/// Answers what was served of a command.
+fn tell_served<K: Sink>(
+    alloc: Global,
+    sink: &mut K,
+    number: u32,
+    served: Result<LedgerLine, Error>,
+) -> Result<(), ShiftEnd>
+    ensures { TellsServed (K.state sink.old) (K.state sink.new) number served result }
+{
+    match served {
+        Ok(told) => answer(alloc, sink, number, &told),
+        Err(error) => Err(ShiftEnd::Failed(error)),
+    }
+}
+
+/// Serves an issue, and answers it.
+fn take_issue<S: Alter, K: Sink>(
+    alloc: Global,
+    conn: &mut Connection<S>,
+    origin: &Origin,
+    sink: &mut K,
+    number: u32,
+    asked: &Issue,
+) -> Result<(), ShiftEnd>
+    requires { HasCleanDisk (state S.Store conn.old) → HasLedgerTable (state S.Store conn.old) }
+    ensures serves { ServesCommand S.Store
+        (record { conn = conn.old; origin = origin.now; sink = K.state sink.old }) number (ask.Issue asked.now)
+        (record { conn = conn.new; origin = origin.now; sink = K.state sink.new }) result }
+    ensures ready { HasCleanDisk (state S.Store conn.new)
+        → OnOk result (HasLedgerTable (state S.Store conn.new)) }
+{
+    let served = serve_issue(conn, alloc, asked, origin);
+    tell_served(alloc, sink, number, served)
+}
+
+/// Serves a confirmation, and answers it.
+fn take_confirm<S: Alter, K: Sink>(
+    alloc: Global,
+    conn: &mut Connection<S>,
+    origin: &Origin,
+    sink: &mut K,
+    number: u32,
+    asked: &Confirm,
+) -> Result<(), ShiftEnd>
+    requires { HasCleanDisk (state S.Store conn.old) → HasLedgerTable (state S.Store conn.old) }
+    ensures serves { ServesCommand S.Store
+        (record { conn = conn.old; origin = origin.now; sink = K.state sink.old }) number (ask.Confirm asked.now)
+        (record { conn = conn.new; origin = origin.now; sink = K.state sink.new }) result }
+    ensures ready { HasCleanDisk (state S.Store conn.new)
+        → OnOk result (HasLedgerTable (state S.Store conn.new)) }
+{
+    let served = serve_confirm(conn, alloc, asked, origin);
+    tell_served(alloc, sink, number, served)
+}
+
+/// Serves a look, and answers it.
+fn take_show<S: Alter, K: Sink>(
+    alloc: Global,
+    conn: &mut Connection<S>,
+    origin: &Origin,
+    sink: &mut K,
+    number: u32,
+    uid: &Uid,
+    id: SlotId,
+) -> Result<(), ShiftEnd>
+    requires { HasCleanDisk (state S.Store conn.old) → HasLedgerTable (state S.Store conn.old) }
+    ensures serves { ServesCommand S.Store
+        (record { conn = conn.old; origin = origin.now; sink = K.state sink.old }) number (ask.Show uid.now id)
+        (record { conn = conn.new; origin = origin.now; sink = K.state sink.new }) result }
+    ensures ready { HasCleanDisk (state S.Store conn.new)
+        → OnOk result (HasLedgerTable (state S.Store conn.new)) }
+{
+    let served = serve_show(conn, alloc, uid, id, origin);
+    tell_served(alloc, sink, number, served)
+}
+
+/// Serves what a line asks, and answers it.
+fn take_asked<S: Alter, K: Sink>(
+    alloc: Global,
+    conn: &mut Connection<S>,
+    origin: &mut Origin,
+    sink: &mut K,
+    number: u32,
+    asked: ShiftLine,
+) -> Result<(), ShiftEnd>
+    requires { HasCleanDisk (state S.Store conn.old) → HasLedgerTable (state S.Store conn.old) }
+    ensures serves { ServesAsk S.Store
+        (record { conn = conn.old; origin = origin.old; sink = K.state sink.old }) number asked
+        (record { conn = conn.new; origin = origin.new; sink = K.state sink.new }) result }
+    ensures ready { HasCleanDisk (state S.Store conn.new)
+        → OnOk result (HasLedgerTable (state S.Store conn.new)) }
+{
+    match asked {
+        ShiftLine::Skipped => Ok(()),
+        ShiftLine::By(named) => {
+            *origin = named;
+            Ok(())
+        }
+        ShiftLine::Issue(issue) => take_issue(alloc, conn, origin, sink, number, &issue),
+        ShiftLine::Confirm(confirm) => take_confirm(alloc, conn, origin, sink, number, &confirm),
+        ShiftLine::Show(uid, id) => take_show(alloc, conn, origin, sink, number, &uid, id),
+    }
+}
+
+/// The number of a line as it is printed.
+fn printed_number(number: u64) -> u32
+    ensures { result ≡ line_number number }
+{
+    u32::try_from(number).unwrap_or(u32::MAX)
+}
+
+/// Serves a line, and answers it once its row is committed.
+fn take_line<S: Alter, K: Sink>(
+    alloc: Global,
+    conn: &mut Connection<S>,
+    origin: &mut Origin,
+    sink: &mut K,
+    number: u32,
+    line: &[u8],
+) -> Result<(), ShiftEnd>
+    requires table { HasCleanDisk (state S.Store conn.old) → HasLedgerTable (state S.Store conn.old) }
+    requires short { length line.now < 2 ^ 32 }
+    requires one { position_or_len is_line_feed line.now ≡ length line.now }
+    ensures serves { ServesLine S.Store
+        (record { conn = conn.old; origin = origin.old; sink = K.state sink.old }) number line.now
+        (record { conn = conn.new; origin = origin.new; sink = K.state sink.new }) result }
+    ensures ready { HasCleanDisk (state S.Store conn.new)
+        → OnOk result (HasLedgerTable (state S.Store conn.new)) }
+{
+    match read_shift_line(alloc, line) {
+        Ok(asked) => take_asked(alloc, conn, origin, sink, number, asked),
+        Err(LineFault::Refused(cause)) => Err(ShiftEnd::Refused(ScriptFault::At {
+            line: number,
+            cause,
+        })),
+        Err(LineFault::OutOfMemory) => Err(ShiftEnd::Refused(ScriptFault::Memory)),
+    }
+}
+
+impl<'a, 'b, 'c, S: Alter, K: Sink> LineTaker for ShiftPort<'a, 'b, 'c, S, K> {
+    type End = ShiftEnd;
+
+    ghost State = { ShiftAt S };
+
+    ghost state = { λ port. record { conn = port.conn.now; origin = port.origin.now; sink = K.state port.sink.now } };
+
+    ghost ready = { λ port bytes _. (bytes ≤ 8193) × (HasCleanDisk (state S.Store port.conn.now) → HasLedgerTable (state S.Store port.conn.now)) };
+
+    ghost borrows = { λ port. port.conn.ghost_name ∷ port.origin.ghost_name ∷ port.sink.ghost_name ∷ [] };
+
+    ghost takes = { TakesShiftLine S.Store };
+
+    ghost pauses = { PausesShift S.Store };
+
+    ghost ends = { EndsShift S.Store };
+
+    fn take(&mut self, number: u64, line: &[u8]) -> Result<(), ShiftEnd> {
+        let number = printed_number(number);
+        take_line(self.alloc, self.conn, self.origin, self.sink, number, line)
+    }
+
+    fn pause(&mut self) -> Result<(), ShiftEnd> {
+        Ok(())
+    }
+
+    fn finish(&mut self) -> ShiftEnd {
+        ShiftEnd::Done
+    }
+}

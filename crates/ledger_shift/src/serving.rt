@@ -1,0 +1,128 @@
+//! What a command of a shift is answered.
+ghost use Rattle.std.specs.Prelude.{◌≡◌, IfErr, IfOk, OnErr, OnOk};
+ghost use Rattle.memory_update.specs.Messages.{Builds};
+ghost use Rattle.key_campaign.specs.Steps.{update_for};
+ghost use Rattle.sqlite.specs.State.{HasCleanDisk, Survives};
+ghost use Rattle.sqlite.specs.Held.{state};
+ghost use Rattle.ledger_tables.specs.Held.{HasLedgerTable};
+ghost use Rattle.ledger_tables.specs.Failing.{IsUndone};
+ghost use Rattle.ledger_shift.specs.declared.line.ShiftLine.TheVariants as ask;
+ghost use Rattle.ledger_shift.specs.Answers.{AnswersAsk, FailsAsk, MayAddRow};
+
+use crate::origin::Origin;
+use key_campaign::{Confirm, Issue, LedgerLine};
+use key_slots::{Counter28, SlotId};
+use ledger_tables::{confirm, issue, show};
+use memory_update::{Request, Uid, Update, build};
+use sqlite::{Alter, Connection, Error};
+use std::alloc::Global;
+
+/// The request of an issue with this counter.
+fn request_for(asked: &Issue, counter: Counter28) -> Request
+    ensures { Builds result asked.now.authkey (update_for asked.now counter) }
+{
+    let update = Update {
+        uid: asked.uid,
+        id: asked.id,
+        auth: asked.auth,
+        counter,
+        flags: asked.flags,
+        key: asked.key,
+    };
+    build(&update, &asked.authkey)
+}
+
+/// Issues, and makes the request. Its row is committed.
+pub(crate) fn serve_issue<S: Alter>(
+    conn: &mut Connection<S>,
+    alloc: Global,
+    asked: &Issue,
+    origin: &Origin,
+) -> Result<LedgerLine, Error>
+    requires { HasCleanDisk (state S.Store conn.old) → HasLedgerTable (state S.Store conn.old) }
+    ensures answers { HasCleanDisk (state S.Store conn.new) → IfOk result
+        (AnswersAsk origin.now (state S.Store conn.old) (state S.Store conn.new) (ask.Issue asked.now)) }
+    ensures ready { HasCleanDisk (state S.Store conn.new)
+        → OnOk result (HasLedgerTable (state S.Store conn.new)) }
+    ensures failed { HasCleanDisk (state S.Store conn.new) → IfErr result
+        (FailsAsk origin.now (state S.Store conn.old) (state S.Store conn.new) (ask.Issue asked.now)) }
+    ensures undone { HasCleanDisk (state S.Store conn.new)
+        → OnErr result (IsUndone (state S.Store conn.old) (state S.Store conn.new)) }
+    ensures survives { Survives (state S.Store conn.old) (state S.Store conn.new)
+        (MayAddRow origin.now (state S.Store conn.old) (ask.Issue asked.now)) }
+{
+    match issue(
+        conn,
+        alloc,
+        asked,
+        origin.station(),
+        origin.operator(),
+        origin.time(),
+    ) {
+        Ok(Ok(counter)) => Ok(LedgerLine::Issued {
+            counter,
+            request: request_for(asked, counter),
+        }),
+        Ok(Err(why)) => Ok(LedgerLine::Refused(why)),
+        Err(error) => Err(error),
+    }
+}
+
+/// Records a reply. Its row is committed.
+pub(crate) fn serve_confirm<S: Alter>(
+    conn: &mut Connection<S>,
+    alloc: Global,
+    asked: &Confirm,
+    origin: &Origin,
+) -> Result<LedgerLine, Error>
+    requires { HasCleanDisk (state S.Store conn.old) → HasLedgerTable (state S.Store conn.old) }
+    ensures answers { HasCleanDisk (state S.Store conn.new) → IfOk result
+        (AnswersAsk origin.now (state S.Store conn.old) (state S.Store conn.new) (ask.Confirm asked.now)) }
+    ensures ready { HasCleanDisk (state S.Store conn.new)
+        → OnOk result (HasLedgerTable (state S.Store conn.new)) }
+    ensures failed { HasCleanDisk (state S.Store conn.new) → IfErr result
+        (FailsAsk origin.now (state S.Store conn.old) (state S.Store conn.new) (ask.Confirm asked.now)) }
+    ensures undone { HasCleanDisk (state S.Store conn.new)
+        → OnErr result (IsUndone (state S.Store conn.old) (state S.Store conn.new)) }
+    ensures survives { Survives (state S.Store conn.old) (state S.Store conn.new)
+        (MayAddRow origin.now (state S.Store conn.old) (ask.Confirm asked.now)) }
+{
+    match confirm(
+        conn,
+        alloc,
+        asked,
+        origin.station(),
+        origin.operator(),
+        origin.time(),
+    ) {
+        Ok(Ok(counter)) => Ok(LedgerLine::Confirmed(counter)),
+        Ok(Err(why)) => Ok(LedgerLine::Refused(why)),
+        Err(error) => Err(error),
+    }
+}
+
+/// Looks at a unit's slot.
+pub(crate) fn serve_show<S: Alter>(
+    conn: &mut Connection<S>,
+    alloc: Global,
+    uid: &Uid,
+    id: SlotId,
+    _origin: &Origin,
+) -> Result<LedgerLine, Error>
+    requires { HasCleanDisk (state S.Store conn.old) → HasLedgerTable (state S.Store conn.old) }
+    ensures answers { HasCleanDisk (state S.Store conn.new) → IfOk result
+        (AnswersAsk _origin.now (state S.Store conn.old) (state S.Store conn.new) (ask.Show uid.now id)) }
+    ensures ready { HasCleanDisk (state S.Store conn.new)
+        → OnOk result (HasLedgerTable (state S.Store conn.new)) }
+    ensures failed { HasCleanDisk (state S.Store conn.new) → IfErr result
+        (FailsAsk _origin.now (state S.Store conn.old) (state S.Store conn.new) (ask.Show uid.now id)) }
+    ensures undone { HasCleanDisk (state S.Store conn.new)
+        → OnErr result (IsUndone (state S.Store conn.old) (state S.Store conn.new)) }
+    ensures survives { Survives (state S.Store conn.old) (state S.Store conn.new)
+        (MayAddRow _origin.now (state S.Store conn.old) (ask.Show uid.now id)) }
+{
+    match show(conn, alloc, uid, id) {
+        Ok(told) => Ok(LedgerLine::Shown(told)),
+        Err(error) => Err(error),
+    }
+}

@@ -1,0 +1,10 @@
+pub mod Flashes
+pub mod Sealed
+pub mod Writing
+pub mod Moving
+pub mod Starting
+pub mod StartingMoved
+pub mod Erasing
+pub mod Finding
+pub mod Resting
+pub mod Living

@@ -1,0 +1,354 @@
+-- What holds of a part of blanks in all lives of a store.
+use Rattle.std.proofs.Common.{◌≡◌, ◌≢◌, ◌⊎◌, inl, inr, ℕ, suc, ◌-◌, ◌<◌, ◌≤◌, Some, None, List, [], ◌∷◌, ◌++◌, length, set, refl, sym, ap, subst, ◌∙◌, arith}
+use Rattle.std.proofs.lemmas.Bool.{cases_eq}
+use Rattle.std.proofs.lemmas.Option.{same_Some}
+use Rattle.std.proofs.lemmas.List.{length-set}
+use Rattle.seal_parts.specs.declared.PartClass.TheVariants.{Blanks}
+use Rattle.seal_parts.specs.declared.UnitKind.TheVariants.{Line, Confirm, SecondConfirm}
+use Rattle.seal_parts.specs.declared.LogDeed.{LogDeed}
+use Rattle.seal_parts.specs.declared.DeedBody.{DeedBody}
+use Rattle.seal_parts.specs.declared.DeedBody.TheVariants.{Opens, Puts, Moves, IsNew}
+use Rattle.seal_parts.specs.Parts.{PartUnit, PartFlash}
+use Rattle.seal_parts.specs.Designs.{DoesPartWrites, CutsPartWrites, MayDoPartWrites}
+use Rattle.seal_logs.specs.declared.PlaceRead.{PlaceRead}
+use Rattle.seal_logs.specs.declared.LogSizes.{LogSizes}
+use Rattle.seal_logs.specs.declared.starting.FoundStore.{FoundStore}
+use Rattle.seal_logs.specs.declared.starting.StartEnd.{StartEnd}
+use Rattle.seal_logs.specs.declared.starting.StartEnd.TheVariants.{NoStore, Damaged, Found}
+use Rattle.seal_logs.specs.Reads.{MakesOf, after_body}
+use Rattle.seal_laws.specs.declared.SealSizes.{SealSizes}
+use Rattle.seal_laws.specs.declared.SealPoint.{SealPoint}
+use Rattle.seal_laws.specs.Writes.{seal_line, deed_of, deed_writes, copy_writes, put_deed, put_writes, move_writes, start_writes, started_at, put_on, moved_on, FitsPut, FitsMove}
+use Rattle.seal_laws.specs.Lives.{seal_off, seal_ready, SealMachine, SealEvent, starts, puts_cell, makes_anew, cuts_start, cuts_puts, cuts_anew, rests, StartsSeal, CutsStartSeal, cuts_reads, cuts_writes, PutsSeal, goes_next, goes_on, CutsPutSeal, cuts_next, cuts_on, MakesAnewSeal, CutsAnewSeal, DoesSealEvent, SealLives, MayMakeSeal, PossibleSeal, FindsSeal, FormattedSeal}
+use Rattle.seal_laws.proofs.Flashes.{firm_line, firm_reads, blank_no_content, Extends, chain_extends, chain_before, read_leaves, deed_done, done_firm, done_closed, LeavesBank, copy_done, does_both}
+use Rattle.seal_laws.proofs.Sealed.{OlderIn, FreeFrom, SoundBank, HasDeeds, in_bank_more, at_move_more, free_here, deeds_on}
+use Rattle.seal_laws.proofs.Writing.{Rests, rests_in, rests_at, Ready, ready_in, ready_at, rests_ready, ready_line_may, move_on, next_left, next_done}
+use Rattle.seal_laws.proofs.Moving.{home_ready, move_done, move_cut, move_may}
+use Rattle.seal_laws.proofs.StartingMoved.{start_leaves}
+use Rattle.seal_laws.proofs.Finding.{finds_store}
+use Rattle.seal_laws.proofs.Resting.{nothing_written}
+
+-- ---- more cells may be, and which are
+
+pub rests_more : (P Q : List (List ℕ) → Type 0) (s : LogSizes) (f : PartFlash) → ((c : List (List ℕ)) → P c → Q c) → Rests P s f → Rests Q s f
+rests_more P Q s f more (rests_in b g last cur chain copy now i) = rests_in b g last cur chain copy now (in_bank_more P Q more s f b g last cur chain copy now i)
+rests_more P Q s f more (rests_at m g last cur chain b copy i) = rests_at m g last cur chain b copy (at_move_more P Q more s f m g last cur chain b copy i)
+
+pub ready_may : (P : List (List ℕ) → Type 0) (s : LogSizes) (f : PartFlash) (p : SealPoint) (cells : List (List ℕ)) → Ready P s f p cells → P cells
+ready_may P s f p cells (ready_in b g last cur chain copy lacking i free is) = i.may
+ready_may P s f p cells (ready_at m g last cur chain b i free is) = i.may
+
+-- a store that is ready has these cells, and no others may be
+pub ready_only : (P Q : List (List ℕ) → Type 0) (s : LogSizes) (f : PartFlash) (p : SealPoint) (cells : List (List ℕ)) → Q cells → Ready P s f p cells → Ready Q s f p cells
+ready_only P Q s f p cells may (ready_in b g last cur chain copy lacking i free is) = ready_in b g last cur chain copy lacking (record {
+  deeds = i.deeds;
+  cells = i.cells;
+  home = i.home;
+  may = may;
+  stand = λ k d far below held. absurd (blank_no_content (f.unit b k Line) _ (free k (omega (arith, far)) below) held);
+  older = i.older;
+}) free is
+ready_only P Q s f p cells may (ready_at m g last cur chain b i free is) = ready_at m g last cur chain b (record {
+  deeds = i.deeds;
+  move = i.move;
+  apart = i.apart;
+  again = i.again;
+  sound = i.sound;
+  copied = i.copied;
+  count = i.count;
+  may = may;
+  stand = λ k d far below held. absurd (blank_no_content (f.unit b k Line) _ (free k far below) held);
+  loose = i.loose;
+  older = i.older;
+}) free is
+
+body_count : (body : DeedBody) (cells : List (List ℕ)) → length (after_body body cells) ≡ length cells
+body_count Opens cells = refl
+body_count (Puts cell payload) cells = length-set _ _ _
+body_count (Moves bank generation) cells = refl
+body_count IsNew cells = refl
+
+makes_count : (p : ℕ → PlaceRead) (g : ℕ) (ks : List ℕ) (cells now : List (List ℕ)) → MakesOf p g ks cells now → length now ≡ length cells
+makes_count p g [] cells now h = ap (λ (z : List (List ℕ)). length z) h
+makes_count p g (k ∷ ks) cells now h = ap (λ (z : List (List ℕ)). length z) h.1.1.1.1 ∙ (body_count h.0.body h.1.1.0 ∙ makes_count p g ks cells h.1.1.0 h.1.1.1.0)
+
+ready_count : (P : List (List ℕ) → Type 0) (s : LogSizes) (f : PartFlash) (p : SealPoint) (cells : List (List ℕ)) → Ready P s f p cells → length cells ≡ s.cells
+ready_count P s f p cells (ready_in b g last cur chain copy lacking i free is) = makes_count (firm_reads f b) g chain copy cells i.cells.makes ∙ i.cells.count
+ready_count P s f p cells (ready_at m g last cur chain b i free is) = i.count
+
+-- ---- the machine
+
+pub data Stands (P : List (List ℕ) → Type 0) (s : SealSizes) (a : SealMachine) : Type 0 where
+  stands_off : a.stage ≡ seal_off → Rests P s.log a.flash → Stands P s a
+  stands_ready : (p : SealPoint) (cells : List (List ℕ)) → a.stage ≡ seal_ready p cells → Ready P s.log a.flash p cells → Stands P s a
+
+pub stands_more : (P Q : List (List ℕ) → Type 0) (s : SealSizes) (a : SealMachine) → ((c : List (List ℕ)) → P c → Q c) → Stands P s a → Stands Q s a
+stands_more P Q s a more (stands_off e i) = stands_off e (rests_more P Q s.log a.flash more i)
+stands_more P Q s a more (stands_ready p cells e i) = stands_ready p cells e (ready_only P Q s.log a.flash p cells (more cells (ready_may P s.log a.flash p cells i)) i)
+
+not_off : (p : SealPoint) (cells : List (List ℕ)) → seal_off ≡ seal_ready p cells → ⊥
+not_off p cells e = absurd (cc)
+
+one_point : (p q : SealPoint) (cells now : List (List ℕ)) → seal_ready p cells ≡ seal_ready q now → p ≡ q
+one_point p q cells now e = cc
+
+one_list : (p q : SealPoint) (cells now : List (List ℕ)) → seal_ready p cells ≡ seal_ready q now → cells ≡ now
+one_list p q cells now e = cc
+
+module _ (P : List (List ℕ) → Type 0) (s : SealSizes) (a : SealMachine) where
+  pub off_rests : Stands P s a → Rests P s.log a.flash
+  off_rests (stands_off e i) = i
+  off_rests (stands_ready p cells e i) = rests_ready P s.log a.flash p cells i
+
+  pub ready_stands : (p : SealPoint) (cells : List (List ℕ)) → a.stage ≡ seal_ready p cells → Stands P s a → Ready P s.log a.flash p cells
+  ready_stands p cells is (stands_off e i) = absurd (not_off p cells (sym e ∙ is))
+  ready_stands p cells is (stands_ready q now e i) =
+      let same = sym e ∙ is in
+      subst (λ (z : SealPoint). Ready P s.log a.flash z cells) (one_point q p now cells same) (subst (λ (z : List (List ℕ)). Ready P s.log a.flash q z) (one_list q p now cells same) i)
+
+-- ---- one event
+
+abbrev pub After : SealEvent → (List (List ℕ) → Type 0) → List (List ℕ) → Type 0
+After event P c = (old : List (List ℕ)) × (P old × MayMakeSeal event old c)
+
+module _ (P : List (List ℕ) → Type 0) (s : SealSizes) (two : 2 ≤ s.log.banks) (a b : SealMachine) (i : Stands P s a) where
+  after_starts : StartsSeal Blanks s a b → Stands (After starts P) s b
+  after_starts x =
+      let between : x.between ≡ a.flash = read_leaves a.flash x.between x.finds.view x.finds.reads in
+      let leaves = start_leaves P s a.flash x.between x.finds.view x.finds.reads x.found x.cells (off_rests P s a i) x.finds.finds in
+      let ready = leaves.does b.flash (subst (λ (z : PartFlash). DoesPartWrites Blanks (start_writes Blanks s x.found) z b.flash) between x.writes) in
+      let point = started_at s x.found x.found.latest.deed.body in
+      stands_ready point x.cells x.now (ready_only P (After starts P) s.log b.flash point x.cells (x.cells, (ready_may P s.log b.flash point x.cells ready, refl)) ready)
+
+  after_cut_start : CutsStartSeal Blanks s a b → Stands (After cuts_start P) s b
+  after_cut_start (cuts_reads view was reads off) = stands_off off (rests_more P (After cuts_start P) s.log b.flash (λ c may. (c, (may, refl)))
+      (subst (λ (z : PartFlash). Rests P s.log z) (sym (read_leaves a.flash b.flash view reads)) (off_rests P s a i)))
+  after_cut_start (cuts_writes found cells between finds cuts off) =
+      let same : between ≡ a.flash = read_leaves a.flash between finds.view finds.reads in
+      let leaves = start_leaves P s a.flash between finds.view finds.reads found cells (off_rests P s a i) finds.finds in
+      stands_off off (rests_more P (After cuts_start P) s.log b.flash (λ c may. (c, (may, refl)))
+      (leaves.cuts b.flash (subst (λ (z : PartFlash). CutsPartWrites Blanks (start_writes Blanks s found) z b.flash) same cuts)))
+
+  -- a store that is ready is written: these cells, or those that are made of them
+  module _ (p : SealPoint) (cells made : List (List ℕ)) (was : a.stage ≡ seal_ready p cells) where
+    abbrev Either : List (List ℕ) → Type 0
+    Either c = (c ≡ cells) ⊎ (c ≡ made)
+
+    ready : Ready P s.log a.flash p cells
+    ready = ready_stands P s a p cells was i
+
+    either : Ready Either s.log a.flash p cells
+    either = ready_only P Either s.log a.flash p cells (inl refl) ready
+
+    may : P cells
+    may = ready_may P s.log a.flash p cells ready
+
+    after_ready : (event : SealEvent) (q : SealPoint) → MayMakeSeal event cells made → b.stage ≡ seal_ready q made → Ready Either s.log b.flash q made → Stands (After event P) s b
+    after_ready event q makes now r = stands_ready q made now (ready_only Either (After event P) s.log b.flash q made (cells, (may, makes)) r)
+
+    after_cut : (event : SealEvent) → MayMakeSeal event cells cells → MayMakeSeal event cells made → b.stage ≡ seal_off → Rests Either s.log b.flash → Stands (After event P) s b
+    after_cut event same makes now r = stands_off now (rests_more Either (After event P) s.log b.flash (λ c x. elim x [
+      | inl e ↦ (cells, (may, subst (λ (z : List (List ℕ)). MayMakeSeal event cells z) (sym e) same))
+      | inr e ↦ (cells, (may, subst (λ (z : List (List ℕ)). MayMakeSeal event cells z) (sym e) makes))
+    ]) r)
+
+    module _ (count : length made ≡ length cells) (fits : FitsMove s p) where
+      counted : length made ≡ s.log.cells
+      counted = count ∙ ready_count P s.log a.flash p cells ready
+
+      moved : DoesPartWrites Blanks (move_writes Blanks s p made) a.flash b.flash → Ready Either s.log b.flash (moved_on s p) made
+      moved does = move_done Either s two p cells made counted (inr refl) fits a.flash b.flash either does
+
+      cut_move : CutsPartWrites Blanks (move_writes Blanks s p made) a.flash b.flash → Rests Either s.log b.flash
+      cut_move cuts = move_cut Either s two p cells made counted (inr refl) fits a.flash b.flash either cuts
+
+  place_of : (p : SealPoint) → FitsPut s p → p.next < s.log.places
+  place_of p fits = omega (arith, fits)
+
+  after_puts : (cell : ℕ) (payload : List ℕ) → PutsSeal Blanks s cell payload a b → Stands (After (puts_cell cell payload) P) s b
+  after_puts cell payload (goes_next p cells fits below w) =
+      let made = set cells cell payload in
+      let n = next_done (Either p cells made w.was) s.log a.flash b.flash cells (Puts cell payload) tt (inr refl) p (either p cells made w.was) (place_of p fits) w.does in
+      after_ready p cells made w.was (puts_cell cell payload) (put_on p) refl w.now (ready_in p.bank p.generation p.next n.cur n.chain n.copy (p.lacking - 1) n.bank n.free refl)
+  after_puts cell payload (goes_on p cells full fits below w) =
+      let made = set cells cell payload in
+      after_ready p cells made w.was (puts_cell cell payload) (moved_on s p) refl w.now (moved p cells made w.was (length-set _ _ _) fits w.does)
+
+  after_anew : (made : List (List ℕ)) → MakesAnewSeal Blanks s made a b → Stands (After (makes_anew made) P) s b
+  after_anew made x = after_ready x.point x.cells made x.writes.was (makes_anew made) (moved_on s x.point) refl x.writes.now (moved x.point x.cells made x.writes.was x.count x.fits x.writes.does)
+
+  after_cut_put : (cell : ℕ) (payload : List ℕ) → CutsPutSeal Blanks s cell payload a b → Stands (After (cuts_puts cell payload) P) s b
+  after_cut_put cell payload (cuts_next p cells fits below w) =
+      let made = set cells cell payload in
+      after_cut p cells made w.was (cuts_puts cell payload) (inl refl) (inr refl) w.now
+      (next_left (Either p cells made w.was) s.log a.flash b.flash cells (Puts cell payload) tt (inr refl) p (either p cells made w.was) (place_of p fits) w.cuts)
+  after_cut_put cell payload (cuts_on p cells full fits below w) =
+      let made = set cells cell payload in
+      after_cut p cells made w.was (cuts_puts cell payload) (inl refl) (inr refl) w.now (cut_move p cells made w.was (length-set _ _ _) fits w.cuts)
+
+  after_cut_anew : (made : List (List ℕ)) → CutsAnewSeal Blanks s made a b → Stands (After (cuts_anew made) P) s b
+  after_cut_anew made x = after_cut x.point x.cells made x.cuts.was (cuts_anew made) (inl refl) (inr refl) x.cuts.now (cut_move x.point x.cells made x.cuts.was x.count x.fits x.cuts.cuts)
+
+  pub after_event : (event : SealEvent) → DoesSealEvent Blanks s event a b → Stands (After event P) s b
+  after_event starts x = after_starts x
+  after_event (puts_cell cell payload) x = after_puts cell payload x
+  after_event (makes_anew made) x = after_anew made x
+  after_event cuts_start x = after_cut_start x
+  after_event (cuts_puts cell payload) x = after_cut_put cell payload x
+  after_event (cuts_anew made) x = after_cut_anew made x
+  after_event rests x = stands_off x.1 (rests_more P (After rests P) s.log b.flash (λ c may. (c, (may, refl))) (subst (λ (z : PartFlash). Rests P s.log z) (sym x.0) (off_rests P s a i)))
+
+-- ---- all lives
+
+abbrev pub AfterAll : List SealEvent → (List (List ℕ) → Type 0) → List (List ℕ) → Type 0
+AfterAll events P c = (old : List (List ℕ)) × (P old × PossibleSeal events old c)
+
+pub after_lives : (P : List (List ℕ) → Type 0) (s : SealSizes) → 2 ≤ s.log.banks → (events : List SealEvent) (a b : SealMachine) → Stands P s a → SealLives Blanks s events a b → Stands (AfterAll events P) s b
+after_lives P s two [] a b i is = subst (λ (z : SealMachine). Stands (AfterAll [] P) s z) (sym is) (stands_more P (AfterAll [] P) s a (λ c may. (c, (may, refl))) i)
+after_lives P s two (event ∷ events) a b i run =
+    stands_more (AfterAll events (After event P)) (AfterAll (event ∷ events) P) s b (λ c x. (x.1.0.0, (x.1.0.1.0, (x.0, (x.1.0.1.1, x.1.1)))))
+    (after_lives (After event P) s two events run.0 b (after_event P s two a run.0 i event run.1.0) run.1.1)
+
+-- ---- the first store
+
+-- the deeds of a bank, while another one is written
+deeds_kept : (s : LogSizes) (f h : PartFlash) (x from b g last : ℕ) (cur : LogDeed) (chain : List ℕ) → b ≢ x → LeavesBank x from f h → HasDeeds s f b g last cur chain → HasDeeds s h b g last cur chain
+deeds_kept s f h x from b g last cur chain ne w i =
+    let more : Extends (firm_reads f b) (firm_reads h b) = λ k l e. ap firm_line (w.banks b k Line ne) ∙ e in
+    record {
+      sound = record {
+        erased = w.erased b ne ∙ i.sound.erased;
+        inside = i.sound.inside;
+        confirm = λ k far. elim (i.sound.confirm k far) [ inl is ↦ inl (w.banks b k Confirm ne ∙ is) | inr e ↦ inr (e.0, more k _ e.1) ];
+        second = λ k far. elim (i.sound.second k far) [ inl is ↦ inl (w.banks b k SecondConfirm ne ∙ is) | inr e ↦ inr (e.0, more k _ e.1) ];
+        lines = λ k c far below held. i.sound.lines k c far below (ap (λ (z : PartUnit). z.content) (sym (w.banks b k Line ne)) ∙ held);
+      };
+      followed = chain_extends s (firm_reads f b) (firm_reads h b) g more s.places (Some last) chain i.followed;
+      is = more last _ i.is;
+      behind = λ k far below firm. (let e = w.banks b k Line ne in e ∙ i.behind k far below (ap (λ (z : PartUnit). z.firm) (sym e) ∙ firm));
+    }
+
+zero_not_one : let z : ℕ = 0 in let o : ℕ = 1 in z ≢ o
+zero_not_one e = absurd (omega (arith, e))
+
+one_not_zero : let z : ℕ = 0 in let o : ℕ = 1 in o ≢ z
+one_not_zero e = absurd (omega (arith, e))
+
+module _ (s : SealSizes) (cells : List (List ℕ)) (a : SealMachine) (x : FormattedSeal Blanks s cells a) where
+  abbrev n : ℕ
+  n = s.log.cells
+
+  abbrev first : LogDeed
+  first = deed_of None IsNew
+
+  abbrev second : LogDeed
+  second = deed_of (Some n) IsNew
+
+  abbrev third : LogDeed
+  third = deed_of (Some (suc n)) (Moves 1 2)
+
+  sound_blank : SoundBank s.log x.before 0 1
+  sound_blank = record {
+    erased = x.erased 0;
+    inside = (let two = x.fits.two in omega (arith, two));
+    confirm = λ k far. inl (x.blank 0 k Confirm);
+    second = λ k far. inl (x.blank 0 k SecondConfirm);
+    lines = λ k c far below held. absurd (blank_no_content (x.before.unit 0 k Line) c (x.blank 0 k Line) held);
+  }
+
+  pub first_rests : Rests (λ (c : List (List ℕ)). c ≡ cells) s.log a.flash
+  first_rests =
+      let room = x.fits.room in
+      let two = x.fits.two in
+      let f = x.before in
+      let one = does_both Blanks (deed_writes Blanks 0 n (seal_line 1 first))
+      (deed_writes Blanks 0 (suc n) (seal_line 1 second) ++ (copy_writes 1 2 cells ++ deed_writes Blanks 0 (suc (suc n)) (seal_line 1 third))) f a.flash x.writes in
+      let other = does_both Blanks (deed_writes Blanks 0 (suc n) (seal_line 1 second)) (copy_writes 1 2 cells ++ deed_writes Blanks 0 (suc (suc n)) (seal_line 1 third)) one.0 a.flash one.1.1 in
+      let last = does_both Blanks (copy_writes 1 2 cells) (deed_writes Blanks 0 (suc (suc n)) (seal_line 1 third)) other.0 a.flash other.1.1 in
+      let g1 = one.0 in
+      let g2 = other.0 in
+      let g3 = last.0 in
+      let free0 : FreeFrom s.log f 0 n = λ k far below. x.blank 0 k Line in
+      let w1 = deed_done 0 n (seal_line 1 first) f g1 one.1.0 in
+      let blank0 = x.blank 0 n Line in
+      let from0 : n ≤ n = omega arith in
+      let deeds1 = deeds_on s.log f g1 0 n 1 first from0 blank0 w1 [] (omega (arith, room)) free0 tt (done_firm 0 n (seal_line 1 first) f g1 one.1.0) sound_blank in
+      let free1 = free_here s.log f g1 0 n 1 first from0 blank0 w1 free0 in
+      let w2 = deed_done 0 (suc n) (seal_line 1 second) g1 g2 other.1.0 in
+      let from1 : n ≤ suc n = omega arith in
+      let blank1 = free1 (suc n) (omega arith) (omega (arith, room)) in
+      let chain1 = chain_before s.log (firm_reads g1 0) 1 s.log.places (suc n) (Some n) (n ∷ []) (λ at e. (let z = same_Some _ _ e in omega (arith, z))) deeds1.followed in
+      let deeds2 = deeds_on s.log g1 g2 0 (suc n) 1 second from1 blank1 w2 (n ∷ []) (omega (arith, room)) free1 chain1 (done_firm 0 (suc n) (seal_line 1 second) g1 g2 other.1.0) deeds1.sound in
+      let free2 = free_here s.log g1 g2 0 (suc n) 1 second from1 blank1 w2 free1 in
+      let c = copy_done 1 2 cells g2 g3 last.1.0 in
+      let deeds3 = deeds_kept s.log g2 g3 1 (length cells) 0 1 (suc n) second (suc n ∷ n ∷ []) zero_not_one c.0 deeds2 in
+      let free3 : FreeFrom s.log g3 0 (suc (suc n)) = λ k far below. c.0.banks 0 k Line zero_not_one ∙ free2 k far below in
+      let older3 : (y : ℕ) → y ≢ 0 → OlderIn s.log g3 y 1 = λ y ne k h d far below held. elim (cases_eq y 1) [
+        | inl is ↦ (let count = x.count in absurd (blank_no_content (g3.unit y k Line) _ (ap (λ (z : ℕ). g3.unit z k Line) is ∙ c.1.blank k Line (omega (arith, far, count))) held))
+        | inr apart ↦ absurd (blank_no_content (g3.unit y k Line) _ (c.0.banks y k Line apart ∙ (w2.others y k Line (inl ne) ∙ (w1.others y k Line (inl ne) ∙ x.blank y k Line))) held)
+      ] in
+      let from3 : n ≤ suc (suc n) = omega arith in
+      let below3 : suc (suc n) < s.log.places = omega (arith, room) in
+      let blank3 = free3 (suc (suc n)) (omega arith) below3 in
+      let w4 = deed_done 0 (suc (suc n)) (seal_line 1 third) g3 a.flash last.1.1 in
+      let ready = home_ready s.log 1 2 cells g3 (omega (arith, two)) x.count c.1 in
+      let chain3 = chain_before s.log (firm_reads g3 0) 1 s.log.places (suc (suc n)) (Some (suc n)) (suc n ∷ n ∷ []) (λ at e. (let z = same_Some _ _ e in omega (arith, z))) deeds3.followed in
+      let m = move_on (λ (z : List (List ℕ)). z ≡ cells) s.log g3 a.flash 0 (suc (suc n)) 1 third from3 blank3 w4 below3 free3 (suc n) 1 (suc n ∷ n ∷ []) cells deeds3.sound older3 refl one_not_zero ready refl chain3
+      (done_firm 0 (suc (suc n)) (seal_line 1 third) g3 a.flash last.1.1) in
+      rests_at 0 1 (suc (suc n)) third (suc (suc n) ∷ suc n ∷ n ∷ []) 1 cells m.0
+
+  pub first_stands : Stands (λ (c : List (List ℕ)). c ≡ cells) s a
+  first_stands = stands_off x.off first_rests
+
+-- ---- the laws
+
+module _ (s : SealSizes) (events : List SealEvent) (first cells now : List (List ℕ)) (a b : SealMachine) where
+  -- from a machine that has these cells alone
+  from_cells : (q : SealPoint) → 2 ≤ s.log.banks → Stands (λ (c : List (List ℕ)). c ≡ cells) s a → SealLives Blanks s events a b → b.stage ≡ seal_ready q now → PossibleSeal events cells now
+  from_cells q two i run is =
+      let P : List (List ℕ) → Type 0 = AfterAll events (λ (c : List (List ℕ)). c ≡ cells) in
+      let may : P now = ready_may P s.log b.flash q now (ready_stands P s b q now is (after_lives (λ (c : List (List ℕ)). c ≡ cells) s two events a b i run)) in
+      subst (λ (z : List (List ℕ)). PossibleSeal events z now) may.1.0 may.1.1
+
+  pub formatted_lives : (q : SealPoint) → FormattedSeal Blanks s cells a → SealLives Blanks s events a b → b.stage ≡ seal_ready q now → PossibleSeal events cells now
+  formatted_lives q x run is = from_cells q x.fits.two (first_stands s cells a x) run is
+
+  pub later_lives : (earlier : List SealEvent) (start : SealMachine) (p q : SealPoint) → FormattedSeal Blanks s first start → SealLives Blanks s earlier start a → a.stage ≡ seal_ready p cells
+      → SealLives Blanks s events a b → b.stage ≡ seal_ready q now → PossibleSeal events cells now
+  later_lives earlier start p q x before was run is =
+      let P : List (List ℕ) → Type 0 = λ (c : List (List ℕ)). c ≡ first in
+      let i = after_lives P s x.fits.two earlier start a (first_stands s first start x) before in
+      let r = ready_stands (AfterAll earlier P) s a p cells was i in
+      from_cells q x.fits.two (stands_ready p cells was (ready_only (AfterAll earlier P) (λ (c : List (List ℕ)). c ≡ cells) s.log a.flash p cells refl r)) run is
+
+module _ (s : SealSizes) (events : List SealEvent) (cells : List (List ℕ)) (a b : SealMachine) (x : FormattedSeal Blanks s cells a) (run : SealLives Blanks s events a b) where
+  abbrev Any : List (List ℕ) → Type 0
+  Any = AfterAll events (λ (c : List (List ℕ)). c ≡ cells)
+
+  stands_then : Stands Any s b
+  stands_then = after_lives (λ (c : List (List ℕ)). c ≡ cells) s x.fits.two events a b (first_stands s cells a x) run
+
+  pub start_finds : (end : StartEnd) (found : List (List ℕ)) (after : PartFlash) → FindsSeal Blanks s b end found after → (end ≢ NoStore) × (end ≢ Damaged)
+  start_finds end found after f = finds_store Any s b.flash after f.view f.reads (off_rests Any s b stands_then) end found f.finds
+
+  pub start_may : (found : FoundStore) (now : List (List ℕ)) (after : PartFlash) → FindsSeal Blanks s b (Found found) now after → MayDoPartWrites Blanks (start_writes Blanks s found) after
+  start_may found now after f = subst (λ (z : PartFlash). MayDoPartWrites Blanks (start_writes Blanks s found) z) (sym (read_leaves b.flash after f.view f.reads))
+      (start_leaves Any s b.flash after f.view f.reads found now (off_rests Any s b stands_then) f.finds).may
+
+  pub put_may : (p : SealPoint) (now : List (List ℕ)) (cell : ℕ) (payload : List ℕ) → b.stage ≡ seal_ready p now → FitsPut s p → MayDoPartWrites Blanks (put_writes Blanks p cell payload) b.flash
+  put_may p now cell payload is fits = ready_line_may Any s.log b.flash p now (seal_line p.generation (put_deed p cell payload)) (ready_stands Any s b p now is stands_then) (omega (arith, fits))
+
+  pub moves_may : (p : SealPoint) (now made : List (List ℕ)) → b.stage ≡ seal_ready p now → FitsMove s p → length made ≡ length now → MayDoPartWrites Blanks (move_writes Blanks s p made) b.flash
+  moves_may p now made is fits count =
+      let Either : List (List ℕ) → Type 0 = λ (c : List (List ℕ)). (c ≡ now) ⊎ (c ≡ made) in
+      let ready = ready_stands Any s b p now is stands_then in
+      move_may Either s x.fits.two p now made (count ∙ ready_count Any s.log b.flash p now ready) (inr refl) fits b.flash (ready_only Any Either s.log b.flash p now (inl refl) ready)
+
+  pub nothing_after_put : (p : SealPoint) (now made : List (List ℕ)) (cell : ℕ) (payload : List ℕ) (c : SealMachine) (found : FoundStore) (after : PartFlash) → b.stage ≡ seal_ready p now → FitsPut s p
+      → DoesPartWrites Blanks (put_writes Blanks p cell payload) b.flash c.flash → FindsSeal Blanks s c (Found found) made after → start_writes Blanks s found ≡ []
+  nothing_after_put p now made cell payload c found after is fits does finds =
+      let Either : List (List ℕ) → Type 0 = λ (z : List (List ℕ)). (z ≡ now) ⊎ (z ≡ set now cell payload) in
+      let ready = ready_only Any Either s.log b.flash p now (inl refl) (ready_stands Any s b p now is stands_then) in
+      let n = next_done Either s.log b.flash c.flash now (Puts cell payload) tt (inr refl) p ready (omega (arith, fits)) does in
+      nothing_written Either s c.flash after finds.view finds.reads found made p.bank p.generation p.next n.cur n.chain n.copy (set now cell payload) n.bank n.free
+      (done_closed p.bank p.next (seal_line p.generation (put_deed p cell payload)) b.flash c.flash does) finds.finds

@@ -1,0 +1,297 @@
+-- What a move leaves: the deeds that open the bank, the copy in the next one, and the deed that makes it count.
+use Rattle.std.proofs.Common.{◌≡◌, ◌≢◌, inl, inr, ℕ, zero, suc, ◌+◌, ◌<◌, ◌≤◌, Bool, if◌then◌else◌, Option, Some, None, List, ◌∷◌, ◌++◌, length, refl, sym, ap, subst, ◌∙◌, arith}
+use Rattle.std.proofs.lemmas.Bool.{cases_lt, cases_eq, lt-ltb, le-ltb}
+use Rattle.seal_parts.specs.declared.PartClass.TheVariants.{Blanks}
+use Rattle.seal_parts.specs.declared.UnitKind.TheVariants.{Line, Confirm, SecondConfirm}
+use Rattle.seal_parts.specs.declared.LogDeed.{LogDeed}
+use Rattle.seal_parts.specs.declared.DeedBody.TheVariants.{Opens, Moves}
+use Rattle.seal_parts.specs.Parts.{PartUnit, PartFlash}
+use Rattle.seal_parts.specs.Designs.{DoesPartWrites, CutsPartWrites, MayDoPartWrites}
+use Rattle.seal_logs.specs.declared.LogSizes.{LogSizes}
+use Rattle.seal_logs.specs.Reads.{IsChain}
+use Rattle.seal_laws.specs.declared.SealSizes.{SealSizes}
+use Rattle.seal_laws.specs.declared.SealPoint.{SealPoint}
+use Rattle.seal_laws.specs.Writes.{seal_line, deed_of, deed_writes, copy_writes, opening_writes, last_after, bank_after, move_deed, move_writes, FitsMove, point_at, moved_on}
+use Rattle.seal_laws.proofs.Flashes.{firm_line, firm_reads, blank_no_content, Extends, chain_extends, makes_extends, copy_extends, LeavesDeed, deed_done, deed_cut, done_firm, LeavesBank, HasCopyAlone, copy_done, copy_cut, copy_may, does_both, cuts_both, may_both}
+use Rattle.seal_laws.proofs.Sealed.{OlderIn, FreeFrom, SoundBank, HomeReady, stands_move, InBank, before_next}
+use Rattle.seal_laws.proofs.Writing.{Rests, rests_in, Ready, ready_in, ready_at, last_from, free_may, ready_line_may, move_on, in_bank_left, next_left, next_done}
+
+-- ---- the next bank
+
+pub after_apart : (banks b : ℕ) → 2 ≤ banks → b < banks → bank_after banks b ≢ b
+after_apart banks b two inside is = elim (cases_lt (suc b) banks) [
+  | inl less ↦ (let e : bank_after banks b ≡ suc b = ap (λ (z : Bool). if z then suc b else 0) (lt-ltb (suc b) banks less) in omega (arith, e, is))
+  | inr far ↦ (let e : bank_after banks b ≡ 0 = ap (λ (z : Bool). if z then suc b else 0) (le-ltb (suc b) banks far) in omega (arith, e, is, far, two))
+]
+
+pub after_inside : (banks b : ℕ) → 2 ≤ banks → bank_after banks b < banks
+after_inside banks b two = elim (cases_lt (suc b) banks) [
+  | inl less ↦ (let e : bank_after banks b ≡ suc b = ap (λ (z : Bool). if z then suc b else 0) (lt-ltb (suc b) banks less) in omega (arith, e, less))
+  | inr far ↦ (let e : bank_after banks b ≡ 0 = ap (λ (z : Bool). if z then suc b else 0) (le-ltb (suc b) banks far) in omega (arith, e, two))
+]
+
+pub home_ready : (s : LogSizes) (x g : ℕ) (cells : List (List ℕ)) (h : PartFlash) → x < s.banks → length cells ≡ s.cells → HasCopyAlone x g cells h → HomeReady s h x g cells
+home_ready s x g cells h inside count i = record {
+  sound = record {
+    erased = i.erased;
+    inside = inside;
+    confirm = λ k far. inl (i.blank k Confirm (omega (arith, far, count)));
+    second = λ k far. inl (i.blank k SecondConfirm (omega (arith, far, count)));
+    lines = λ k c far below held. absurd (blank_no_content (h.unit x k Line) c (i.blank k Line (omega (arith, far, count))) held);
+  };
+  copied = i.copied;
+  count = count;
+  free = λ k far below. i.blank k Line (omega (arith, far, count));
+}
+
+-- ---- another bank is written
+
+module _ (P : List (List ℕ) → Type 0) (s : LogSizes) (f h : PartFlash) (x from b g last : ℕ) (cur : LogDeed) (chain : List ℕ) (copy now : List (List ℕ)) (count : from ≡ s.cells) (ne : x ≢ b)
+    (w : LeavesBank x from f h) (free : FreeFrom s f b (suc last)) (i : InBank P s f b g last cur chain copy now) where
+  other : b ≢ x
+  other e = ne (sym e)
+
+  extends_kept : Extends (firm_reads f b) (firm_reads h b)
+  extends_kept k l e = ap firm_line (w.banks b k Line other) ∙ e
+
+  pub free_kept : FreeFrom s h b (suc last)
+  free_kept k far below = w.banks b k Line other ∙ free k far below
+
+  sound_kept : SoundBank s f b g → SoundBank s h b g
+  sound_kept o = record {
+    erased = w.erased b other ∙ o.erased;
+    inside = o.inside;
+    confirm = λ k far. elim (o.confirm k far) [ inl is ↦ inl (w.banks b k Confirm other ∙ is) | inr e ↦ inr (e.0, extends_kept k _ e.1) ];
+    second = λ k far. elim (o.second k far) [ inl is ↦ inl (w.banks b k SecondConfirm other ∙ is) | inr e ↦ inr (e.0, extends_kept k _ e.1) ];
+    lines = λ k c far below held. o.lines k c far below (ap (λ (z : PartUnit). z.content) (sym (w.banks b k Line other)) ∙ held);
+  }
+
+  older_kept : (y : ℕ) → OlderIn s f y g → OlderIn s h y g
+  older_kept y old k j d far below held = elim (cases_eq y x) [
+    | inl is ↦ old k j d far below (ap (λ (z : ℕ). (f.unit z k Line).content) is ∙ w.fewer k _ (omega (arith, far, count)) (ap (λ (z : ℕ). (h.unit z k Line).content) (sym is) ∙ held))
+    | inr apart ↦ old k j d far below (ap (λ (z : PartUnit). z.content) (sym (w.banks y k Line apart)) ∙ held)
+  ]
+
+  pub in_bank_kept : InBank P s h b g last cur chain copy now
+  in_bank_kept = record {
+    deeds = record {
+      sound = sound_kept i.deeds.sound;
+      followed = chain_extends s (firm_reads f b) (firm_reads h b) g extends_kept s.places (Some last) chain i.deeds.followed;
+      is = extends_kept last _ i.deeds.is;
+      behind = λ k far below firm. free_kept k (omega (arith, far)) below;
+    };
+    cells = record {
+      copied = copy_extends s (firm_reads f b) (firm_reads h b) g extends_kept copy i.cells.copied;
+      count = i.cells.count;
+      makes = makes_extends s (firm_reads f b) (firm_reads h b) g extends_kept chain copy now i.cells.makes;
+    };
+    home = i.home;
+    may = i.may;
+    stand = λ k d far below held. absurd (blank_no_content (h.unit b k Line) _ (free_kept k (omega (arith, far)) below) held);
+    older = λ y apart. older_kept y (i.older y apart);
+  }
+
+-- ---- the deeds that open the bank
+
+pub record Opened (P : List (List ℕ) → Type 0) (s : LogSizes) (h : PartFlash) (b g last : ℕ) (now : List (List ℕ)) : Type 0 where
+  pub cur : LogDeed
+  pub chain : List ℕ
+  pub copy : List (List ℕ)
+  pub bank : InBank P s h b g last cur chain copy now
+  pub free : FreeFrom s h b (suc last)
+
+module _ (P : List (List ℕ) → Type 0) (s : LogSizes) where
+  pub open_in : (count : ℕ) (f h : PartFlash) (b g last : ℕ) (now : List (List ℕ)) → Opened P s f b g last now → suc last + count ≤ s.places
+      → DoesPartWrites Blanks (opening_writes Blanks b g (suc last) (Some last) count) f h → Opened P s h b g (last + count) now
+  open_in zero f h b g last now o room d = subst (λ (z : PartFlash). Opened P s z b g (last + 0) now) (sym d) (subst (λ (n : ℕ). Opened P s f b g n now) (let e : last ≡ last + 0 = omega arith in e) o)
+  open_in (suc count) f h b g last now o room d =
+      let both = does_both Blanks (deed_writes Blanks b (suc last) (seal_line g (deed_of (Some last) Opens))) (opening_writes Blanks b g (suc (suc last)) (Some (suc last)) count) f h d in
+      let p : SealPoint = point_at b g (suc last) (Some last) 0 in
+      let n = next_done P s f both.0 now Opens tt o.bank.may p (ready_in b g last o.cur o.chain o.copy 0 o.bank o.free refl) (omega (arith, room)) both.1.0 in
+      subst (λ (k : ℕ). Opened P s h b g k now) (let e : suc last + count ≡ last + suc count = omega arith in e)
+      (open_in count both.0 h b g (suc last) now (record { cur = n.cur; chain = n.chain; copy = n.copy; bank = n.bank; free = n.free }) (omega (arith, room)) both.1.1)
+
+  pub open_cut : (count : ℕ) (f h : PartFlash) (b g last : ℕ) (now : List (List ℕ)) → Opened P s f b g last now → suc last + count ≤ s.places
+      → CutsPartWrites Blanks (opening_writes Blanks b g (suc last) (Some last) count) f h → Rests P s h
+  open_cut zero f h b g last now o room d = absurd d
+  open_cut (suc count) f h b g last now o room d =
+      let p : SealPoint = point_at b g (suc last) (Some last) 0 in
+      let ready : Ready P s f p now = ready_in b g last o.cur o.chain o.copy 0 o.bank o.free refl in
+      elim (cuts_both Blanks (deed_writes Blanks b (suc last) (seal_line g (deed_of (Some last) Opens))) (opening_writes Blanks b g (suc (suc last)) (Some (suc last)) count) f h d) [
+        | inl cut ↦ next_left P s f h now Opens tt o.bank.may p ready (omega (arith, room)) cut
+        | inr both ↦ (
+            let n = next_done P s f both.0 now Opens tt o.bank.may p ready (omega (arith, room)) both.1.0 in
+            open_cut count both.0 h b g (suc last) now (record { cur = n.cur; chain = n.chain; copy = n.copy; bank = n.bank; free = n.free }) (omega (arith, room)) both.1.1)
+      ]
+
+  pub open_may : (count : ℕ) (f : PartFlash) (b g last : ℕ) (now : List (List ℕ)) → Opened P s f b g last now → suc last + count ≤ s.places → MayDoPartWrites Blanks (opening_writes Blanks b g (suc last) (Some last) count) f
+  open_may zero f b g last now o room = tt
+  open_may (suc count) f b g last now o room =
+      let p : SealPoint = point_at b g (suc last) (Some last) 0 in
+      let ready : Ready P s f p now = ready_in b g last o.cur o.chain o.copy 0 o.bank o.free refl in
+      let d : LogDeed = deed_of (Some last) Opens in
+      may_both Blanks (deed_writes Blanks b (suc last) (seal_line g d)) (opening_writes Blanks b g (suc (suc last)) (Some (suc last)) count) f (ready_line_may P s f p now (seal_line g d) ready (omega (arith, room)))
+      (λ h done. (let n = next_done P s f h now Opens tt o.bank.may p ready (omega (arith, room)) done in
+      open_may count h b g (suc last) now (record { cur = n.cur; chain = n.chain; copy = n.copy; bank = n.bank; free = n.free }) (omega (arith, room))))
+
+  last_is : (last count : ℕ) → last_after (suc last) (Some last) count ≡ Some (last + count)
+  last_is last zero = ap (λ (n : ℕ). Some n) (let e : last ≡ last + 0 = omega arith in e)
+  last_is last (suc count) = ap (λ (n : ℕ). Some n) (let e : suc last + count ≡ last + suc count = omega arith in e)
+
+  -- the store has all the deeds that a move needs
+  pub record AllOpened (h : PartFlash) (p : SealPoint) (now : List (List ℕ)) : Type 0 where
+    pub last : ℕ
+    pub opened : Opened P s h p.bank p.generation last now
+    pub place : suc last ≡ p.next + p.lacking
+    pub prev : Some last ≡ last_after p.next p.last p.lacking
+
+  pub all_opened : (f h : PartFlash) (p : SealPoint) (now : List (List ℕ)) → Ready P s f p now → p.next + p.lacking ≤ s.places
+      → DoesPartWrites Blanks (opening_writes Blanks p.bank p.generation p.next p.last p.lacking) f h → AllOpened h p now
+  all_opened f h p now (ready_in b g last cur chain copy lacking i free is) room d = subst (λ (z : SealPoint). AllOpened h z now) (sym is) (record {
+    last = last + lacking;
+    opened = open_in lacking f h b g last now (record { cur = cur; chain = chain; copy = copy; bank = i; free = free }) (subst (λ (z : SealPoint). z.next + z.lacking ≤ s.places) is room)
+        (subst (λ (z : SealPoint). DoesPartWrites Blanks (opening_writes Blanks z.bank z.generation z.next z.last z.lacking) f h) is d);
+    place = omega arith;
+    prev = sym (last_is last lacking);
+  })
+  all_opened f h p now (ready_at m g last cur chain b i free is) room d =
+      let under : s.cells + 2 ≤ s.places = subst (λ (z : SealPoint). z.next + z.lacking ≤ s.places) is room in
+      let here : DoesPartWrites Blanks (opening_writes Blanks b (suc g) s.cells None 2) f h = subst (λ (z : SealPoint). DoesPartWrites Blanks (opening_writes Blanks z.bank z.generation z.next z.last z.lacking) f h) is d in
+      let both = does_both Blanks (deed_writes Blanks b s.cells (seal_line (suc g) (deed_of None Opens))) (opening_writes Blanks b (suc g) (suc s.cells) (Some s.cells) 1) f h here in
+      let q : SealPoint = point_at b (suc g) s.cells None 2 in
+      let n = next_done P s f both.0 now Opens tt i.may q (ready_at m g last cur chain b i free refl) (omega (arith, under)) both.1.0 in
+      subst (λ (z : SealPoint). AllOpened h z now) (sym is) (record {
+        last = s.cells + 1;
+        opened = open_in 1 both.0 h b (suc g) s.cells now (record { cur = n.cur; chain = n.chain; copy = n.copy; bank = n.bank; free = n.free }) (omega (arith, under)) both.1.1;
+        place = omega arith;
+        prev = refl;
+      })
+
+  pub opening_cut : (f h : PartFlash) (p : SealPoint) (now : List (List ℕ)) → Ready P s f p now → p.next + p.lacking ≤ s.places
+      → CutsPartWrites Blanks (opening_writes Blanks p.bank p.generation p.next p.last p.lacking) f h → Rests P s h
+  opening_cut f h p now (ready_in b g last cur chain copy lacking i free is) room d =
+      open_cut lacking f h b g last now (record { cur = cur; chain = chain; copy = copy; bank = i; free = free }) (subst (λ (z : SealPoint). z.next + z.lacking ≤ s.places) is room)
+      (subst (λ (z : SealPoint). CutsPartWrites Blanks (opening_writes Blanks z.bank z.generation z.next z.last z.lacking) f h) is d)
+  opening_cut f h p now (ready_at m g last cur chain b i free is) room d =
+      let under : s.cells + 2 ≤ s.places = subst (λ (z : SealPoint). z.next + z.lacking ≤ s.places) is room in
+      let here : CutsPartWrites Blanks (opening_writes Blanks b (suc g) s.cells None 2) f h = subst (λ (z : SealPoint). CutsPartWrites Blanks (opening_writes Blanks z.bank z.generation z.next z.last z.lacking) f h) is d in
+      let q : SealPoint = point_at b (suc g) s.cells None 2 in
+      let ready : Ready P s f q now = ready_at m g last cur chain b i free refl in
+      elim (cuts_both Blanks (deed_writes Blanks b s.cells (seal_line (suc g) (deed_of None Opens))) (opening_writes Blanks b (suc g) (suc s.cells) (Some s.cells) 1) f h here) [
+        | inl cut ↦ next_left P s f h now Opens tt i.may q ready (omega (arith, under)) cut
+        | inr both ↦ (
+            let n = next_done P s f both.0 now Opens tt i.may q ready (omega (arith, under)) both.1.0 in
+            open_cut 1 both.0 h b (suc g) s.cells now (record { cur = n.cur; chain = n.chain; copy = n.copy; bank = n.bank; free = n.free }) (omega (arith, under)) both.1.1)
+      ]
+
+  pub opening_may : (f : PartFlash) (p : SealPoint) (now : List (List ℕ)) → Ready P s f p now → p.next + p.lacking ≤ s.places → MayDoPartWrites Blanks (opening_writes Blanks p.bank p.generation p.next p.last p.lacking) f
+  opening_may f p now (ready_in b g last cur chain copy lacking i free is) room =
+      subst (λ (z : SealPoint). MayDoPartWrites Blanks (opening_writes Blanks z.bank z.generation z.next z.last z.lacking) f) (sym is)
+      (open_may lacking f b g last now (record { cur = cur; chain = chain; copy = copy; bank = i; free = free }) (subst (λ (z : SealPoint). z.next + z.lacking ≤ s.places) is room))
+  opening_may f p now (ready_at m g last cur chain b i free is) room =
+      let under : s.cells + 2 ≤ s.places = subst (λ (z : SealPoint). z.next + z.lacking ≤ s.places) is room in
+      let q : SealPoint = point_at b (suc g) s.cells None 2 in
+      let ready : Ready P s f q now = ready_at m g last cur chain b i free refl in
+      let d : LogDeed = deed_of None Opens in
+      subst (λ (z : SealPoint). MayDoPartWrites Blanks (opening_writes Blanks z.bank z.generation z.next z.last z.lacking) f) (sym is)
+      (may_both Blanks (deed_writes Blanks b s.cells (seal_line (suc g) d)) (opening_writes Blanks b (suc g) (suc s.cells) (Some s.cells) 1) f (ready_line_may P s f q now (seal_line (suc g) d) ready (omega (arith, under)))
+      (λ h done. (let n = next_done P s f h now Opens tt i.may q ready (omega (arith, under)) done in
+      open_may 1 h b (suc g) s.cells now (record { cur = n.cur; chain = n.chain; copy = n.copy; bank = n.bank; free = n.free }) (omega (arith, under)))))
+
+-- ---- a move
+
+module _ (P : List (List ℕ) → Type 0) (s : SealSizes) (two : 2 ≤ s.log.banks) (p : SealPoint) (now made : List (List ℕ)) (count : length made ≡ s.log.cells) (may : P made) (fits : FitsMove s p) where
+  abbrev to : ℕ
+  to = bank_after s.log.banks p.bank
+
+  abbrev deed : LogDeed
+  deed = move_deed s p
+
+  -- behind the deeds that open the bank
+  module _ (f g1 : PartFlash) (o : AllOpened P s.log g1 p now) where
+    apart : to ≢ p.bank
+    apart = after_apart s.log.banks p.bank two o.opened.bank.deeds.sound.inside
+
+    apart_here : p.bank ≢ to
+    apart_here e = apart (sym e)
+
+    pub kept : (g2 : PartFlash) → LeavesBank to (length made) g1 g2 → InBank P s.log g2 p.bank p.generation o.last o.opened.cur o.opened.chain o.opened.copy now
+    kept g2 w = in_bank_kept P s.log g1 g2 to (length made) p.bank p.generation o.last o.opened.cur o.opened.chain o.opened.copy now count apart w o.opened.free o.opened.bank
+
+    pub kept_free : (g2 : PartFlash) → LeavesBank to (length made) g1 g2 → FreeFrom s.log g2 p.bank (suc o.last)
+    kept_free g2 w = free_kept P s.log g1 g2 to (length made) p.bank p.generation o.last o.opened.cur o.opened.chain o.opened.copy now count apart w o.opened.free o.opened.bank
+
+    -- and behind the copy: the deed stands at the next place, and follows the last one
+    module _ (g2 h : PartFlash) (w : LeavesBank to (length made) g1 g2) (alone : HasCopyAlone to (suc p.generation) made g2) where
+      abbrev k : ℕ
+      k = p.next + p.lacking
+
+      abbrev i : InBank P s.log g2 p.bank p.generation o.last o.opened.cur o.opened.chain o.opened.copy now
+      i = kept g2 w
+
+      abbrev free : FreeFrom s.log g2 p.bank k
+      free = subst (λ (n : ℕ). FreeFrom s.log g2 p.bank n) o.place (kept_free g2 w)
+
+      ready : HomeReady s.log g2 to (suc p.generation) made
+      ready = home_ready s.log to (suc p.generation) made g2 (after_inside s.log.banks p.bank two) count alone
+
+      abbrev behind : o.last < k
+      behind = (let e = o.place in omega (arith, e))
+
+      abbrev from : s.log.cells ≤ k
+      from = (let x = last_from s.log g2 p.bank p.generation o.last o.opened.cur o.opened.chain (kept g2 w).deeds in let e = o.place in omega (arith, x, e))
+
+      deed_is : deed ≡ deed_of (Some o.last) (Moves to (suc p.generation))
+      deed_is = ap (λ (z : Option ℕ). deed_of z (Moves to (suc p.generation))) (sym o.prev)
+
+      pub deed_left : LeavesDeed p.bank k (seal_line p.generation deed) g2 h → Rests P s.log h
+      deed_left d = in_bank_left P s.log g2 h p.bank k p.generation deed from (free k (omega arith) fits.place) d fits.place free o.last o.opened.cur o.opened.chain o.opened.copy now i behind
+          (stands_move to made deed_is apart ready may)
+
+      pub deed_on : DoesPartWrites Blanks (deed_writes Blanks p.bank k (seal_line p.generation deed)) g2 h → Ready P s.log h (moved_on s p) made
+      deed_on does =
+          let d = deed_done p.bank k (seal_line p.generation deed) g2 h does in
+          let firm = done_firm p.bank k (seal_line p.generation deed) g2 h does in
+          let e = before_next s.log g2 p.bank p.generation o.last o.opened.cur o.opened.copy now o.opened.chain (kept g2 w).deeds (kept g2 w).cells.makes k behind (Moves to (suc p.generation)) in
+          let m = move_on P s.log g2 h p.bank k p.generation deed from (free k (omega arith) fits.place) d fits.place free o.last to e.ks made (kept g2 w).deeds.sound (kept g2 w).older refl apart ready may
+          (subst (λ (z : LogDeed). IsChain s.log (firm_reads g2 p.bank) p.generation k z.prev e.ks) (sym deed_is) e.chain) firm in
+          ready_at p.bank p.generation k deed (k ∷ e.ks) to m.0 m.1 refl
+
+  pub move_done : (f h : PartFlash) → Ready P s.log f p now → DoesPartWrites Blanks (move_writes Blanks s p made) f h → Ready P s.log h (moved_on s p) made
+  move_done f h ready does =
+      let a = does_both Blanks (opening_writes Blanks p.bank p.generation p.next p.last p.lacking)
+      (copy_writes to (suc p.generation) made ++ deed_writes Blanks p.bank (p.next + p.lacking) (seal_line p.generation deed)) f h does in
+      let b = does_both Blanks (copy_writes to (suc p.generation) made) (deed_writes Blanks p.bank (p.next + p.lacking) (seal_line p.generation deed)) a.0 h a.1.1 in
+      let o = all_opened P s.log f a.0 p now ready (let x = fits.place in omega (arith, x)) a.1.0 in
+      let c = copy_done to (suc p.generation) made a.0 b.0 b.1.0 in
+      deed_on f a.0 o b.0 h c.0 c.1 b.1.1
+
+  pub move_cut : (f h : PartFlash) → Ready P s.log f p now → CutsPartWrites Blanks (move_writes Blanks s p made) f h → Rests P s.log h
+  move_cut f h ready cuts =
+      elim (cuts_both Blanks (opening_writes Blanks p.bank p.generation p.next p.last p.lacking)
+      (copy_writes to (suc p.generation) made ++ deed_writes Blanks p.bank (p.next + p.lacking) (seal_line p.generation deed)) f h cuts) [
+        | inl opening ↦ opening_cut P s.log f h p now ready (let x = fits.place in omega (arith, x)) opening
+        | inr a ↦ (
+            let o = all_opened P s.log f a.0 p now ready (let x = fits.place in omega (arith, x)) a.1.0 in
+            elim (cuts_both Blanks (copy_writes to (suc p.generation) made) (deed_writes Blanks p.bank (p.next + p.lacking) (seal_line p.generation deed)) a.0 h a.1.1) [
+              | inl copy ↦ rests_in p.bank p.generation o.last o.opened.cur o.opened.chain o.opened.copy now (kept f a.0 o h (copy_cut to (suc p.generation) made a.0 h copy))
+              | inr b ↦ (
+                  let c = copy_done to (suc p.generation) made a.0 b.0 b.1.0 in
+                  deed_left f a.0 o b.0 h c.0 c.1 (deed_cut p.bank (p.next + p.lacking) (seal_line p.generation deed) b.0 h b.1.1))
+            ])
+      ]
+
+  pub move_may : (f : PartFlash) → Ready P s.log f p now → MayDoPartWrites Blanks (move_writes Blanks s p made) f
+  move_may f ready =
+      let room : p.next + p.lacking ≤ s.log.places = (let x = fits.place in omega (arith, x)) in
+      may_both Blanks (opening_writes Blanks p.bank p.generation p.next p.last p.lacking) (copy_writes to (suc p.generation) made ++ deed_writes Blanks p.bank (p.next + p.lacking) (seal_line p.generation deed)) f
+      (opening_may P s.log f p now ready room)
+      (λ g1 d1. (
+      let o = all_opened P s.log f g1 p now ready room d1 in
+      may_both Blanks (copy_writes to (suc p.generation) made) (deed_writes Blanks p.bank (p.next + p.lacking) (seal_line p.generation deed)) g1 (copy_may to (suc p.generation) made g1)
+      (λ g2 d2. (
+      let c = copy_done to (suc p.generation) made g1 g2 d2 in
+      let i = kept f g1 o g2 c.0 in
+      let from = last_from s.log g2 p.bank p.generation o.last o.opened.cur o.opened.chain i.deeds in
+      let e = o.place in
+      free_may s.log g2 p.bank p.generation (p.next + p.lacking) i.deeds.sound (omega (arith, from, e)) (kept_free f g1 o g2 c.0 (p.next + p.lacking) (omega (arith, e)) fits.place) (seal_line p.generation deed)))))

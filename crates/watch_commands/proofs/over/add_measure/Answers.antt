@@ -1,0 +1,17 @@
+use Rattle.std.proofs.Common.{◌≡◌, [], ◌++◌, List, ℕ, Bool, sym, ap, ◌∙◌, append-nil}
+use Rattle.std.specs.Prelude.{codes, Option, Some}
+use Rattle.watch_commands.specs.Limits.{limit_over}
+use Rattle.watch_commands.specs.WatchTotals.{before_value, over_end, over_text}
+use Rattle.watch_commands.proofs.Parts.{three_parts}
+use Rattle.watch_commands.proofs.over.add_measure.Goals as goal
+
+pub returns-clause-over : goal.returns-clause-over
+returns-clause-over c =
+    let json : Bool = c.args.json in
+    let begun : List ℕ = c.args.text.now.items in
+    let name : List ℕ = c.args.measure.name.now in
+    let passed : limit_over c.args.measure.limit c.args.measure.number ≡ Some c.in-Some.most = sym c.limit_over.ensures ∙ c.in-Some.is in
+    three_parts begun (before_value json (codes "{\"kind\":\"over\",") (codes "over ")) [] (over_end json name c.args.measure.number c.in-Some.most)
+    _ _ _ (c.add_bytes.ensures.bytes ∙ ap (λ (x : List ℕ). begun ++ x) c.before_value.ensures.text)
+    (sym (append-nil c.add_bytes.new.text.items)) c.add_over_end.ensures.end
+    ∙ ap (λ (o : Option ℕ). begun ++ over_text json [] name c.args.measure.number o) (sym passed)
