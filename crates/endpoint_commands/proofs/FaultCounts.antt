@@ -24,7 +24,7 @@ use Rattle.bus_config.specs.Buses.{NamedBus}
 use Rattle.secoc_node.specs.State.{NodeState}
 use Rattle.endpoint_commands.specs.declared.rules.FrameRule.{FrameRule}
 use Rattle.endpoint_commands.specs.Alone.{TurnsAlone}
-use Rattle.endpoint_commands.specs.Asking.{asked_of, event_asked}
+use Rattle.endpoint_commands.specs.Asking.{asked_of_line, event_asked}
 use Rattle.endpoint_commands.specs.Running.{LineMoment, DoesEvent, TakesLine, tells_failed_disk}
 use Rattle.endpoint_commands.specs.Logs.{Unfailed}
 use Rattle.endpoint_commands.specs.Headline.{BootsWith, RanEndpoint}
@@ -60,7 +60,7 @@ does_later (Some event) (Some told) before after alone = alone.turn.runs.later
 later_lines : (rules : List FrameRule) (start : NodeState) (ms : List LineMoment) (now : NodeState) → Run (TakesLine rules) start ms now → faults_of start ≤ faults_of now
 later_lines rules start [] now run = omega (arith, ap faults_of run)
 later_lines rules start (m ∷ ms) now run =
-    omega (arith, does_later (event_asked rules (asked_of rules m.command)) m.line start m.after run.0, later_lines rules m.after ms now run.1)
+    omega (arith, does_later (event_asked rules (asked_of_line rules m.command)) m.line start m.after run.0, later_lines rules m.after ms now run.1)
 
 calm_line : (fails : Bool) (before after : ℕ) → CountsFailure fails before after → fails ≡ false → after ≡ before
 calm_line false before after counts is = counts
@@ -76,7 +76,7 @@ calm_lines rules start [] now run unfailed = ap faults_of run
 calm_lines rules start (m ∷ ms) now run unfailed =
     calm_lines rules m.after ms now run.1 (All-tail (λ (x : LineMoment). tells_failed_disk x.line ≡ false) m ms unfailed)
     ∙ calm_line (tells_failed_disk m.line) (faults_of start) (faults_of m.after)
-    (does_counts (event_asked rules (asked_of rules m.command)) m.line start m.after run.0)
+    (does_counts (event_asked rules (asked_of_line rules m.command)) m.line start m.after run.0)
     (All-head (λ (x : LineMoment). tells_failed_disk x.line ≡ false) m ms unfailed)
 
 -- a last line that tells one raised it
@@ -86,7 +86,7 @@ rose_lines rules start ms last now run tells =
     let (mid, first, rest) = Run-split (TakesLine rules) start ms (last ∷ []) now run in
     let one : Rose (faults_of mid) (faults_of last.after) =
     rose_line (tells_failed_disk last.line) (faults_of mid) (faults_of last.after)
-    (does_counts (event_asked rules (asked_of rules last.command)) last.line mid last.after rest.0) tells in
+    (does_counts (event_asked rules (asked_of_line rules last.command)) last.line mid last.after rest.0) tells in
     subst (λ (n : NodeState). Rose (faults_of start) (faults_of n)) (sym rest.1)
     (rose_after (faults_of start) (faults_of mid) (faults_of last.after) (later_lines rules start ms mid first) one)
 
@@ -147,7 +147,7 @@ lines_keep : (rules : List FrameRule) (start : NodeState) (ms : List LineMoment)
 lines_keep rules start [] now run = same_keeps start now run
 lines_keep rules start (m ∷ ms) now run =
     keeps_then start.store.disk m.after.store.disk now.store.disk
-    (does_keep (event_asked rules (asked_of rules m.command)) m.line start m.after (λ e is. asked_is rules (asked_of rules m.command) e is) run.0)
+    (does_keep (event_asked rules (asked_of_line rules m.command)) m.line start m.after (λ e is. asked_is rules (asked_of_line rules m.command) e is) run.0)
     (lines_keep rules m.after ms now run.1)
 
 boot_keeps : (image : Option (List ℕ)) (start : NodeState) (told : List Line) (booted : NodeState) → BootsWith image start told booted → KeepsQuiet start.store.disk booted.store.disk

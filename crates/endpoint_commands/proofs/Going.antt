@@ -19,7 +19,7 @@ use Rattle.line_stream.specs.Streams.{kept_of}
 use Rattle.endpoint_commands.specs.declared.rules.FrameRule.{FrameRule}
 use Rattle.endpoint_commands.specs.declared.asking.Asked.{Asked}
 use Rattle.endpoint_commands.specs.declared.counting.LineKind.{LineKind}
-use Rattle.endpoint_commands.specs.Asking.{asked_of, event_asked}
+use Rattle.endpoint_commands.specs.Asking.{asked_of_line, event_asked}
 use Rattle.endpoint_commands.specs.Lines.{answer_text}
 use Rattle.endpoint_commands.specs.Logs.{answer_behind, StopsAt, by_sink, by_disk}
 use Rattle.endpoint_commands.specs.Running.{LineMoment, DoesEvent, TakesLine, line_answer, answers_behind, tells_failed_disk, kind_of_line, count_of_kind, counts_of_lines}
@@ -41,11 +41,11 @@ answers-append rules before (m ∷ one) two =
 -- ---- what is done of the line
 
 -- a line as far as it is kept asks what it asks whole, and has the same answer
-asked_kept : (rules : List FrameRule) (rest : List ℕ) → asked_of rules (take (line_limit + 1) rest) ≡ asked_of rules rest
+asked_kept : (rules : List FrameRule) (rest : List ℕ) → asked_of_line rules (take (line_limit + 1) rest) ≡ asked_of_line rules rest
 asked_kept rules rest = elim (cases_lt line_limit (length rest)) [
   | inl long ↦
       asked_long rules (take (line_limit + 1) rest) (omega (arith, long, length-take (line_limit + 1) rest)) ∙ sym (asked_long rules rest long)
-  | inr few ↦ ap (asked_of rules) (take_all (line_limit + 1) rest (omega (arith, few)))
+  | inr few ↦ ap (asked_of_line rules) (take_all (line_limit + 1) rest (omega (arith, few)))
 ]
 
 answer_long : (rules : List FrameRule) (n : ℕ) (bytes : List ℕ) (told : Option Line) → line_limit < length bytes → line_answer rules n bytes told ≡ []
@@ -148,7 +148,7 @@ module _ (rules : List FrameRule) (start : NodeState) (first : SinkState) (openi
 
     pub last_counts : q.endpoint.counts ≡ counts_of_lines rules (a.moments ++ last_moment ∷ [])
     last_counts =
-        next.counts_are ∙ ap (λ (rs : List FrameRule). counts_with (kind_asked (asked_of rs (kept_of line)) next.told) p.endpoint.counts) a.same
+        next.counts_are ∙ ap (λ (rs : List FrameRule). counts_with (kind_asked (asked_of_line rs (kept_of line)) next.told) p.endpoint.counts) a.same
         ∙ ap (λ (asked : Asked). counts_with (kind_asked asked next.told) p.endpoint.counts) (asked_kept rules line)
         ∙ ap (counts_with (kind_of_line rules last_moment)) a.counts_are ∙ counts_more rules a.moments last_moment
 

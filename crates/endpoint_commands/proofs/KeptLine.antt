@@ -13,25 +13,25 @@ use Rattle.endpoint_commands.specs.declared.rules.FrameRule.{FrameRule}
 use Rattle.endpoint_commands.specs.declared.asking.Asked.{Asked}
 use Rattle.endpoint_commands.specs.declared.asking.Asked.TheVariants.{Nothing, Other}
 use Rattle.endpoint_commands.specs.declared.counting.EndpointCounts.{EndpointCounts}
-use Rattle.endpoint_commands.specs.Asking.{asked_of, asked_of_words, event_asked}
+use Rattle.endpoint_commands.specs.Asking.{asked_of_line, asked_of_words, event_asked}
 use Rattle.endpoint_commands.specs.Lines.{answer_text}
 use Rattle.endpoint_commands.specs.Counting.{kind_asked, counts_with}
 use Rattle.endpoint_commands.specs.Running.{DoesEvent}
 use Rattle.endpoint_commands.specs.States.{EndpointState, AnswersWords, AnswersNext}
 
-pub asked_long : (rules : List FrameRule) (bytes : List ℕ) → line_limit < length bytes → asked_of rules bytes ≡ Other
-unfolding asked_of
+pub asked_long : (rules : List FrameRule) (bytes : List ℕ) → line_limit < length bytes → asked_of_line rules bytes ≡ Other
+unfolding asked_of_line
 asked_long rules bytes long = let is : nat_lt line_limit (length bytes) ≡ true = grind (arith, nat_tests, long) in rw is refl
 
-pub asked_skipped : (rules : List FrameRule) (bytes : List ℕ) → length bytes ≤ line_limit → is_skipped (words_of bytes) ≡ true → asked_of rules bytes ≡ Nothing
-unfolding asked_of
+pub asked_skipped : (rules : List FrameRule) (bytes : List ℕ) → length bytes ≤ line_limit → is_skipped (words_of bytes) ≡ true → asked_of_line rules bytes ≡ Nothing
+unfolding asked_of_line
 asked_skipped rules bytes few skipped = let is : nat_lt line_limit (length bytes) ≡ false = grind (arith, nat_tests, few) in rw is (rw skipped refl)
 
-pub asked_words : (rules : List FrameRule) (bytes : List ℕ) → length bytes ≤ line_limit → is_skipped (words_of bytes) ≡ false → asked_of rules bytes ≡ asked_of_words rules (words_of bytes)
-unfolding asked_of
+pub asked_words : (rules : List FrameRule) (bytes : List ℕ) → length bytes ≤ line_limit → is_skipped (words_of bytes) ≡ false → asked_of_line rules bytes ≡ asked_of_words rules (words_of bytes)
+unfolding asked_of_line
 asked_words rules bytes few kept = let is : nat_lt line_limit (length bytes) ≡ false = grind (arith, nat_tests, few) in rw is (rw kept refl)
 
-pub kept_as : (old : EndpointState) (number : ℕ) (line : List ℕ) (asked : Asked) (node : NodeState) (text : List ℕ) (counts : EndpointCounts) (failed : Bool) → asked_of old.rules line ≡ asked
+pub kept_as : (old : EndpointState) (number : ℕ) (line : List ℕ) (asked : Asked) (node : NodeState) (text : List ℕ) (counts : EndpointCounts) (failed : Bool) → asked_of_line old.rules line ≡ asked
     → AnswersWords old.rules number (words_of line) asked old.node node old.text text old.counts counts failed
     → AnswersNext old number line (record old { node = node; counts = counts; text = text }) failed
 kept_as old number line asked node text counts failed is a = record {

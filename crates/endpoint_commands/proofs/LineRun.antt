@@ -19,7 +19,7 @@ use Rattle.endpoint_commands.specs.declared.asking.Asked.{Asked}
 use Rattle.endpoint_commands.specs.declared.asking.Asked.TheVariants.{Nothing, Other, Frame, Load}
 use Rattle.endpoint_commands.specs.Alone.{TurnsAlone}
 use Rattle.endpoint_commands.specs.Rules.{taken_size}
-use Rattle.endpoint_commands.specs.Asking.{asked_of, event_asked, event_under, frame_event, rule_at}
+use Rattle.endpoint_commands.specs.Asking.{asked_of_line, event_asked, event_under, frame_event, rule_at}
 use Rattle.endpoint_commands.specs.Running.{LineMoment, DoesEvent, TakesLine}
 use Rattle.endpoint_commands.specs.Headline.{BootsWith, boot_events, events_asked, told_in_lines, without_source}
 use Rattle.endpoint_commands.proofs.AloneRun.{AloneState, alone_world, AloneStep, IsOfEndpoint, is_send, is_inject, is_load, is_boot, with_source}
@@ -110,7 +110,7 @@ one_part s (Some e) (Some told) after is does = record {
 -- ---- all lines
 
 abbrev pub event_of_line : List FrameRule → LineMoment → Option Event
-event_of_line rules m = event_asked rules (asked_of rules m.command)
+event_of_line rules m = event_asked rules (asked_of_line rules m.command)
 
 -- lines that were taken, as a run of the node alone
 pub record LinesAlone (rules : List FrameRule) (s : AloneState) (ms : List LineMoment) (now : NodeState) : Type 0 where
@@ -144,7 +144,7 @@ join_part rules s m ms now part rest =
 pub lines_alone : (rules : List FrameRule) (s : AloneState) (ms : List LineMoment) (now : NodeState) → Run (TakesLine rules) s.node ms now → LinesAlone rules s ms now
 lines_alone rules s [] now run = record { moments = []; last = s; run = refl; ends = sym run; commands = refl; lines = refl }
 lines_alone rules s (m ∷ ms) now run =
-    let part : OnePart s (event_of_line rules m) m.line m.after = one_part s (event_of_line rules m) m.line m.after (λ e is. asked_is rules (asked_of rules m.command) e is) run.0 in
+    let part : OnePart s (event_of_line rules m) m.line m.after = one_part s (event_of_line rules m) m.line m.after (λ e is. asked_is rules (asked_of_line rules m.command) e is) run.0 in
     let mid : AloneState = state_then s (event_of_line rules m) m.line m.after in
     join_part rules s m ms now part
     (lines_alone rules mid ms now (subst (λ (n : NodeState). Run (TakesLine rules) n ms now) (sym part.ends) run.1))

@@ -16,7 +16,7 @@ use Rattle.bus_world.specs.Starts.{FindsRoom}
 use Rattle.bus_world.specs.StartRows.{start_row}
 use Rattle.bus_world.specs.StartAnswers.{DiskStates, CountsDiskFault, failed_row}
 use Rattle.bus_world.proofs.CallerLemmas.{none_counted}
-use Rattle.kept_starts.specs.KeepRows.{ComesKept, RefusesDisk}
+use Rattle.kept_starts.specs.KeepRows.{ComesKept, RefusesStart}
 use Rattle.kept_starts.proofs.CallerLemmas.{kept_7, kept_9, kept_10, kept_failure, kept_status}
 use Rattle.endpoint_commands.specs.declared.rules.FrameRule.{FrameRule}
 use Rattle.endpoint_commands.specs.Rows.{EndpointInputs, AsksEndpoint, endpoint_usage, SetsEndpoint, OverEndpoint, LacksEndpointInput, of_config, of_map, of_image}
@@ -53,7 +53,7 @@ module _ (same : Type 0) (i : EndpointInputs) (d : DiskStates) where
       (fault : StartFault) × FindsRoom bus d.before fault × (d.after ≡ d.before) × (row.text ≡ (start_row fault).text)) × same
 
   abbrev pub Tells10 : Row → Type 0
-  Tells10 row = IsUnread i.log × OverEndpoint i (λ bus rules image. RefusesDisk bus d (λ text. row.text ≡ text))
+  Tells10 row = IsUnread i.log × OverEndpoint i (λ bus rules image. RefusesStart bus d (λ text. row.text ≡ text))
 
   abbrev pub TellsAt : ℕ → Row → Type 0
   TellsAt n row = pick (n == 2) (Tells2 row) (pick (n == 3) (Tells3 row) (pick (n == 4) (Tells4 row) (pick (n == 5) (Tells5 row)

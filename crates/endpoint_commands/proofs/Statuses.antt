@@ -15,7 +15,7 @@ use Rattle.bus_world.specs.Starts.{HasRoom, FindsRoom}
 use Rattle.bus_world.specs.declared.start.StartFault.{StartFault}
 use Rattle.bus_world.specs.StartRows.{start_row}
 use Rattle.bus_world.specs.StartAnswers.{DiskStates, CountsDiskFault}
-use Rattle.kept_starts.specs.KeepRows.{BusKeepsDisk, RefusesDisk}
+use Rattle.kept_starts.specs.KeepRows.{BusKeepsDisk, RefusesStart}
 use Rattle.kept_starts.proofs.CallerLemmas.{look_keeps, refuses_more, same_told}
 use Rattle.bus_world.proofs.CallerLemmas.{no_disk, no_line}
 use Rattle.endpoint_commands.specs.declared.rules.FrameRule.{FrameRule}
@@ -96,7 +96,7 @@ module _ (same : Type 0) (i : EndpointInputs) (d : DiskStates) (e : WatchEnding)
   told_9 row (log, (bus, rules, image, sets, (fault, finds, left, text)), before) printed =
       (log, (bus, rules, image, sets, (fault, finds, left, subst (TellsText e) text printed)))
 
-  told_10 : (row : Row) → Tells10 same i d row → TellsText e row.text → IsUnread i.log × OverEndpoint i (λ bus rules image. RefusesDisk bus d (λ text. TellsText e text))
+  told_10 : (row : Row) → Tells10 same i d row → TellsText e row.text → IsUnread i.log × OverEndpoint i (λ bus rules image. RefusesStart bus d (λ text. TellsText e text))
   told_10 row (log, (bus, rules, image, sets, refuses)) printed =
       (log, (bus, rules, image, sets, refuses_more bus d (λ text. row.text ≡ text) (λ text. TellsText e text) (λ text is. subst (TellsText e) is printed) refuses))
 

@@ -33,9 +33,9 @@ asked_at bytes None = Other
 asked_at bytes (Some place) = Frame place bytes
 
 -- a frame on this channel, or none
-abbrev pub asked_by : List FrameRule → List ℕ → Option LogFrame → Asked
-asked_by rules channel None = Other
-asked_by rules channel (Some frame) = asked_at frame.bytes (place_of_rule rules frame.can channel)
+abbrev pub asked_on_channel : List FrameRule → List ℕ → Option LogFrame → Asked
+asked_on_channel rules channel None = Other
+asked_on_channel rules channel (Some frame) = asked_at frame.bytes (place_of_rule rules frame.can channel)
 
 -- a request, or else what these words are as a frame
 abbrev pub asked_first : Option Request → Asked → Asked
@@ -45,11 +45,11 @@ asked_first None asked = asked
 -- the words of a line that isn't skipped
 unfoldable pub asked_of_words : List FrameRule → List (List ℕ) → Asked
 asked_of_words rules words =
-    asked_first (request_form words) (asked_by rules (nth_word words 2) (log_frame_of words))
+    asked_first (request_form words) (asked_on_channel rules (nth_word words 2) (log_frame_of words))
 
 -- a line of a log: another one where it is too long, and nothing where it is skipped
-unfoldable pub asked_of : List FrameRule → List ℕ → Asked
-asked_of rules bytes =
+unfoldable pub asked_of_line : List FrameRule → List ℕ → Asked
+asked_of_line rules bytes =
     if nat_lt line_limit (length bytes) then Other
     else if is_skipped (words_of bytes) then Nothing
     else asked_of_words rules (words_of bytes)

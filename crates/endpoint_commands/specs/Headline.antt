@@ -31,7 +31,7 @@ use Rattle.bus_world.specs.WorldTurns.{TellFirm}
 use Rattle.kept_starts.specs.LookedAt.{LookedAt}
 use Rattle.endpoint_commands.specs.declared.rules.FrameRule.{FrameRule}
 use Rattle.endpoint_commands.specs.Alone.{TurnsAlone}
-use Rattle.endpoint_commands.specs.Asking.{asked_of, event_asked}
+use Rattle.endpoint_commands.specs.Asking.{asked_of_line, event_asked}
 use Rattle.endpoint_commands.specs.Running.{LineMoment, TakesLine}
 
 -- ---- what was done, over a disk of any kind
@@ -68,7 +68,7 @@ boot_events (Some image) = Boot 0 image ∷ []
 
 -- the events that lines ask for, in their order
 abbrev pub events_asked : List FrameRule → List (List ℕ) → List Event
-events_asked rules lines = flat_map (λ bytes. option_to_list (event_asked rules (asked_of rules bytes))) lines
+events_asked rules lines = flat_map (λ bytes. option_to_list (event_asked rules (asked_of_line rules bytes))) lines
 
 -- what was told of them
 abbrev pub told_in_lines : List LineMoment → List Line

@@ -12,7 +12,7 @@ use Rattle.endpoint_commands.specs.declared.rules.FrameRule.{FrameRule}
 use Rattle.endpoint_commands.specs.declared.counting.EndpointCounts.{EndpointCounts}
 use Rattle.endpoint_commands.specs.declared.counting.LineKind.{LineKind}
 use Rattle.endpoint_commands.specs.Alone.{TurnsAlone}
-use Rattle.endpoint_commands.specs.Asking.{asked_of, event_asked}
+use Rattle.endpoint_commands.specs.Asking.{asked_of_line, event_asked}
 use Rattle.endpoint_commands.specs.Counting.{kind_asked, counts_sent, counts_accepted, counts_refused, counts_other, counts_line}
 use Rattle.endpoint_commands.specs.Lines.{answer_text}
 
@@ -26,7 +26,7 @@ DoesEvent (Some event) before None after = ⊥
 DoesEvent (Some event) before (Some told) after = TurnsAlone before event told after
 
 abbrev pub TakesLine : List FrameRule → NodeState → List ℕ → Option Line → NodeState → Type 0
-TakesLine rules before bytes told after = DoesEvent (event_asked rules (asked_of rules bytes)) before told after
+TakesLine rules before bytes told after = DoesEvent (event_asked rules (asked_of_line rules bytes)) before told after
 
 abbrev pub LineMoment : Type 0
 LineMoment = Moment (List ℕ) (Option Line) NodeState
@@ -35,7 +35,7 @@ LineMoment = Moment (List ℕ) (Option Line) NodeState
 
 -- the answer to a line with this number
 abbrev pub line_answer : List FrameRule → ℕ → List ℕ → Option Line → List ℕ
-line_answer rules number bytes told = answer_text rules number (words_of bytes) (asked_of rules bytes) told
+line_answer rules number bytes told = answer_text rules number (words_of bytes) (asked_of_line rules bytes) told
 
 -- the answers to lines behind so many others
 abbrev pub answers_behind : List FrameRule → ℕ → List LineMoment → List ℕ
@@ -52,7 +52,7 @@ tells_failed_disk _ = false
 
 -- what a line of a moment counts as
 abbrev pub kind_of_line : List FrameRule → LineMoment → Option LineKind
-kind_of_line rules m = kind_asked (asked_of rules m.command) m.line
+kind_of_line rules m = kind_asked (asked_of_line rules m.command) m.line
 
 -- how many lines count so, in 64 bits
 abbrev pub count_of_kind : List FrameRule → (Option LineKind → Bool) → List LineMoment → ℕ

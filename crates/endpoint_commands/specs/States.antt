@@ -18,7 +18,7 @@ use Rattle.endpoint_commands.specs.declared.counting.EndpointCounts.{EndpointCou
 use Rattle.endpoint_commands.specs.declared.endpoint.Room.{Room}
 use Rattle.endpoint_commands.specs.Alone.{TurnsAlone}
 use Rattle.endpoint_commands.specs.Rules.{taken_size}
-use Rattle.endpoint_commands.specs.Asking.{asked_of, event_asked, frame_event}
+use Rattle.endpoint_commands.specs.Asking.{asked_of_line, event_asked, frame_event}
 use Rattle.endpoint_commands.specs.Lines.{answer_text, comment_text}
 use Rattle.endpoint_commands.specs.Running.{DoesEvent, TakesLine, line_answer, tells_failed_disk, counts_of_lines}
 use Rattle.endpoint_commands.specs.Counting.{kind_asked, counts_with, counts_line}
@@ -64,7 +64,7 @@ pub record AnswersNext (old : EndpointState) (number : ℕ) (line : List ℕ) (n
   pub told : Option Line
   pub takes : TakesLine old.rules old.node line told new.node
   pub counts : EndpointCounts
-  pub counts_are : counts ≡ counts_with (kind_asked (asked_of old.rules line) told) old.counts
+  pub counts_are : counts ≡ counts_with (kind_asked (asked_of_line old.rules line) told) old.counts
   pub new_is : new ≡ record old {
     node = new.node;
     counts = counts;
@@ -110,7 +110,7 @@ pub record AnswersLine (before : EndpointAtSink) (number : ℕ) (line : List ℕ
   pub rules : after.endpoint.rules ≡ before.endpoint.rules
   pub takes : TakesLine before.endpoint.rules before.endpoint.node line told after.endpoint.node
   pub counts_are : after.endpoint.counts
-      ≡ counts_with (kind_asked (asked_of before.endpoint.rules line) told) before.endpoint.counts
+      ≡ counts_with (kind_asked (asked_of_line before.endpoint.rules line) told) before.endpoint.counts
   pub prints : PrintsAnswer before.sink after.sink (line_answer before.endpoint.rules number line told) told result
 
 -- a pause: the log goes on

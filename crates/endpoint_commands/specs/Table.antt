@@ -24,7 +24,7 @@ use Rattle.bus_world.specs.StartRows.{start_row, CanStart}
 use Rattle.bus_world.specs.StartAnswers.{DiskStates, CountsDiskFault, failed_row}
 use Rattle.disk_looks.specs.Looks.{CanKeep}
 use Rattle.kept_starts.specs.LookedAt.{cells_in_bus}
-use Rattle.kept_starts.specs.KeepRows.{RefusesDisk, BusKeepsDisk}
+use Rattle.kept_starts.specs.KeepRows.{RefusesStart, BusKeepsDisk}
 use Rattle.bus_programs.specs.BusRoutes.{routes_of}
 use Rattle.can_logs.specs.LogRuns.{IsUnwritten, WritesWhole, WatchEnding, on_output, on_errors}
 use Rattle.endpoint_commands.specs.declared.rules.FrameRule.{FrameRule}
@@ -175,7 +175,7 @@ pub record TellsEndpointDisk (same : Type 0) (i : EndpointInputs) (d : DiskState
   -- 10, both ways: the disk failed, and wasn't quiet; or it didn't fail, and its bytes are refused. Another store is
   -- named. At a look that is refused nothing was written; else it is left as an unfinished start leaves it.
   pub store_refused : e.status ≡ 10 → IsUnread i.log
-      × OverEndpoint i (λ bus rules image. RefusesDisk bus d (λ text. TellsText e text))
+      × OverEndpoint i (λ bus rules image. RefusesStart bus d (λ text. TellsText e text))
   pub store_refused_only : (bus : NamedBus) (rules : List FrameRule) (image : Option (List ℕ))
       → OffersEndpoint i bus rules image → HasRoom bus d.before → HoldsNoStore bus d.before
       → MayEndIn 10 (on_errors e)

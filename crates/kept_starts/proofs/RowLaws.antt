@@ -21,7 +21,7 @@ use Rattle.bus_world.proofs.CallerLemmas.{no_disk, no_line, no_room_fault, failu
 use Rattle.kept_starts.specs.declared.first.KeepFault.{KeepFault}
 use Rattle.kept_starts.specs.declared.first.KeepFault.TheVariants as keep
 use Rattle.kept_starts.specs.LookedAt.{cells_in_bus, KeepsTold, FailsToKeep, LookedAt, NotKept}
-use Rattle.kept_starts.specs.KeepRows.{keep_row, IsKeepRow, ComesKept, of_look, of_start, BusKeepsDisk, RefusesDisk, at_look, at_start}
+use Rattle.kept_starts.specs.KeepRows.{keep_row, IsKeepRow, ComesKept, of_look, of_start, BusKeepsDisk, RefusesStart, at_look, at_start}
 use Rattle.kept_starts.proofs.LookLaws.{same_told, same_faults, room_then, room_before, quiet_then, unlooked_same}
 
 -- ---- of the look
@@ -182,12 +182,12 @@ module _ (same : Type 0) (bus : NamedBus) (d : DiskStates) where
   kept_9 row (of_start seen look (comes, known)) nine = (start_9 seen look row comes nine, known nine)
 
   start_10 : (seen : List DiskState) → LookedAt bus d.before seen → (row : Row) → ComesOfStart Attach bus (after_look seen) row → row.status ≡ 10
-      → RefusesDisk bus d (λ text. row.text ≡ text)
+      → RefusesStart bus d (λ text. row.text ≡ text)
   start_10 seen look _ (disks_refused fault finds left) is = absurd (let no : ⊥ = omega (arith, is) in no)
   start_10 seen look _ (store_refused fault room cause leaves) is = at_start seen look fault room cause leaves refl
   start_10 seen look _ (start_without_memory fault may refused calm) is = absurd (let no : ⊥ = omega (arith, is) in no)
 
-  pub kept_10 : (row : Row) → ComesKept same bus d row → row.status ≡ 10 → RefusesDisk bus d (λ text. row.text ≡ text)
+  pub kept_10 : (row : Row) → ComesKept same bus d row → row.status ≡ 10 → RefusesStart bus d (λ text. row.text ≡ text)
   kept_10 row (of_look fault not is) ten =
       let said : row ≡ keep_row fault = look_10 fault row is ten in
       at_look fault not (ap (λ (r : Row). r.status) (sym said) ∙ ten) (ap (λ (r : Row). r.text) said)
@@ -201,6 +201,6 @@ module _ (same : Type 0) (bus : NamedBus) (d : DiskStates) where
   kept_7 row (of_start seen look (comes, known)) seven = start_7 seen row comes seven
 
 -- what is said of the text that tells it
-pub refuses_more : (bus : NamedBus) (d : DiskStates) (P Q : List ℕ → Type 0) → ((text : List ℕ) → P text → Q text) → RefusesDisk bus d P → RefusesDisk bus d Q
+pub refuses_more : (bus : NamedBus) (d : DiskStates) (P Q : List ℕ → Type 0) → ((text : List ℕ) → P text → Q text) → RefusesStart bus d P → RefusesStart bus d Q
 refuses_more bus d P Q more (at_look fault not ten tells) = at_look fault not ten (more _ tells)
 refuses_more bus d P Q more (at_start seen look fault room cause leaves tells) = at_start seen look fault room cause leaves (more _ tells)

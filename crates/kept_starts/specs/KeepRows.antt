@@ -47,9 +47,9 @@ BusKeepsDisk bus d = BusHasDisks Attach bus d × ((disk : DiskState) → KeepsTo
 -- room for the store. At the look: another store's header stands, or none does and a byte isn't zero, or the disk
 -- failed; it was only read. Or at the start after the look: the disk failed, or its bytes are refused, and it is left as
 -- an unfinished start leaves it.
-pub data RefusesDisk (bus : NamedBus) (d : DiskStates) (Tells : List ℕ → Type 0) : Type 0 where
+pub data RefusesStart (bus : NamedBus) (d : DiskStates) (Tells : List ℕ → Type 0) : Type 0 where
   at_look : (fault : KeepFault) → NotKept bus d.before d.after fault → (keep_row fault).status ≡ 10
-      → Tells (keep_row fault).text → RefusesDisk bus d Tells
+      → Tells (keep_row fault).text → RefusesStart bus d Tells
   at_start : (seen : List DiskState) → LookedAt bus d.before seen → (fault : StartFault) → HasRoom bus seen
       → StoreCause Attach bus seen d.after fault → LeavesEach Attach bus seen d.after
-      → Tells (start_row fault).text → RefusesDisk bus d Tells
+      → Tells (start_row fault).text → RefusesStart bus d Tells

@@ -18,7 +18,7 @@ use Rattle.ledger_tables.specs.Held.{ledger_of}
 use Rattle.ledger_shift.specs.declared.line.ShiftLine.{ShiftLine}
 use Rattle.ledger_shift.specs.declared.line.ShiftLine.TheVariants as ask
 use Rattle.ledger_shift.specs.Answers.{AnswersAsk}
-use Rattle.ledger_shift.specs.Shifts.{ShiftAt, conn_of, line_number, ServesAsk, TakesShiftLine}
+use Rattle.ledger_shift.specs.Shifts.{ShiftAt, conn_of, printed_line_number, ServesAsk, TakesShiftLine}
 use Rattle.ledger_shift.specs.Laws.{counter_told, rows_of, IsCallOf, AreCallsOf, ShiftsAreRuns}
 
 module _ {S : Type 0} (g : Ghosts S) where
@@ -33,14 +33,14 @@ module _ {S : Type 0} (g : Ghosts S) where
   none_of before after number same = ([], same, same)
 
   one_of : (before after : ShiftAt S) (number : ℕ) (m : FileMoment) (told : LedgerLine) → m.line ≡ counter_told told → m.after ≡ rows_of g after
-      → FileStep (rows_of g before) m.command m.line m.after → AppendedWell before.sink after.sink (ledger_line_text (line_number number) told) → Calls before number after
+      → FileStep (rows_of g before) m.command m.line m.after → AppendedWell before.sink after.sink (ledger_line_text (printed_line_number number) told) → Calls before number after
   one_of before after number m told line_is after_is step wrote = (m ∷ [], (told, line_is, after_is, step, wrote), (step, sym after_is))
 
   same_rows : (before after : ShiftAt S) → (conn_of g after).now ≡ (conn_of g before).now → rows_of g after ≡ rows_of g before
   same_rows before after same = ap (λ (d : Database). ledger_of (d.trees 0)) same
 
   issue_calls : (before after : ShiftAt S) (number : ℕ) (i : Issue) (told : LedgerLine) → AnswersAsk before.origin (conn_of g before) (conn_of g after) (ask.Issue i) told
-      → AppendedWell before.sink after.sink (ledger_line_text (line_number number) told) → Calls before number after
+      → AppendedWell before.sink after.sink (ledger_line_text (printed_line_number number) told) → Calls before number after
   issue_calls before after number i (line.Issued counter request) does wrote =
       one_of before after number (record { command = IssueBy i before.origin; line = Some counter; after = rows_of g after }) (line.Issued counter request) refl refl does.0 wrote
   issue_calls before after number i (line.Refused why) does wrote =
@@ -51,7 +51,7 @@ module _ {S : Type 0} (g : Ghosts S) where
   issue_calls before after number i line.Armed does wrote = absurd does
 
   confirm_calls : (before after : ShiftAt S) (number : ℕ) (k : Confirm) (told : LedgerLine) → AnswersAsk before.origin (conn_of g before) (conn_of g after) (ask.Confirm k) told
-      → AppendedWell before.sink after.sink (ledger_line_text (line_number number) told) → Calls before number after
+      → AppendedWell before.sink after.sink (ledger_line_text (printed_line_number number) told) → Calls before number after
   confirm_calls before after number k (line.Confirmed counter) does wrote =
       one_of before after number (record { command = ConfirmBy k before.origin; line = Some counter; after = rows_of g after }) (line.Confirmed counter) refl refl does.0 wrote
   confirm_calls before after number k (line.Refused why) does wrote =
@@ -72,7 +72,7 @@ module _ {S : Type 0} (g : Ghosts S) where
   abbrev Earlier : ShiftAt S → ℕ → ShiftAt S → Type 0
   Earlier before number after = IsClean before × Calls before number after
 
-  by_asked : (before after : ShiftAt S) (number : ℕ) (asked : ShiftLine) → ServesAsk g before (line_number number) asked after (Ok tt) → IsClean after → Earlier before number after
+  by_asked : (before after : ShiftAt S) (number : ℕ) (asked : ShiftLine) → ServesAsk g before (printed_line_number number) asked after (Ok tt) → IsClean after → Earlier before number after
   by_asked before after number ask.Skipped (same, done) clean = (subst IsClean same clean, none_of before after number (ap (rows_of g) same))
   by_asked before after number (ask.By origin) (same, done) clean = (subst IsClean same clean, none_of before after number (ap (rows_of g) same))
   by_asked before after number (ask.Issue i) serves clean = (

@@ -18,8 +18,8 @@ unfoldable pub text_form : List ℕ → Option (List ℕ)
 text_form word = if is_utf8 word then Some word else None
 
 -- `by STATION OPERATOR TIME`
-unfoldable pub origin_of : List (List ℕ) → Result RowOrigin Cause
-origin_of words = do
+unfoldable pub origin_form : List (List ℕ) → Result RowOrigin Cause
+origin_form words = do
   station ← field 2 (text_form (nth_word words 2))
   operator ← field 3 (text_form (nth_word words 3))
   time ← field 4 (text_form (nth_word words 4))
@@ -29,21 +29,21 @@ abbrev pub entered_by : RowOrigin → Result ShiftLine Cause
 entered_by origin = Ok (ask.By origin)
 
 -- of campaign's commands those that aren't of a disk
-abbrev pub asked_by : LedgerCommand → Result ShiftLine Cause
-asked_by (command.Issue i) = Ok (ask.Issue i)
-asked_by (command.Confirm k) = Ok (ask.Confirm k)
-asked_by (command.Show uid id) = Ok (ask.Show uid id)
-asked_by (command.Cut torn) = Err cause.Event
-asked_by (command.Stop calls) = Err cause.Event
-asked_by (command.Fail calls) = Err cause.Event
+abbrev pub asked_by_command : LedgerCommand → Result ShiftLine Cause
+asked_by_command (command.Issue i) = Ok (ask.Issue i)
+asked_by_command (command.Confirm k) = Ok (ask.Confirm k)
+asked_by_command (command.Show uid id) = Ok (ask.Show uid id)
+asked_by_command (command.Cut torn) = Err cause.Event
+asked_by_command (command.Stop calls) = Err cause.Event
+asked_by_command (command.Fail calls) = Err cause.Event
 
 -- what is asked by the words of a command
 abbrev pub command_asked : List (List ℕ) → Result ShiftLine Cause
-command_asked words = ledger_command_of words >>= asked_by
+command_asked words = ledger_command_of words >>= asked_by_command
 
 -- what the words of a line ask
 unfoldable pub shift_line_of : List (List ℕ) → Result ShiftLine Cause
 shift_line_of words =
     if is_skipped words then Ok ask.Skipped
-    else (if bytes_eq (nth_word words 1) (codes "by") then (with_count 4 words (origin_of words) >>= entered_by)
+    else (if bytes_eq (nth_word words 1) (codes "by") then (with_count 4 words (origin_form words) >>= entered_by)
     else command_asked words)

@@ -12,7 +12,7 @@ use Rattle.sqlite.specs.State.{HasCleanDisk}
 use Rattle.ledger_rows.specs.Rows.{LedgerRow}
 use Rattle.ledger_rows.specs.Files.{FileMoment, FileStep, AnsweredCountersRise}
 use Rattle.ledger_tables.specs.Held.{ledger_in}
-use Rattle.ledger_shift.specs.Shifts.{ShiftAt, conn_of, line_number, TakesShiftLine}
+use Rattle.ledger_shift.specs.Shifts.{ShiftAt, conn_of, printed_line_number, TakesShiftLine}
 
 -- the counter that a line tells
 abbrev pub counter_told : LedgerLine → Option ℕ
@@ -34,7 +34,7 @@ module _ {S : Type 0} (g : Ghosts S) where
   IsCallOf before number after (m ∷ []) =
       (told : LedgerLine) × (m.line ≡ counter_told told) × (m.after ≡ rows_of after)
       × FileStep (rows_of before) m.command m.line m.after
-      × AppendedWell before.sink after.sink (ledger_line_text (line_number number) told)
+      × AppendedWell before.sink after.sink (ledger_line_text (printed_line_number number) told)
   IsCallOf before number after _ = ⊥
 
   -- the calls of these lines after so many, one after another

@@ -29,8 +29,8 @@ pub record ShiftAt (S : Type 0) : Type 0 where
   pub sink : SinkState
 
 -- the number of a line as it is printed, in 32 bits
-abbrev pub line_number : ℕ → ℕ
-line_number number = min number (2 ^ 32 - 1)
+abbrev pub printed_line_number : ℕ → ℕ
+printed_line_number number = min number (2 ^ 32 - 1)
 
 -- the text of an answer was written; or the sink failed and has a proper prefix of it; or there was no memory for it
 abbrev pub TellsAnswer : SinkState → SinkState → List ℕ → Result (Unit {0}) ShiftEnd → Type 0
@@ -90,7 +90,7 @@ module _ {S : Type 0} (g : Ghosts S) where
 
   -- the same of a line of a log, whose number may be any
   abbrev pub TakesShiftLine : ShiftAt S → ℕ → List ℕ → ShiftAt S → Result (Unit {0}) ShiftEnd → Type 0
-  TakesShiftLine before number text after result = ServesLine before (line_number number) text after result
+  TakesShiftLine before number text after result = ServesLine before (printed_line_number number) text after result
 
   -- a pause, and the end of the script
   abbrev pub PausesShift : ShiftAt S → ShiftAt S → Result (Unit {0}) ShiftEnd → Type 0

@@ -3,7 +3,7 @@ ghost use Rattle.std.specs.Prelude.{◌≡◌, ◌<◌, ◌≤◌, ◌^◌, leng
 ghost use Rattle.std.specs.List.{position_or_len};
 ghost use Rattle.text_lines.specs.Lines.{is_line_feed, words_of};
 ghost use Rattle.text_lines.specs.Readings.{GivesLine, nth_word, with_count};
-ghost use Rattle.ledger_shift.specs.Asks.{text_form, origin_of, asked_by, command_asked, shift_line_of};
+ghost use Rattle.ledger_shift.specs.Asks.{text_form, origin_form, asked_by_command, command_asked, shift_line_of};
 
 use crate::origin::Origin;
 use campaign_commands::CommandReader;
@@ -46,10 +46,10 @@ fn text_word<'a>(words: &Words<'a>, number: u8) -> Result<&'a str, Cause>
 }
 
 /// Who enters rows, of the four words of a line.
-#[tactic(auto, unfolding(crate::specs::Asks::origin_of))]
+#[tactic(auto, unfolding(crate::specs::Asks::origin_form))]
 fn read_origin(alloc: Global, words: &Words<'_>) -> Result<Origin, LineFault>
     requires { length words.now ≡ 4 }
-    ensures { GivesLine (origin_of words.now) result }
+    ensures { GivesLine (origin_form words.now) result }
 {
     let station = text_word(words, 2)?;
     let operator = text_word(words, 3)?;
@@ -62,7 +62,7 @@ fn read_origin(alloc: Global, words: &Words<'_>) -> Result<Origin, LineFault>
 
 /// Who enters rows, of the words of a line that begins with `by`.
 fn read_by(alloc: Global, words: &Words<'_>) -> Result<Origin, LineFault>
-    ensures { GivesLine (with_count 4 words.now (origin_of words.now)) result }
+    ensures { GivesLine (with_count 4 words.now (origin_form words.now)) result }
 {
     if words.len() != 4 {
         return Err(LineFault::Refused(Cause::Count));
@@ -72,7 +72,7 @@ fn read_by(alloc: Global, words: &Words<'_>) -> Result<Origin, LineFault>
 
 /// What a command asks, if it isn't one of a disk.
 fn asked_of(command: LedgerCommand) -> Result<ShiftLine, Cause>
-    ensures { result ≡ asked_by command }
+    ensures { result ≡ asked_by_command command }
 {
     match command {
         LedgerCommand::Issue(asked) => Ok(ShiftLine::Issue(asked)),

@@ -3,7 +3,7 @@ ghost use Rattle.std.specs.Prelude.{◌≡◌, false, IsTrue, IfErr, IfOk};
 ghost use Rattle.sqlite.specs.State.{HasCleanDisk};
 ghost use Rattle.sqlite.specs.Held.{state};
 ghost use Rattle.ledger_tables.specs.Held.{HasLedgerTable};
-ghost use Rattle.ledger_tables.specs.Failing.{HasFailed};
+ghost use Rattle.ledger_tables.specs.Failing.{StoreFailed};
 ghost use Rattle.ledger_shift.specs.Opening.{open_row};
 
 use ledger_tables::{is_ledger, new_ledger};
@@ -40,7 +40,7 @@ pub fn find_table<S: Alter>(conn: &mut Connection<S>, alloc: Global) -> Result<b
     ensures table { HasCleanDisk (state S.Store conn.new) → IfOk result (λ found. IsTrue found
         → HasLedgerTable (state S.Store conn.new)) }
     ensures failed { HasCleanDisk (state S.Store conn.new)
-        → IfErr result (HasFailed (state S.Store conn.old) (state S.Store conn.new)) }
+        → IfErr result (StoreFailed (state S.Store conn.old) (state S.Store conn.new)) }
 {
     if is_ledger(conn, alloc)? {
         return Ok(true);

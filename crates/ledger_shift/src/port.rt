@@ -8,7 +8,7 @@ ghost use Rattle.sqlite.specs.Held.{state};
 ghost use Rattle.ledger_tables.specs.Held.{HasLedgerTable};
 ghost use Rattle.ledger_shift.specs.declared.line.ShiftLine.TheVariants as ask;
 ghost use Rattle.ledger_shift.specs.Shifts.{ShiftAt, TellsAnswer, TellsServed, ServesCommand, ServesAsk, ServesLine};
-ghost use Rattle.ledger_shift.specs.Shifts.{TakesShiftLine, PausesShift, EndsShift, line_number};
+ghost use Rattle.ledger_shift.specs.Shifts.{TakesShiftLine, PausesShift, EndsShift, printed_line_number};
 
 use crate::line::{ShiftLine, read_shift_line};
 use crate::origin::Origin;
@@ -171,7 +171,7 @@ fn take_asked<S: Alter, K: Sink>(
 
 /// The number of a line as it is printed.
 fn printed_number(number: u64) -> u32
-    ensures { result ≡ line_number number }
+    ensures { result ≡ printed_line_number number }
 {
     u32::try_from(number).unwrap_or(u32::MAX)
 }

@@ -33,7 +33,7 @@ use Rattle.sqlite.specs.State.{State, mode_of, HasCause, Fails, IsUnchanged, IsM
 use Rattle.sqlite.proofs.Callers.{IsPlain, command_of, statement_of, runs_as}
 use Rattle.ledger_tables.specs.Table.{entry_table, ledger_schema, no_schema}
 use Rattle.ledger_tables.specs.Held.{ledger_of, ledger_in, HasLedgerTable}
-use Rattle.ledger_tables.specs.Failing.{HasFailed}
+use Rattle.ledger_tables.specs.Failing.{StoreFailed}
 use Rattle.ledger_tables.proofs.Texts.{IsOneStatement, create_text, create_is, create_plain, create_one}
 use Rattle.ledger_tables.proofs.Failed.{one_runs, no_returning}
 use Rattle.ledger_tables.proofs.Added.{went, same_value}
@@ -151,7 +151,7 @@ never_stops limit mode db stop has (inr (after, made, is)) = no_end is
 quiet_create : (c : Compiled) → c.command ≡ CreateTable → c.returning ≡ None → shows_rows false c ≡ false
 quiet_create c is none = rw (is, none) refl
 
-pub create_fails : (old new : State) (e : Error) → old.now.schema ≡ no_schema → Executes create_text [] old new (Err e) → HasFailed old new e
+pub create_fails : (old new : State) (e : Error) → old.now.schema ≡ no_schema → Executes create_text [] old new (Err e) → StoreFailed old new e
 unfolding ExecutesIn IsNotRun
 create_fails old new e has (inl (inl (none, same))) = absurd (one_runs create_text [] old e (subst (λ t. IsOneStatement create_text 0 (understood t create_text)) (sym has) create_one) none)
 create_fails old new e has (inl (inr (cause, is, why, back, tells))) = (cause, is, why)
@@ -175,7 +175,7 @@ create_fails old new e has (inr (c, st, runs)) =
     caused Broken why = why
     caused Unstorable why = never_stops old.step_limit (mode_of old) old.now None has why
 
-    settle : Failing CreateTable create_text → HasFailed old new e
+    settle : Failing CreateTable create_text → StoreFailed old new e
     settle (inl (inl (inl (is, inl (named, begun))), same)) = absurd (let e = named in cc)
     settle (inl (inl (inl (is, inr (inl named, shut))), same)) = absurd (let e = named in cc)
     settle (inl (inl (inl (is, inr (inr named, shut))), same)) = absurd (let e = named in cc)
@@ -184,6 +184,6 @@ create_fails old new e has (inr (c, st, runs)) =
     settle (inl (inr (may, does), same)) = absurd (never_stops old.step_limit (mode_of old) old.now (Some e) has does)
     settle (inr (cause, is, why, back, tells)) = (cause, is, caused cause why)
 
-pub create_failed : (old new : State) (r : Result ℕ Error) → old.now.schema ≡ no_schema → Executes create_text [] old new r → IfErr r (HasFailed old new)
+pub create_failed : (old new : State) (r : Result ℕ Error) → old.now.schema ≡ no_schema → Executes create_text [] old new r → IfErr r (StoreFailed old new)
 create_failed old new (Ok n) has h = tt
 create_failed old new (Err e) has h = create_fails old new e has h

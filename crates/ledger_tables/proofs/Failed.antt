@@ -47,7 +47,7 @@ use Rattle.ledger_rows.specs.Rows.{LedgerRow}
 use Rattle.ledger_tables.specs.declared.adding.NewRow.{NewRow}
 use Rattle.ledger_tables.specs.Table.{entry_table, ledger_schema}
 use Rattle.ledger_tables.specs.Held.{HasLedgerTable}
-use Rattle.ledger_tables.specs.Failing.{HasFailed, FailsToLook, table_row, IsTooLong, FailsToAdd, IsUndone, HasNoNumber}
+use Rattle.ledger_tables.specs.Failing.{StoreFailed, FailsToLook, table_row, IsTooLong, FailsToAdd, IsUndone, HasNoNumber}
 use Rattle.ledger_tables.proofs.Texts.{IsOneStatement, slot_text, slot_query, slot_is, slot_plain, slot_one, insert_text, terms, insert_is, insert_plain, insert_one}
 use Rattle.ledger_tables.proofs.Stated.{still}
 use Rattle.ledger_tables.proofs.Matching.{asked}
@@ -284,7 +284,7 @@ module _ (row : NewRow) (station operator time : List ℕ) where
   too_long old (inr (inr (why, refuses, is))) = absurd (untold (sym is))
 
   caused : (old new : State) (cause : StoreError) → HasCause old new (Does old.step_limit mode params old.now (text row station operator time) None (command row station operator time) (Err None)) cause
-      → old.now.schema ≡ ledger_schema → HasFailed old new (store_error cause) ⊎ IsTooLong it old (store_error cause)
+      → old.now.schema ≡ ledger_schema → StoreFailed old new (store_error cause) ⊎ IsTooLong it old (store_error cause)
   caused old new OutOfMemory why has = inl (OutOfMemory, refl, why)
   caused old new Io why has = inl (Io, refl, why)
   caused old new Corrupt why has = inl (Corrupt, refl, why)
@@ -292,7 +292,7 @@ module _ (row : NewRow) (station operator time : List ℕ) where
   caused old new Broken why has = inl (Broken, refl, why)
   caused old new Unstorable why has = inr (refl, too_long old (does_stops old.step_limit old.now None has why))
 
-  failed_add : (old new : State) (e : Error) → HasFailed old new e ⊎ IsTooLong it old e → FailsToAdd it old new e
+  failed_add : (old new : State) (e : Error) → StoreFailed old new e ⊎ IsTooLong it old e → FailsToAdd it old new e
   failed_add old new e (inl h) = inl h
   failed_add old new e (inr h) = inr (inr (inl h))
 
@@ -320,7 +320,7 @@ module _ (row : NewRow) (station operator time : List ℕ) where
       settle (inl (inl (inr (is, name, inr named, unnamed)), same)) = absurd (let e = named in cc)
       settle (inl (inr (may, does), same)) = (refused old new e (does_stops old.step_limit old.now (Some e) has.schema does), undone_same old new has same)
       settle (inr (cause, is, why, back, tells)) =
-          (failed_add old new e (subst (λ x. HasFailed old new x ⊎ IsTooLong it old x) (sym is) (caused old new cause why has.schema)), undone_back old new has back)
+          (failed_add old new e (subst (λ x. StoreFailed old new x ⊎ IsTooLong it old x) (sym is) (caused old new cause why has.schema)), undone_back old new has back)
 
   pub add_failed : (old new : State) (r : Result ℕ Error) → HasLedgerTable old → Executes insert_text params old new r → IfErr r (FailsToAdd it old new) × OnErr r (IsUndone old new)
   add_failed old new (Ok n) has h = (tt, tt)

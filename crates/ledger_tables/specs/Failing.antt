@@ -27,8 +27,8 @@ use Rattle.ledger_tables.specs.Table.{entry_table, ledger_schema}
 use Rattle.ledger_tables.specs.Held.{HasLedgerTable, number_held, slot_row_in}
 
 -- no memory, a fault that the file counted, or a connection that is shut
-abbrev pub HasFailed : State → State → Error → Type 0
-HasFailed old new e = (cause : StoreError) × (e ≡ store_error cause) × HasCause old new ⊥ cause
+abbrev pub StoreFailed : State → State → Error → Type 0
+StoreFailed old new e = (cause : StoreError) × (e ≡ store_error cause) × HasCause old new ⊥ cause
 
 -- a query that gave up under a limit on its steps
 abbrev pub GaveUp : State → Error → Type 0
@@ -54,7 +54,7 @@ pub record IsDamagedFor (uid : List ℕ) (id : ℕ) (row : Row) : Type 0 where
 -- a look at the rows of a unit and slot fails
 abbrev pub FailsToLook : List ℕ → ℕ → State → State → Error → Type 0
 FailsToLook uid id old new e =
-    HasFailed old new e
+    StoreFailed old new e
     ⊎ (GaveUp old e ⊎ ((e ≡ SqliteFailure code.DatabaseCorrupt) × Any (IsDamagedFor uid id) (old.now.trees 0)))
 
 -- ---- a row that can't be added
@@ -79,7 +79,7 @@ HasNoNumber old e =
     ⊎ ((e ≡ SqliteFailure code.NoRowid) × (fits_i64 (next_rowid (old.now.trees 0)) ≡ false))
 
 abbrev pub FailsToAdd : LedgerRow → State → State → Error → Type 0
-FailsToAdd it old new e = HasFailed old new e ⊎ (GaveUp old e ⊎ (IsTooLong it old e ⊎ HasNoNumber old e))
+FailsToAdd it old new e = StoreFailed old new e ⊎ (GaveUp old e ⊎ (IsTooLong it old e ⊎ HasNoNumber old e))
 
 -- ---- a verb
 

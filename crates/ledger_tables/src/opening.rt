@@ -7,7 +7,7 @@ ghost use Rattle.ledger_tables.specs.Table.{ledger_schema, no_schema};
 ghost use Rattle.sqlite.specs.declared.error.ErrorCode.TheVariants.{OutOfMemory};
 ghost use Rattle.sqlite.specs.declared.error.Error.TheVariants.{SqliteFailure};
 ghost use Rattle.ledger_tables.specs.Held.{ledger_of, ledger_in, HasLedgerTable};
-ghost use Rattle.ledger_tables.specs.Failing.{HasFailed};
+ghost use Rattle.ledger_tables.specs.Failing.{StoreFailed};
 
 use crate::schemas::{is_ledger_schema, is_no_schema};
 use sqlite::{Alter, Connection, Error};
@@ -20,7 +20,7 @@ fn create<S: Alter>(conn: &mut Connection<S>) -> Result<usize, Error>
     ensures ready { HasCleanDisk (state S.Store conn.new) → OnOk result (HasLedgerTable (state S.Store conn.new)) }
     ensures none { HasCleanDisk (state S.Store conn.new) → OnOk result (ledger_in (state S.Store conn.new) ≡ []) }
     ensures failed { HasCleanDisk (state S.Store conn.new)
-        → IfErr result (HasFailed (state S.Store conn.old) (state S.Store conn.new)) }
+        → IfErr result (StoreFailed (state S.Store conn.old) (state S.Store conn.new)) }
     ensures crash { Survives (state S.Store conn.old) (state S.Store conn.new) (λ left. ledger_of (left 0) ≡ []) }
 {
     conn.execute(
@@ -39,7 +39,7 @@ pub fn new_ledger<S: Alter>(conn: &mut Connection<S>) -> Result<bool, Error>
     ensures something { IfOk result (λ made. made ≡ false
         → (¬ ((state S.Store conn.old).now.schema ≡ no_schema)) × (conn.new ≡ conn.old)) }
     ensures failed { HasCleanDisk (state S.Store conn.new)
-        → IfErr result (HasFailed (state S.Store conn.old) (state S.Store conn.new)) }
+        → IfErr result (StoreFailed (state S.Store conn.old) (state S.Store conn.new)) }
     ensures crash { Survives (state S.Store conn.old) (state S.Store conn.new) (λ left. ledger_of (left 0) ≡ []) }
 {
     if !is_no_schema(conn.schema()) {

@@ -24,29 +24,29 @@ number_after name otherwise (first ∷ next ∷ rest) =
     else Some (record { number = otherwise; rest = first ∷ next ∷ rest })
 
 -- the values of freshness that are looked at, and the words that name the map and the log
-pub record Asked : Type 0 where
+pub record LocateArguments : Type 0 where
   pub candidates : Candidates
   pub inputs : List (List ℕ)
 
-abbrev pub two_inputs : ℕ → NumberAndRest → Option Asked
+abbrev pub two_inputs : ℕ → NumberAndRest → Option LocateArguments
 two_inputs first last =
     if length last.rest == 2
     then Some (record { candidates = record { first = first; last = last.number }; inputs = last.rest })
     else None
 
-abbrev pub last_and_inputs : NumberAndRest → Option Asked
+abbrev pub last_and_inputs : NumberAndRest → Option LocateArguments
 last_and_inputs first =
     option_and_then (two_inputs first.number) (number_after (codes "--to") (2 ^ 32) first.rest)
 
 -- without `--from` the first value is 1, and without `--to` the last is 2^32
-abbrev pub locate_asked : List (List ℕ) → Option Asked
+abbrev pub locate_asked : List (List ℕ) → Option LocateArguments
 locate_asked [] = None
 locate_asked (name ∷ rest) =
     if bytes_eq name (codes "--locate") then option_and_then last_and_inputs (number_after (codes "--from") 1 rest)
     else None
 
 -- the words that name the map and the log, if all are of the form; else none
-abbrev pub inputs_asked : Option Asked → List (List ℕ)
+abbrev pub inputs_asked : Option LocateArguments → List (List ℕ)
 inputs_asked None = []
 inputs_asked (Some asked) = asked.inputs
 

@@ -11,7 +11,7 @@ use Rattle.program_edge.specs.Endings.{EndsInRow}
 use Rattle.can_logs.specs.LogRuns.{LogInputs, IsUnwritten, WatchEnding, on_output, on_errors}
 use Rattle.can_logs.specs.MapFaults.{map_input_row, map_line_row}
 use Rattle.can_logs.specs.WatchMaps.{NumberedMap, watch_map_of, IsMapOf}
-use Rattle.locate_commands.specs.LocateOptions.{Asked, locate_asked}
+use Rattle.locate_commands.specs.LocateOptions.{LocateArguments, locate_asked}
 use Rattle.locate_commands.specs.Locating.{zeroed, FoundIn, located_text, locate_status}
 
 -- the line that is printed if the words are malformed
@@ -37,12 +37,12 @@ IsAskingMapFault map fault = (text : List ℕ) × ReadsWhole map text × (watch_
 
 -- the words are of the form
 abbrev pub AsksLocate : List (List ℕ) → Type 0
-AsksLocate words = (asked : Asked) × (locate_asked words ≡ Some asked)
+AsksLocate words = (asked : LocateArguments) × (locate_asked words ≡ Some asked)
 
 -- they are, the map has lines, and the log was read whole; this holds of the text of the map, and of its lines, the log
 -- and the values that are looked at
 abbrev pub OverLocate : LogInputs → (List ℕ → FoundIn → Type 0) → Type 0
-OverLocate i P = (asked : Asked) × (text : List ℕ) × (f : FoundIn) × (locate_asked i.words ≡ Some asked)
+OverLocate i P = (asked : LocateArguments) × (text : List ℕ) × (f : FoundIn) × (locate_asked i.words ≡ Some asked)
     × (f.candidates ≡ asked.candidates) × ReadsAskingMap i text f.mapping × ReadsWhole i.log f.log × P text f
 
 -- the row on standard output: the map with each FRESH that was found, and 0 if each was, else 1

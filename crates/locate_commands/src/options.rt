@@ -28,9 +28,9 @@ pub struct LocateWords<'a> {
 
 impl<'a> Model for LocateWords<'a> {
     ghost use Rattle.std.specs.Prelude.{map, string_bytes};
-    ghost use Rattle.locate_commands.specs.LocateOptions.{Asked};
+    ghost use Rattle.locate_commands.specs.LocateOptions.{LocateArguments};
 
-    ghost Value = { Asked };
+    ghost Value = { LocateArguments };
 
     ghost view = { λ w. record { candidates = w.candidates; inputs = map string_bytes w.inputs.now } };
 }

@@ -6,7 +6,7 @@ use Rattle.store_plan.specs.declared.growing.TellFault.TheVariants.{Damaged}
 use Rattle.store_plan.specs.Growing.{SaysCells, EndsTooSoon}
 use Rattle.store_plan.proofs.CallerLemmas.{any-count, counts-once, says-once}
 use Rattle.rathonsi_c.specs.declared.route.RathonsiRoute.{RathonsiRoute}
-use Rattle.rathonsi_c.specs.Growing.{TellsCells, TellAnswers, Untold}
+use Rattle.rathonsi_c.specs.Growing.{SaysSize, TellAnswers, Untold}
 use Rattle.rathonsi_c.specs.Images.{IdIsHeld}
 use Rattle.rathonsi_c.specs.Routes.{InRanges}
 use Rattle.rathonsi_c.specs.Stores.{RouteIdIsHeld}
@@ -22,7 +22,7 @@ not-soon image n s (m, (counts, short, other)) =
     ]
 
 -- of an image that says a number the rest says it
-pub tell-says : (image : List ℕ) (n : ℕ) (rest : ℤ → Type 0) (status : ℤ) → TellsCells image n → rest status → TellAnswers image rest status
+pub tell-says : (image : List ℕ) (n : ℕ) (rest : ℤ → Type 0) (status : ℤ) → SaysSize image n → rest status → TellAnswers image rest status
 tell-says image n rest status told says =
     let room = told.says.counts.room in
     let least = told.least in

@@ -18,7 +18,7 @@ use Rattle.store_plan.specs.Plans.{PlansPut, IsEmptyPlan, CutWithin, applied}
 use Rattle.store_plan.specs.Growing.{EndsErased, MayGrow, PlansGrowth, PlansCount}
 use Rattle.store_plan.proofs.CallerLemmas.{applied-none, count-cells, count-done, count-same, cut-leaves, cut-none, free-none, growth-cut, growth-done, growth-others, growth-same, head-counted, is-some, put-done, said-beside, says-once}
 use Rattle.rathonsi_c.specs.declared.route.RathonsiRoute.{RathonsiRoute}
-use Rattle.rathonsi_c.specs.Growing.{TellsCells, PlansNumber, PlansCell, IsSpare}
+use Rattle.rathonsi_c.specs.Growing.{SaysSize, PlansNumber, PlansCell, IsSpare}
 use Rattle.rathonsi_c.specs.Lives.{RisesTo}
 use Rattle.rathonsi_c.specs.Softwares.{Table, GrowthStep, GrowthSteps}
 use Rattle.rathonsi_c.proofs.DiskLaws.{front-cell, front-part}
@@ -73,13 +73,13 @@ pub record Made (x y : List ℕ) (j : ℕ) : Type 0 where
 pub record Stepped (x y : List ℕ) : Type 0 where
   pub long : length y ≡ length x
   pub count : ℕ
-  pub told : TellsCells x count
+  pub told : SaysSize x count
   pub next : ℕ
   pub least : count ≤ next
-  pub said : TellsCells y next
+  pub said : SaysSize y next
   pub cells : (j : ℕ) → (cell_at y j ≡ cell_at x j) ⊎ Made x y j
 
-module _ (x : List ℕ) (n : ℕ) (told : TellsCells x n) (y : List ℕ) where
+module _ (x : List ℕ) (n : ℕ) (told : SaysSize x n) (y : List ℕ) where
   by-nothing : y ≡ x → Stepped x y
   by-nothing e = record {
     long = ap length e;
@@ -87,7 +87,7 @@ module _ (x : List ℕ) (n : ℕ) (told : TellsCells x n) (y : List ℕ) where
     told = told;
     next = n;
     least = omega arith;
-    said = subst (λ (z : List ℕ). TellsCells z n) (sym e) told;
+    said = subst (λ (z : List ℕ). SaysSize z n) (sym e) told;
     cells = λ j. inl (ap (λ (z : List ℕ). cell_at z j) e);
   }
 
@@ -178,7 +178,7 @@ module _ (x : List ℕ) (n : ℕ) (told : TellsCells x n) (y : List ℕ) where
       }
 
 -- what a claim leaves tells the same number
-pub by-put-told : (x : List ℕ) (n : ℕ) → TellsCells x n → (y : List ℕ) (plan : Plan) (i : ℕ) (c : List ℕ) → 14 ≤ i → i < n → Head n x → IsSpare x i → PlansPut plan x i c → CutWithin plan x y → TellsCells y n
+pub by-put-told : (x : List ℕ) (n : ℕ) → SaysSize x n → (y : List ℕ) (plan : Plan) (i : ℕ) (c : List ℕ) → 14 ≤ i → i < n → Head n x → IsSpare x i → PlansPut plan x i c → CutWithin plan x y → SaysSize y n
 unfolding by-put
 by-put-told x n told y plan i c least below head spare p cut = (by-put x n told y plan i c least below head spare p cut).said
 
@@ -260,8 +260,8 @@ follows table zero x z e = record {
 follows table (suc steps) x z (y, (step, rest)) = follows-both x y z (follows-step x y (stepped table x y step)) (follows table steps y z rest)
 
 -- a store that tells its cells tells them after each step, and no fewer
-pub tells-on : (table : Table) (steps : ℕ) (n : ℕ) (x z : List ℕ) → TellsCells x n → GrowthSteps table steps x z → (m : ℕ) × (TellsCells z m × (n ≤ m))
-tells-on table zero n x z told e = (n, (subst (λ (w : List ℕ). TellsCells w n) (sym e) told, omega arith))
+pub tells-on : (table : Table) (steps : ℕ) (n : ℕ) (x z : List ℕ) → SaysSize x n → GrowthSteps table steps x z → (m : ℕ) × (SaysSize z m × (n ≤ m))
+tells-on table zero n x z told e = (n, (subst (λ (w : List ℕ). SaysSize w n) (sym e) told, omega arith))
 tells-on table (suc steps) n x z told (y, (step, rest)) =
     let s = stepped table x y step in
     let same : s.count ≡ n = says-once x s.count n s.told.says told.says in

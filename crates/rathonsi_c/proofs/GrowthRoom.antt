@@ -14,11 +14,11 @@ use Rattle.store_plan.specs.Growing.{SaysCells, IsErased, EndsErased, MayGrow, P
 use Rattle.store_plan.proofs.CallerLemmas.{applied-cell, applied-head, applied-none, cell-apart, count-cells, count-done, count-head, count-same, cut-leaves, erased-free, free-none, growth-cell, growth-cut, growth-done, growth-head, growth-others, growth-same, put-done, put-same, said-beside, says-once}
 use Rattle.rathonsi_c.specs.declared.TheConstants.{OK}
 use Rattle.rathonsi_c.specs.declared.route.RathonsiRoute.{RathonsiRoute}
-use Rattle.rathonsi_c.specs.Growing.{TellsCells, PlansNumber, PlansCell, IsSpare, GrowAnswers, NumberAnswers, PlaceAnswers, OwnAnswers}
+use Rattle.rathonsi_c.specs.Growing.{SaysSize, PlansNumber, PlansCell, IsSpare, GrowAnswers, NumberAnswers, CellPlaceAnswers, OwnAnswers}
 use Rattle.rathonsi_c.specs.Images.{ImageBound}
 use Rattle.rathonsi_c.specs.Lives.{SameRoute}
 use Rattle.rathonsi_c.specs.Routes.{InRanges}
-use Rattle.rathonsi_c.specs.Softwares.{Table, GrowthSteps, StoreWithRoom, HasOwnCell, HasFirst}
+use Rattle.rathonsi_c.specs.Softwares.{Table, GrowthSteps, StoreWithRoom, HasOwnCell, HasFirstBound}
 use Rattle.rathonsi_c.proofs.AnswerLaws.{damaged_keeps_none}
 use Rattle.rathonsi_c.proofs.GrowthLaws.{Head, cut-or-none, long_cell, no_bound_is_zeros, nothing-left, by-put-told}
 use Rattle.rathonsi_c.proofs.RollBackLaws.{tell-only}
@@ -32,7 +32,7 @@ module _ (n top : ℕ) (x y : List ℕ) (r : StoreWithRoom n top x) where
       elim erased [ inl zeros ↦ inl (same ∙ zeros) | inr ones ↦ inr (same ∙ ones) ]
 
   -- a change before the end of the cells
-  keep : (lo k : ℕ) → SameOutside lo k x y → lo + k ≤ first_at n → TellsCells y n → StoreWithRoom n top y
+  keep : (lo k : ℕ) → SameOutside lo k x y → lo + k ≤ first_at n → SaysSize y n → StoreWithRoom n top y
   keep lo k s before told = record {
     told = told;
     least = r.least;
@@ -56,7 +56,7 @@ module _ (n top : ℕ) (x y : List ℕ) (r : StoreWithRoom n top x) where
       let ends : EndsErased x n = elim r.told.says.sure [ inl head ↦ absurd (other head) | inr e ↦ e ] in
       keep 10 2 s (omega arith) (record { least = r.told.least; most = r.told.most; says = said-beside x y n s r.told.says.head r.told.says.counts ends })
 
-  by-claim : (plan : Plan) (i : ℕ) (c : List ℕ) → i < n → PlansPut plan x i c → CutWithin plan x y → TellsCells y n → StoreWithRoom n top y
+  by-claim : (plan : Plan) (i : ℕ) (c : List ℕ) → i < n → PlansPut plan x i c → CutWithin plan x y → SaysSize y n → StoreWithRoom n top y
   by-claim plan i c below p cut told = keep (first_at i) 68 (put-same plan x i c p y cut) (omega arith) told
 
   by-grow : (plan : Plan) (c : List ℕ) → length c ≡ 32 → n < top → Head n x → MayGrow x n → PlansGrowth plan n c → CutWithin plan x y → (m : ℕ) × (StoreWithRoom m top y × (n ≤ m))
@@ -162,7 +162,7 @@ module _ (table : Table) (which : ℕ) (r : RathonsiRoute) (same : SameRoute (ta
   abbrev new : List ℕ
   new = bound_cell r.data_id p.direction (table.first which)
 
-  has-first : j ≡ r.cell → cell_at y r.cell ≡ Some new → HasFirst table y j
+  has-first : j ≡ r.cell → cell_at y r.cell ≡ Some new → HasFirstBound table y j
   has-first here is = record {
     which = which;
     at = sym same.cell ∙ sym here;
@@ -171,7 +171,7 @@ module _ (table : Table) (which : ℕ) (r : RathonsiRoute) (same : SameRoute (ta
     is = ap (cell_at y) here ∙ (is ∙ ap (λ id. Some (bound_cell id p.direction (table.first which))) same.data_id);
   }
 
-  first-grown : r.cell ≡ p.count → Head p.count x → MayGrow x p.count → PlansGrowth plan p.count new → (cell_at y j ≡ cell_at x j) ⊎ HasFirst table y j
+  first-grown : r.cell ≡ p.count → Head p.count x → MayGrow x p.count → PlansGrowth plan p.count new → (cell_at y j ≡ cell_at x j) ⊎ HasFirstBound table y j
   first-grown at head may grows =
       let n = p.count in
       let sized = long_cell r.data_id p.direction (table.first which) in
@@ -186,7 +186,7 @@ module _ (table : Table) (which : ℕ) (r : RathonsiRoute) (same : SameRoute (ta
         | inr there ↦ inl (growth-others n new sized x room plan grows y j cut there)
       ]
 
-  first-claimed : PlansPut plan x r.cell new → (cell_at y j ≡ cell_at x j) ⊎ HasFirst table y j
+  first-claimed : PlansPut plan x r.cell new → (cell_at y j ≡ cell_at x j) ⊎ HasFirstBound table y j
   first-claimed put =
       let l = (cut-leaves plan x y (cut-or-none plan x y (put-done plan x r.cell new put) after)).put r.cell new put in
       elim (cases_eq j r.cell) [
@@ -197,7 +197,7 @@ module _ (table : Table) (which : ℕ) (r : RathonsiRoute) (same : SameRoute (ta
         | inr there ↦ inl (l.others j there)
       ]
 
-  first-cell : (cell_at y j ≡ cell_at x j) ⊎ HasFirst table y j
+  first-cell : (cell_at y j ≡ cell_at x j) ⊎ HasFirstBound table y j
   first-cell = elim p.plans [
     | inl (other, number) ↦
         let room : 32 ≤ length x = (let l = p.told.says.counts.room in omega arith) in
@@ -219,10 +219,10 @@ first-number x y old plan j p after = elim p.plans [
       count-cells p.count x room plan number y j (cut-or-none plan x y (count-done p.count x room plan number) after)
 ]
 
-pub first-steps : (table : Table) (steps j : ℕ) (x z : List ℕ) → GrowthSteps table steps x z → (cell_at z j ≡ cell_at x j) ⊎ HasFirst table z j
+pub first-steps : (table : Table) (steps j : ℕ) (x z : List ℕ) → GrowthSteps table steps x z → (cell_at z j ≡ cell_at x j) ⊎ HasFirstBound table z j
 first-steps table zero j x z e = inl (ap (λ (w : List ℕ). cell_at w j) e)
 first-steps table (suc steps) j x z (y, (s, rest)) =
-    let one : (cell_at y j ≡ cell_at x j) ⊎ HasFirst table y j = elim s.planned [
+    let one : (cell_at y j ≡ cell_at x j) ⊎ HasFirstBound table y j = elim s.planned [
       | inl p ↦ inl (first-number x y s.old s.plan j p s.after)
       | inr g ↦ first-cell table g.which g.filled g.same x y s.old s.plan g.cell s.after j
     ] in
@@ -248,7 +248,7 @@ each-ok n top y filled direction plan status r upto below ranges own empty h =
         | inr (_, b) ↦ elim b [
           | inl (none, _) ↦ absurd (none (record { most = omega arith; room = omega arith }))
           | inr (_, t) ↦
-              let w = tell-only y n (λ answer. (m : ℕ) × (TellsCells y m × NumberAnswers filled y m answer)) status r.told t in
+              let w = tell-only y n (λ answer. (m : ℕ) × (SaysSize y m × NumberAnswers filled y m answer)) status r.told t in
               let same : w.0 ≡ n = says-once y w.0 n w.1.0.says r.told.says in
               number-ok (subst (λ m. NumberAnswers filled y m status) same w.1.1)
         ]
@@ -279,7 +279,7 @@ each-ok n top y filled direction plan status r upto below ranges own empty h =
         };
       }
 
-      place-ok : PlaceAnswers filled y n status → status ≡ OK
+      place-ok : CellPlaceAnswers filled y n status → status ≡ OK
       place-ok p = elim p [
         | inl (b, o) ↦ own-ok b o
         | inr (from, c) ↦ elim c [
@@ -302,7 +302,7 @@ each-ok n top y filled direction plan status r upto below ranges own empty h =
 -- the header has the number of cells, and the cell of the route holds something
 record Settled (r : RathonsiRoute) (y : List ℕ) : Type 0 where
   count : ℕ
-  told : TellsCells y count
+  told : SaysSize y count
   head : Head count y
   below : r.cell < count
   bytes : List ℕ
@@ -312,7 +312,7 @@ record Settled (r : RathonsiRoute) (y : List ℕ) : Type 0 where
 -- the header has the number of cells
 record Numbered (y : List ℕ) : Type 0 where
   count : ℕ
-  told : TellsCells y count
+  told : SaysSize y count
   head : Head count y
 
 module _ (r : RathonsiRoute) (bound : ℕ) (x : List ℕ) (old plan : Plan) (p : PlansCell r bound x old plan) where
@@ -423,7 +423,7 @@ third-plans r bound x a one b two c three p q s =
 
 -- a call that plans nothing found the cell
 pub nothing-has : (r : RathonsiRoute) (bound : ℕ) (x : List ℕ) (old new : Plan) → PlansCell r bound x old new → new ≡ old
-    → (n : ℕ) × (TellsCells x n × Head n x × (r.cell < n) × ((direction : Direction) × ((kept : ℕ) × ImageBound x r.cell r.data_id direction kept)))
+    → (n : ℕ) × (SaysSize x n × Head n x × (r.cell < n) × ((direction : Direction) × ((kept : ℕ) × ImageBound x r.cell r.data_id direction kept)))
 nothing-has r bound x old new p same =
     let none : IsEmptyPlan new = subst (λ (q : Plan). IsEmptyPlan q) (sym same) p.empty in
     let no_bytes = none.third in

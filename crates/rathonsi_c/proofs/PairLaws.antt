@@ -9,7 +9,7 @@ use Rattle.rathonsi_c.specs.Routes.{IsOpened, at_counter}
 use Rattle.rathonsi_c.specs.Lives.{Memory, Deed, sends, accepts, takes, opens, sets, reserves, loads, drops, finishes, powers_up}
 use Rattle.rathonsi_c.specs.Lives.{DoesDeed, ChangesRoute, PoweredUp, RisesTo, given_out}
 use Rattle.rathonsi_c.specs.Pairs.{Pair, PairDeed, of_sender, of_receiver, answers, rejoins, DoesPair, PairLives, RejoinsAt, StaysOpen}
-use Rattle.rathonsi_c.specs.Pairs.{Seen, IsGenuine, AllGenuine, nothing_seen, seen_next, accepted_by, opens_it}
+use Rattle.rathonsi_c.specs.Pairs.{Seen, IsGenuine, AllGenuine, nothing_seen, seen_next, accepted_of_route, opens_it}
 use Rattle.freshness_routes.specs.declared.routes.Direction.TheVariants.{Receives}
 use Rattle.rathonsi_c.proofs.LivesLaws.{Holds, Sound, first_sound, sound-then, moves, rises, rises_from, counted_to, holds-same}
 
@@ -218,13 +218,13 @@ rejoin_goes_on m n s r seen low q told a b h d genuine =
     }
 
 rises_on : (m n s r : ℕ) (deeds : List PairDeed) (seen : Seen) (low : ℕ) (a c : Pair) → s < m → r < n → Holding m n s r seen low a → PairLives m n s r deeds a c → AllGenuine s r seen deeds
-    → RisesTo low (accepted_by r deeds) (c.sender.routes s).counter
+    → RisesTo low (accepted_of_route r deeds) (c.sender.routes s).counter
 rises_on m n s r [] seen low a c x y h lives genuine = subst (λ (z : Pair). low ≤ (z.sender.routes s).counter) (sym lives) h.low_sent
 rises_on m n s r (of_sender deed ∷ deeds) seen low a c x y h (b, (d, rest)) genuine =
     rises_on m n s r deeds (seen_next s r (of_sender deed) seen) low b c x y (sender_goes_on m n s r seen low deed a b x h d) rest genuine.1
 rises_on m n s r (of_receiver deed ∷ deeds) seen low a c x y h (b, (d, rest)) genuine =
     let rise = rises_from low (a.receiver.routes r).counter (b.receiver.routes r).counter (given_out r (deed ∷ [])) h.floor (after_deed n r deed a.receiver b.receiver y h.receiver d.0) in
-    rises_join low (b.receiver.routes r).counter (c.sender.routes s).counter (given_out r (deed ∷ [])) (accepted_by r deeds) rise
+    rises_join low (b.receiver.routes r).counter (c.sender.routes s).counter (given_out r (deed ∷ [])) (accepted_of_route r deeds) rise
     (rises_on m n s r deeds (seen_next s r (of_receiver deed) seen) (last_or low (given_out r (deed ∷ []))) b c x y (receiver_goes_on m n s r seen low deed a b y h d genuine.0) rest genuine.1)
 rises_on m n s r (answers q told ∷ deeds) seen low a c x y h (b, (d, rest)) genuine =
     rises_on m n s r deeds (seen_next s r (answers q told) seen) low b c x y (answer_goes_on m n s r seen low q told a b h d) rest genuine.1
@@ -232,7 +232,7 @@ rises_on m n s r (rejoins q told ∷ deeds) seen low a c x y h (b, (d, rest)) ge
     rises_on m n s r deeds seen low b c x y (rejoin_goes_on m n s r seen low q told a b h d genuine.0) rest genuine.1
 
 pub rises_over_pairs : (m n s r : ℕ) (deeds : List PairDeed) (first last : Pair) → PoweredUp m first.sender → PoweredUp n first.receiver → s < m → r < n → PairLives m n s r deeds first last
-    → AllGenuine s r nothing_seen deeds → RisesTo 0 (accepted_by r deeds) (last.sender.routes s).counter
+    → AllGenuine s r nothing_seen deeds → RisesTo 0 (accepted_of_route r deeds) (last.sender.routes s).counter
 rises_over_pairs m n s r deeds first last powered up x y lives genuine = rises_on m n s r deeds nothing_seen 0 first last x y (record {
   sender = first_sound m first.sender powered;
   receiver = first_sound n first.receiver up;
@@ -250,13 +250,13 @@ record Staying (n r low : ℕ) (a : Memory) : Type 0 where
   floor : low ≤ (a.routes r).counter
   none : IsFresh (a.routes r) → low ≡ 0
 
-stays_on : (m n s r low : ℕ) (deeds : List PairDeed) (a c : Pair) → r < n → Staying n r low a.receiver → PairLives m n s r deeds a c → StaysOpen r deeds → RisesTo low (accepted_by r deeds) (c.receiver.routes r).counter
+stays_on : (m n s r low : ℕ) (deeds : List PairDeed) (a c : Pair) → r < n → Staying n r low a.receiver → PairLives m n s r deeds a c → StaysOpen r deeds → RisesTo low (accepted_of_route r deeds) (c.receiver.routes r).counter
 stays_on m n s r low [] a c y h lives stays = subst (λ (z : Pair). low ≤ (z.receiver.routes r).counter) (sym lives) h.floor
 stays_on m n s r low (of_sender deed ∷ deeds) a c y h (b, (d, rest)) stays =
     stays_on m n s r low deeds b c y (subst (λ (z : Memory). Staying n r low z) (sym d.1) h) rest stays
 stays_on m n s r low (of_receiver deed ∷ deeds) a c y h (b, (d, rest)) stays =
     let rise = rises_from low (a.receiver.routes r).counter (b.receiver.routes r).counter (given_out r (deed ∷ [])) h.floor (after_deed n r deed a.receiver b.receiver y h.sound d.0) in
-    rises_join low (b.receiver.routes r).counter (c.receiver.routes r).counter (given_out r (deed ∷ [])) (accepted_by r deeds) rise
+    rises_join low (b.receiver.routes r).counter (c.receiver.routes r).counter (given_out r (deed ∷ [])) (accepted_of_route r deeds) rise
     (stays_on m n s r (last_or low (given_out r (deed ∷ []))) deeds b c y (record {
       sound = sound_next n deed a.receiver b.receiver h.sound d.0;
       floor = last_below low (b.receiver.routes r).counter (given_out r (deed ∷ [])) rise;
@@ -284,7 +284,7 @@ receiver_sound m n s r (answers q told ∷ deeds) a c h (b, (d, rest)) = receive
 receiver_sound m n s r (rejoins q told ∷ deeds) a c h (b, (d, rest)) = receiver_sound m n s r deeds b c (sound_rejoined m n s r told a b h d) rest
 
 pub rises_in_one_life : (m n s r : ℕ) (before deeds : List PairDeed) (first mid last : Pair) → PoweredUp n first.receiver → r < n → PairLives m n s r before first mid → PairLives m n s r deeds mid last → StaysOpen r deeds
-    → RisesTo 0 (accepted_by r deeds) (last.receiver.routes r).counter
+    → RisesTo 0 (accepted_of_route r deeds) (last.receiver.routes r).counter
 rises_in_one_life m n s r before deeds first mid last up y lived lives stays = stays_on m n s r 0 deeds mid last y (record {
   sound = receiver_sound m n s r before first mid (first_sound n first.receiver up) lived;
   floor = omega arith;

@@ -12,11 +12,11 @@ use Rattle.store_plan.specs.Leaving.{LeavesPut}
 use Rattle.store_plan.proofs.CallerLemmas.{any-count, cell-apart, head-counted, says-once}
 use Rattle.rathonsi_c.specs.declared.TheConstants.{OK}
 use Rattle.rathonsi_c.specs.declared.route.RathonsiRoute.{RathonsiRoute}
-use Rattle.rathonsi_c.specs.Growing.{TellsCells, TellAnswers, SizeAnswers, GivesSize, MendAnswers, PlansNumber}
+use Rattle.rathonsi_c.specs.Growing.{SaysSize, TellAnswers, SizeAnswers, GivesSize, MendAnswers, PlansNumber}
 use Rattle.rathonsi_c.specs.Images.{ImageBound}
 use Rattle.rathonsi_c.specs.Lives.{Memory, Deed, Lives, RisesTo, SameRoute}
 use Rattle.rathonsi_c.specs.Routes.{InRanges, OpenAnswers, at_counter}
-use Rattle.rathonsi_c.specs.Softwares.{Table, CellsApart, GrowthSteps, ComesUp, Software, AllSoftware, given_by_all, KeepsAtLeast}
+use Rattle.rathonsi_c.specs.Softwares.{Table, CellsApart, GrowthSteps, SoftwareComesUp, Software, AllSoftware, given_by_all, KeepsAtLeast}
 use Rattle.rathonsi_c.specs.Stores.{IsSize, IsWhole, CheckAnswers}
 use Rattle.rathonsi_c.proofs.AnswerLaws.{damaged_keeps_none, one_size}
 use Rattle.rathonsi_c.proofs.DiskLaws.{front-cell, front-part}
@@ -42,10 +42,10 @@ cell-beyond x y r i same from = cell-apart (x ++ r) (y ++ r) i 0 (length x) (bey
 
 -- whatever the power leaves tells n cells, or more
 abbrev Tells : ℕ → Memory → List ℕ → Type 0
-Tells n a room = (left : List ℕ) → LeavesPut a.plan a.image left → (m : ℕ) × (TellsCells (left ++ room) m × (n ≤ m))
+Tells n a room = (left : List ℕ) → LeavesPut a.plan a.image left → (m : ℕ) × (SaysSize (left ++ room) m × (n ≤ m))
 
-module _ (table : Table) (apart : CellsApart table) (n : ℕ) (a b d : Memory) (room behind : List ℕ) (u : ComesUp table n a room b behind) (deeds : List Deed) (lives : Lives n deeds b d) where
-  told-after : (left : List ℕ) → LeavesPut d.plan d.image left → TellsCells (left ++ behind) u.count
+module _ (table : Table) (apart : CellsApart table) (n : ℕ) (a b d : Memory) (room behind : List ℕ) (u : SoftwareComesUp table n a room b behind) (deeds : List Deed) (lives : Lives n deeds b d) where
+  told-after : (left : List ℕ) → LeavesPut d.plan d.image left → SaysSize (left ++ behind) u.count
   told-after left cut =
       let whole = stays-whole table apart n a b d room behind u deeds lives left cut in
       let long : length left ≡ length b.image = long_over n deeds b d u.empty (up-whole table n a b room behind u) lives left cut in
@@ -102,7 +102,7 @@ tells-all table apart (s ∷ rest) n a c room end t (b, (behind, (u, (d, (lives,
 -- ---- the answers
 
 -- of an image that says a number the answer is what the rest says
-pub tell-only : (image : List ℕ) (n : ℕ) (rest : ℤ → Type 0) (status : ℤ) → TellsCells image n → TellAnswers image rest status → rest status
+pub tell-only : (image : List ℕ) (n : ℕ) (rest : ℤ → Type 0) (status : ℤ) → SaysSize image n → TellAnswers image rest status → rest status
 tell-only image n rest status told h = elim h [
   | inl (short, _) ↦ (let r = told.says.counts.room in let l = told.least in absurd (omega arith))
   | inr (_, more) ↦ elim more [
@@ -114,9 +114,9 @@ tell-only image n rest status told h = elim h [
   ]
 ]
 
-module _ (table : Table) (apart : CellsApart table) (n steps : ℕ) (a b d e : Memory) (room behind end left y : List ℕ) (deeds : List Deed) (others : List Software) (u : ComesUp table n a room b behind) (lives : Lives n deeds b d)
+module _ (table : Table) (apart : CellsApart table) (n steps : ℕ) (a b d e : Memory) (room behind end left y : List ℕ) (deeds : List Deed) (others : List Software) (u : SoftwareComesUp table n a room b behind) (lives : Lives n deeds b d)
     (all : AllSoftware table others d behind e end) (cut : LeavesPut e.plan e.image left) (grew : GrowthSteps table steps (left ++ end) y) where
-  pub told-now : (m : ℕ) × TellsCells y m
+  pub told-now : (m : ℕ) × SaysSize y m
   told-now =
       let t = tells-all table apart others u.count d e behind end (tells-here table apart n a b d room behind u deeds lives) all left cut in
       let s = tells-on table steps t.0 (left ++ end) y t.1.0 grew in

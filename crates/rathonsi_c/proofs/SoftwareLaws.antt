@@ -12,7 +12,7 @@ use Rattle.rathonsi_c.specs.declared.route.RathonsiRoute.{RathonsiRoute}
 use Rattle.rathonsi_c.specs.Images.{ImageBound, ImageSlot}
 use Rattle.rathonsi_c.specs.Lives.{Memory, Deed, sends, accepts, takes, opens, sets, reserves, loads, drops, finishes, powers_up, SameRoute, OpensFilled, ChangesRoute, GivesOut, DoesDeed, Lives, given_out, RisesTo, SlotFilled}
 use Rattle.rathonsi_c.specs.Slots.{ConfirmsSlot}
-use Rattle.rathonsi_c.specs.Softwares.{Table, CellsApart, ComesUp, Software, AllSoftware, given_by_all}
+use Rattle.rathonsi_c.specs.Softwares.{Table, CellsApart, SoftwareComesUp, Software, AllSoftware, given_by_all}
 use Rattle.rathonsi_c.specs.Stores.{IsWhole}
 use Rattle.rathonsi_c.proofs.GrowthLaws.{Follows, follows, cell_within, head_within, rises_join, no_bound_is_zeros}
 use Rattle.rathonsi_c.proofs.LivesLaws.{Holds, Sound, after-cut, cut_back, finished, holds-same, holds_opened, lives-sound, moves, opened_anew, opened_cell, planned_elsewhere, planned_nothing, reserved_there, rises, rises_from, sound-then}
@@ -114,7 +114,7 @@ told-cell x n i says all few long = elim (cases_lt i n) [
 abbrev pub StaysWhole : Memory → Type 0
 StaysWhole a = (left : List ℕ) → LeavesPut a.plan a.image left → IsWhole left
 
-module _ (table : Table) (n : ℕ) (a b : Memory) (room behind : List ℕ) (u : ComesUp table n a room b behind) where
+module _ (table : Table) (n : ℕ) (a b : Memory) (room behind : List ℕ) (u : SoftwareComesUp table n a room b behind) where
   after : Follows (u.left ++ room) (b.image ++ behind)
   after = follows table u.steps (u.left ++ room) (b.image ++ behind) u.grew
 
@@ -182,7 +182,7 @@ Kept low route a = (low ≡ 0) ⊎ Keeps low route a
 same-back : (r s : RathonsiRoute) → SameRoute r s → SameRoute s r
 same-back r s h = record { cell = sym h.cell; data_id = sym h.data_id; direction = sym h.direction }
 
-module _ (table : Table) (apart : CellsApart table) (n : ℕ) (a b d : Memory) (room behind : List ℕ) (u : ComesUp table n a room b behind) (deeds : List Deed) (lives : Lives n deeds b d) where
+module _ (table : Table) (apart : CellsApart table) (n : ℕ) (a b d : Memory) (room behind : List ℕ) (u : SoftwareComesUp table n a room b behind) (deeds : List Deed) (lives : Lives n deeds b d) where
   abbrev Route : ℕ → RathonsiRoute
   Route k = table.route k
 
@@ -308,10 +308,10 @@ rises_over_all table softwares a c room end apart empty whole all k =
 
 -- ---- keys
 
-pub filled_on : (table : Table) (n slot : ℕ) (a b : Memory) (room behind : List ℕ) (u : ComesUp table n a room b behind) → slot < 14 → SlotFilled u.left slot → SlotFilled b.image slot
+pub filled_on : (table : Table) (n slot : ℕ) (a b : Memory) (room behind : List ℕ) (u : SoftwareComesUp table n a room b behind) → slot < 14 → SlotFilled u.left slot → SlotFilled b.image slot
 filled_on table n slot a b room behind u few f =
     record { key = f.key; counter = f.counter; flags = f.flags; held = up-slot table n a b room behind u slot _ few f.held }
 
-pub confirmed_on : (table : Table) (n : ℕ) (a b : Memory) (room behind uid m1 : List ℕ) (reply : Reply) (u : ComesUp table n a room b behind) → ConfirmsSlot uid m1 u.left reply → ConfirmsSlot uid m1 b.image reply
+pub confirmed_on : (table : Table) (n : ℕ) (a b : Memory) (room behind uid m1 : List ℕ) (reply : Reply) (u : SoftwareComesUp table n a room b behind) → ConfirmsSlot uid m1 u.left reply → ConfirmsSlot uid m1 b.image reply
 confirmed_on table n a b room behind uid m1 reply u f =
     record { update = f.update; named = f.named; held = up-slot table n a b room behind u f.update.id _ f.named.is_head.id_fits f.held; confirms = f.confirms }

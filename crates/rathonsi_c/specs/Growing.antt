@@ -20,7 +20,7 @@ use Rattle.rathonsi_c.specs.Routes.{InRanges, OutOfRanges, CellAnswers}
 use Rattle.rathonsi_c.specs.Stores.{RouteIdIsHeld}
 
 -- the cells of the image say that there are n: fourteen slots and at most 256 routes
-pub record TellsCells (image : List ℕ) (n : ℕ) : Type 0 where
+pub record SaysSize (image : List ℕ) (n : ℕ) : Type 0 where
   pub least : 14 ≤ n
   pub most : n ≤ 270
   pub says : SaysCells image n
@@ -36,7 +36,7 @@ TellAnswers image rest status =
     IfCause (length image < twin_size 14) BAD_LENGTH
     (IfCause (¬ HasHeadButCount image 1) NO_STORE
     (IfCause (EndsTooSoon image) BAD_LENGTH
-    (IfCause ((n : ℕ) → ¬ TellsCells image n) DAMAGED rest))) status
+    (IfCause ((n : ℕ) → ¬ SaysSize image n) DAMAGED rest))) status
 
 -- it says none, for this reason
 abbrev pub Untold : List ℕ → TellFault → Type 0
@@ -49,7 +49,7 @@ SizeAnswers image status = TellAnswers image IsDone status
 -- the size of the store that the image begins with
 pub record GivesSize (image : List ℕ) (size : ℕ) : Type 0 where
   pub count : ℕ
-  pub told : TellsCells image count
+  pub told : SaysSize image count
   pub is : size ≡ twin_size count
 
 -- what `rathonsi_store_mend` answers
@@ -60,7 +60,7 @@ MendAnswers image plan status = IfCause (¬ IsEmptyPlan plan) BUSY (TellAnswers 
 pub record PlansNumber (image : List ℕ) (old new : Plan) : Type 0 where
   pub empty : IsEmptyPlan old
   pub count : ℕ
-  pub told : TellsCells image count
+  pub told : SaysSize image count
   pub plans : (HasHeader (twin_layout One) count image × (new ≡ old))
       ⊎ ((¬ HasHeader (twin_layout One) count image) × PlansCount new count)
 
@@ -81,8 +81,8 @@ OwnAnswers r image status =
     (IsSpare image r.cell × IsDone status) ⊎ ((¬ IsSpare image r.cell) × CellAnswers r image IsDone status)
 
 -- of a cell that the store of n cells has, or gets next, or neither
-abbrev pub PlaceAnswers : RathonsiRoute → List ℕ → ℕ → ℤ → Type 0
-PlaceAnswers r image n status =
+abbrev pub CellPlaceAnswers : RathonsiRoute → List ℕ → ℕ → ℤ → Type 0
+CellPlaceAnswers r image n status =
     ((r.cell < n) × OwnAnswers r image status)
     ⊎ ((n ≤ r.cell) × IfCause (n < r.cell) WRONG_CELL
     (IfCause (length image < twin_size (n + 2)) BAD_LENGTH (IfCause (¬ MayGrow image n) DAMAGED IsDone)) status)
@@ -92,7 +92,7 @@ abbrev pub NumberAnswers : RathonsiRoute → List ℕ → ℕ → ℤ → Type 0
 NumberAnswers r image n status =
     ((¬ HasHeader (twin_layout One) n image) × IsDone status)
     ⊎ (HasHeader (twin_layout One) n image
-    × IfCause (RouteIdIsHeld r image n) DUPLICATE_ID (PlaceAnswers r image n) status)
+    × IfCause (RouteIdIsHeld r image n) DUPLICATE_ID (CellPlaceAnswers r image n) status)
 
 -- what `rathonsi_store_grow` answers
 abbrev pub GrowAnswers : RathonsiRoute → List ℕ → Plan → ℤ → Type 0
@@ -100,7 +100,7 @@ GrowAnswers r image plan status =
     IfCause (¬ IsEmptyPlan plan) BUSY
     (IfCause (OutOfRanges r) BAD_VALUE
     (IfCause (¬ HasPlace r.cell image) BAD_LENGTH
-    (TellAnswers image (λ answer. (n : ℕ) × (TellsCells image n × NumberAnswers r image n answer))))) status
+    (TellAnswers image (λ answer. (n : ℕ) × (SaysSize image n × NumberAnswers r image n answer))))) status
 
 -- a cell that is nobody's gets the route's bound by one put; or it keeps a bound of the route, and nothing is planned
 abbrev pub PlansOwn : RathonsiRoute → Direction → ℕ → List ℕ → Plan → Plan → Type 0
@@ -115,7 +115,7 @@ pub record PlansCell (r : RathonsiRoute) (bound : ℕ) (image : List ℕ) (old n
   pub direction : Direction
   pub ranges : InRanges r direction
   pub count : ℕ
-  pub told : TellsCells image count
+  pub told : SaysSize image count
   pub plans : ((¬ HasHeader (twin_layout One) count image) × PlansCount new count)
       ⊎ (HasHeader (twin_layout One) count image × (¬ RouteIdIsHeld r image count)
       × (((r.cell ≡ count) × (count < 270) × MayGrow image count

@@ -43,12 +43,12 @@ PairLives m n s r [] a c = c ≡ a
 PairLives m n s r (deed ∷ deeds) a c = (b : Pair) × (DoesPair m n s r deed a b × PairLives m n s r deeds b c)
 
 -- what the receiver's route r accepted, in order
-abbrev pub accepted_by : ℕ → List PairDeed → List ℕ
-accepted_by r [] = []
-accepted_by r (of_sender deed ∷ deeds) = accepted_by r deeds
-accepted_by r (of_receiver deed ∷ deeds) = given_out r (deed ∷ []) ++ accepted_by r deeds
-accepted_by r (answers question told ∷ deeds) = accepted_by r deeds
-accepted_by r (rejoins question told ∷ deeds) = accepted_by r deeds
+abbrev pub accepted_of_route : ℕ → List PairDeed → List ℕ
+accepted_of_route r [] = []
+accepted_of_route r (of_sender deed ∷ deeds) = accepted_of_route r deeds
+accepted_of_route r (of_receiver deed ∷ deeds) = given_out r (deed ∷ []) ++ accepted_of_route r deeds
+accepted_of_route r (answers question told ∷ deeds) = accepted_of_route r deeds
+accepted_of_route r (rejoins question told ∷ deeds) = accepted_of_route r deeds
 
 -- the deed opens the route, or all
 abbrev pub opens_it : ℕ → Deed → Bool

@@ -9,10 +9,10 @@ use Rattle.freshness_routes.specs.declared.routes.Direction.{Direction}
 use Rattle.freshness_store.specs.Bound.{direction_number, bound_cell}
 use Rattle.store_plan.specs.declared.planning.Plan.{Plan}
 use Rattle.store_plan.specs.Plans.{IsEmptyPlan, CutWithin, applied}
-use Rattle.store_plan.specs.Growing.{IsErased, IsFree, NoneFrom}
+use Rattle.store_plan.specs.Growing.{IsErased, HasNoLiveCopy, NoneFrom}
 use Rattle.store_plan.specs.Leaving.{LeavesPut}
 use Rattle.rathonsi_c.specs.declared.route.RathonsiRoute.{RathonsiRoute}
-use Rattle.rathonsi_c.specs.Growing.{TellsCells, PlansNumber, PlansCell, IsSpare}
+use Rattle.rathonsi_c.specs.Growing.{SaysSize, PlansNumber, PlansCell, IsSpare}
 use Rattle.rathonsi_c.specs.Images.{ImageBound}
 use Rattle.rathonsi_c.specs.Lives.{Memory, Deed, Lives, SameRoute, OpensFilled, given_out}
 use Rattle.rathonsi_c.specs.Routes.{InRanges}
@@ -51,13 +51,13 @@ GrowthSteps table (suc steps) x z = (y : List ℕ) × (GrowthStep table x y × G
 -- Software with n routes comes up over what the power left of the image, and what the device has after it. Growth
 -- steps were made, its own and those of other software that tried to come up. In the end the header has the number of
 -- cells that the cells say. So many are its image, and all its routes open.
-pub record ComesUp (table : Table) (n : ℕ) (a : Memory) (room : List ℕ) (b : Memory) (behind : List ℕ) : Type 0 where
+pub record SoftwareComesUp (table : Table) (n : ℕ) (a : Memory) (room : List ℕ) (b : Memory) (behind : List ℕ) : Type 0 where
   pub left : List ℕ
   pub cut : LeavesPut a.plan a.image left
   pub steps : ℕ
   pub grew : GrowthSteps table steps (left ++ room) (b.image ++ behind)
   pub count : ℕ
-  pub told : TellsCells (b.image ++ behind) count
+  pub told : SaysSize (b.image ++ behind) count
   pub mended : HasHeader (twin_layout One) count (b.image ++ behind)
   pub size : length b.image ≡ twin_size count
   pub empty : IsEmptyPlan b.plan
@@ -72,7 +72,7 @@ pub record Software : Type 0 where
 abbrev pub AllSoftware : Table → List Software → Memory → List ℕ → Memory → List ℕ → Type 0
 AllSoftware table [] a room c end = (c ≡ a) × (end ≡ room)
 AllSoftware table (s ∷ rest) a room c end =
-    (b : Memory) × ((behind : List ℕ) × (ComesUp table s.routes a room b behind
+    (b : Memory) × ((behind : List ℕ) × (SoftwareComesUp table s.routes a room b behind
     × ((d : Memory) × (Lives s.routes s.deeds b d × AllSoftware table rest d behind c end))))
 
 -- the freshness of all PDUs that route k sent, or accepted, by all software, in order
@@ -91,11 +91,11 @@ pub record KeepsAtLeast (low : ℕ) (r : RathonsiRoute) (image : List ℕ) : Typ
 -- The production line erased the room of all cells up to cell `top`. The cells say that there are n. No copy at the
 -- place of cell n is live: a growth may have been cut there. The places after it, up to `top`, are erased.
 pub record StoreWithRoom (n top : ℕ) (x : List ℕ) : Type 0 where
-  pub told : TellsCells x n
+  pub told : SaysSize x n
   pub least : n ≤ top
   pub most : top ≤ 270
   pub room : twin_size (top + 1) ≤ length x
-  pub free : IsFree x n
+  pub free : HasNoLiveCopy x n
   pub erased : (j : ℕ) → n < j → j ≤ top → IsErased x j
   pub later : NoneFrom x n
 
@@ -108,7 +108,7 @@ pub record HasOwnCell (r : RathonsiRoute) (n : ℕ) (image : List ℕ) : Type 0 
       × ((kept : ℕ) × ImageBound image r.cell r.data_id direction kept)))
 
 -- cell j of y holds the first bound of a route of the table
-pub record HasFirst (table : Table) (y : List ℕ) (j : ℕ) : Type 0 where
+pub record HasFirstBound (table : Table) (y : List ℕ) (j : ℕ) : Type 0 where
   pub which : ℕ
   pub at : (table.route which).cell ≡ j
   pub direction : Direction

@@ -4,7 +4,7 @@
 ghost use Rattle.std.specs.Prelude.{◌≡◌, ◌≢◌, ◌+◌, ◌≤◌, ◌↔◌, ◌⊎◌, ℕ, length, IsTrue, IfOk, IfErr};
 ghost use Rattle.cell_store.specs.Twin.{twin_size};
 ghost use Rattle.store_plan.specs.Plans.{PlanFits, IsEmptyPlan};
-ghost use Rattle.rathonsi_c.specs.Growing.{TellsCells, Untold, untold_status, SizeAnswers, GivesSize, MendAnswers};
+ghost use Rattle.rathonsi_c.specs.Growing.{SaysSize, Untold, untold_status, SizeAnswers, GivesSize, MendAnswers};
 ghost use Rattle.rathonsi_c.specs.Growing.{PlansNumber, HasPlace, IsSpare, GrowAnswers, NumberAnswers, OwnAnswers};
 ghost use Rattle.rathonsi_c.specs.Growing.{PlansCell, PlansOwn};
 ghost use Rattle.rathonsi_c.specs.Causes.{IsDone};
@@ -33,7 +33,7 @@ fn untold_status(fault: TellFault) -> i32
 
 // The number of cells that the image says, if it is one of fourteen slots and up to 256 routes.
 fn told(image: &[u8]) -> Result<u16, TellFault>
-    ensures told { IfOk result (TellsCells image.now) }
+    ensures told { IfOk result (SaysSize image.now) }
     ensures untold { IfErr result (Untold image.now) }
 {
     if image.len() < 984 {
@@ -139,7 +139,7 @@ fn grow(
     cells: u16,
     plan: &mut Plan,
 ) -> i32
-    requires { InRanges route.now direction × HasPlace route.now.cell image.now × TellsCells image.now cells
+    requires { InRanges route.now direction × HasPlace route.now.cell image.now × SaysSize image.now cells
         × IsEmptyPlan plan.old }
     ensures answer { NumberAnswers route.now image.now cells result }
     ensures grows { result ≡ OK → PlansCell route.now bound image.now plan.old plan.new }

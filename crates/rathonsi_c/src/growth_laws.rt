@@ -12,14 +12,14 @@ ghost use Rattle.store_plan.specs.Plans.{IsEmptyPlan, applied};
 ghost use Rattle.store_plan.specs.Leaving.{LeavesPut};
 ghost use Rattle.rathonsi_c.specs.declared.route.RathonsiRoute.{RathonsiRoute};
 ghost use Rattle.rathonsi_c.specs.declared.TheConstants.{OK};
-ghost use Rattle.rathonsi_c.specs.Growing.{TellsCells, SizeAnswers, GivesSize, MendAnswers, PlansNumber, GrowAnswers};
+ghost use Rattle.rathonsi_c.specs.Growing.{SaysSize, SizeAnswers, GivesSize, MendAnswers, PlansNumber, GrowAnswers};
 ghost use Rattle.rathonsi_c.specs.Growing.{PlansCell};
 ghost use Rattle.rathonsi_c.specs.Images.{ImageBound};
 ghost use Rattle.rathonsi_c.specs.Lives.{Memory, Deed, Lives, SameRoute, RisesTo, SlotFilled};
 ghost use Rattle.rathonsi_c.specs.Routes.{InRanges, OpenAnswers};
 ghost use Rattle.rathonsi_c.specs.Slots.{ConfirmsSlot};
-ghost use Rattle.rathonsi_c.specs.Softwares.{Table, CellsApart, GrowthSteps, ComesUp, Software, AllSoftware};
-ghost use Rattle.rathonsi_c.specs.Softwares.{given_by_all, KeepsAtLeast, StoreWithRoom, HasOwnCell, HasFirst};
+ghost use Rattle.rathonsi_c.specs.Softwares.{Table, CellsApart, GrowthSteps, SoftwareComesUp, Software, AllSoftware};
+ghost use Rattle.rathonsi_c.specs.Softwares.{given_by_all, KeepsAtLeast, StoreWithRoom, HasOwnCell, HasFirstBound};
 ghost use Rattle.rathonsi_c.specs.Stores.{IsWhole, CheckAnswers};
 
 /// A unit gets new software with more routes, over whatever cuts, goes back to older software, and forward again, as
@@ -41,10 +41,10 @@ pub fn freshness_rises_over_all_software()
 /// and the store that comes up is one that `rathonsi_store_check` answers OK for.
 pub fn keys_are_kept_over_all_software()
     ensures filled { (table : Table) (n slot : ℕ) (a b : Memory) (room behind : List ℕ)
-        → (u : ComesUp table n a room b behind) → slot < 14 → SlotFilled u.left slot → SlotFilled b.image slot }
+        → (u : SoftwareComesUp table n a room b behind) → slot < 14 → SlotFilled u.left slot → SlotFilled b.image slot }
     ensures kept { (table : Table) (n : ℕ) (a b : Memory) (room behind uid m1 : List ℕ) (reply : Reply)
-        → (u : ComesUp table n a room b behind) → ConfirmsSlot uid m1 u.left reply → ConfirmsSlot uid m1 b.image reply }
-    ensures whole { (table : Table) (n : ℕ) (a b : Memory) (room behind : List ℕ) → ComesUp table n a room b behind
+        → (u : SoftwareComesUp table n a room b behind) → ConfirmsSlot uid m1 u.left reply → ConfirmsSlot uid m1 b.image reply }
+    ensures whole { (table : Table) (n : ℕ) (a b : Memory) (room behind : List ℕ) → SoftwareComesUp table n a room b behind
         → IsWhole b.image }
 {}
 
@@ -55,19 +55,19 @@ pub fn keys_are_kept_over_all_software()
 pub fn a_roll_back_opens()
     ensures told { (table : Table) (n steps : ℕ) (a b d e : Memory) (room behind end left y : List ℕ)
         (deeds : List Deed) (others : List Software) (status : ℤ) → CellsApart table
-        → ComesUp table n a room b behind → Lives n deeds b d → AllSoftware table others d behind e end
+        → SoftwareComesUp table n a room b behind → Lives n deeds b d → AllSoftware table others d behind e end
         → LeavesPut e.plan e.image left → GrowthSteps table steps (left ++ end) y → SizeAnswers y status
         → status ≡ OK }
     ensures mended { (table : Table) (n steps : ℕ) (a b d e : Memory) (room behind end left y : List ℕ)
         (deeds : List Deed) (others : List Software) (plan : Plan) (status : ℤ) → CellsApart table
-        → ComesUp table n a room b behind → Lives n deeds b d → AllSoftware table others d behind e end
+        → SoftwareComesUp table n a room b behind → Lives n deeds b d → AllSoftware table others d behind e end
         → LeavesPut e.plan e.image left → GrowthSteps table steps (left ++ end) y → IsEmptyPlan plan
         → MendAnswers y plan status → status ≡ OK }
     ensures checked { (size : ℕ) (y : List ℕ) (old new : Plan) (status : ℤ) → GivesSize y size
         → PlansNumber y old new → new ≡ old → CheckAnswers (take size y) status → status ≡ OK }
     ensures opened { (table : Table) (n steps size k : ℕ) (a b d e : Memory) (room behind end left y : List ℕ)
         (deeds : List Deed) (others : List Software) (filled : RathonsiRoute) (direction : Direction) (status : ℤ)
-        → CellsApart table → ComesUp table n a room b behind → Lives n deeds b d
+        → CellsApart table → SoftwareComesUp table n a room b behind → Lives n deeds b d
         → AllSoftware table others d behind e end → LeavesPut e.plan e.image left
         → GrowthSteps table steps (left ++ end) y → GivesSize y size → k < n → SameRoute (table.route k) filled
         → InRanges filled direction → OpenAnswers filled (take size y) status → status ≡ OK }
@@ -82,7 +82,7 @@ pub fn a_store_gets_all_its_cells()
         → ((k : ℕ) → (table.route k).cell < top) → GrowthSteps table steps x y
         → (m : ℕ) × (StoreWithRoom m top y × (n ≤ m)) }
     ensures cells { (table : Table) (steps j : ℕ) (x y : List ℕ) → GrowthSteps table steps x y
-        → (cell_at y j ≡ cell_at x j) ⊎ HasFirst table y j }
+        → (cell_at y j ≡ cell_at x j) ⊎ HasFirstBound table y j }
     ensures kept { (table : Table) (steps j : ℕ) (x y bytes : List ℕ) → GrowthSteps table steps x y
         → cell_at x j ≡ Some bytes → bytes ≢ replicate 32 0 → cell_at y j ≡ Some bytes }
     ensures each_is_ok { (n top : ℕ) (y : List ℕ) (filled : RathonsiRoute) (direction : Direction) (plan : Plan)
@@ -97,6 +97,6 @@ pub fn the_third_call_plans_nothing()
         → PlansCell filled bound x a one → PlansCell filled bound (applied one x) b two
         → PlansCell filled bound (applied two (applied one x)) c three → three ≡ c }
     ensures has { (filled : RathonsiRoute) (bound : ℕ) (x : List ℕ) (old new : Plan) → PlansCell filled bound x old new
-        → new ≡ old → (n : ℕ) × (TellsCells x n × HasHeader (twin_layout One) n x × (filled.cell < n)
+        → new ≡ old → (n : ℕ) × (SaysSize x n × HasHeader (twin_layout One) n x × (filled.cell < n)
         × ((direction : Direction) × ((kept : ℕ) × ImageBound x filled.cell filled.data_id direction kept))) }
 {}

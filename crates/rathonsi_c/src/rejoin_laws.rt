@@ -5,7 +5,7 @@ ghost use Rattle.counter_answers.specs.Answering.{SharesMac};
 ghost use Rattle.rathonsi_c.specs.Nonces.{MakesNonce, nonce_input};
 ghost use Rattle.rathonsi_c.specs.declared.route.RathonsiRoute.{RathonsiRoute};
 ghost use Rattle.rathonsi_c.specs.Lives.{PoweredUp, RisesTo};
-ghost use Rattle.rathonsi_c.specs.Pairs.{Pair, PairDeed, PairLives, StaysOpen, AllGenuine, nothing_seen, accepted_by};
+ghost use Rattle.rathonsi_c.specs.Pairs.{Pair, PairDeed, PairLives, StaysOpen, AllGenuine, nothing_seen, accepted_of_route};
 
 /// What a receiver accepts strictly rises over all lives of both units, whenever the power of either goes, though it
 /// rejoins; and the sender's counter is at least that (`all_lives`). This holds if each PDU that it accepted is one that
@@ -14,11 +14,11 @@ ghost use Rattle.rathonsi_c.specs.Pairs.{Pair, PairDeed, PairLives, StaysOpen, A
 pub fn freshness_rises_though_a_receiver_rejoins()
     ensures all_lives { (m n s r : ℕ) (deeds : List PairDeed) (first last : Pair) → PoweredUp m first.sender
         → PoweredUp n first.receiver → s < m → r < n → PairLives m n s r deeds first last
-        → AllGenuine s r nothing_seen deeds → RisesTo 0 (accepted_by r deeds) (last.sender.routes s).counter }
+        → AllGenuine s r nothing_seen deeds → RisesTo 0 (accepted_of_route r deeds) (last.sender.routes s).counter }
     ensures one_life { (m n s r : ℕ) (before deeds : List PairDeed) (first mid last : Pair)
         → PoweredUp n first.receiver → r < n → PairLives m n s r before first mid
         → PairLives m n s r deeds mid last → StaysOpen r deeds
-        → RisesTo 0 (accepted_by r deeds) (last.receiver.routes r).counter }
+        → RisesTo 0 (accepted_of_route r deeds) (last.receiver.routes r).counter }
 {}
 
 /// Two nonces of one key are the same only if two messages have one CMAC under it, or both are made of one count of one

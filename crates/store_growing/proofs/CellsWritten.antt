@@ -12,7 +12,7 @@ use Rattle.freshness_routes.specs.declared.routes.Route.{Route}
 use Rattle.freshness_routes.specs.Config.{IsRoute}
 use Rattle.cell_store.specs.declared.kinds.Kind.TheVariants.{Twin}
 use Rattle.store_growing.specs.StoreHeaders.{HasFirstHead}
-use Rattle.store_growing.specs.RouteCells.{route_cell, RouteAt, first_bound, HaveSlots, HoldsRoute, IsErased, IsFree, FreeFrom, HaveCells, EndsErased, CanGrow}
+use Rattle.store_growing.specs.RouteCells.{route_cell, RouteAt, first_bound, HaveSlots, HoldsRoute, AreErased, IsFree, FreeFrom, HaveCells, RoutesEndErased, CanGrow}
 use Rattle.store_growing.specs.LookSteps.{HaveJust}
 use Rattle.store_growing.specs.GrowingStores.{first_copy, with_cell, with_cells, with_routes}
 use Rattle.store_growing.proofs.OneCell.{Apart, head_same, counted_same, cell_same, held_same, slot_same, erased_same, free_same, erased_closed, whole_holds, copy_sized, with_cell_same}
@@ -133,13 +133,13 @@ module _ (routes : List Route) (x : List ℕ) (count : ℕ) (route : Route) (few
         free_same (route_cell place) (first_at here) 34 x y (omega arith) same (beside place (λ e. omega (arith, e, after)))
         (can.free place (omega (arith, after)) low)
 
-    ends_kept : EndsErased routes y
+    ends_kept : RoutesEndErased routes y
     ends_kept = erased_same (first_at (route_cell (length routes))) 68 (first_at here) 34 x y same (inr (omega (arith, below))) can.ends
 
     was : IsFree x here
     was = can.free count (omega arith) below
 
-    second_kept : IsErased (second_at here) 34 y
+    second_kept : AreErased (second_at here) 34 y
     second_kept = erased_same (second_at here) 34 (first_at here) 34 x y same (inr (omega arith)) was.erased
 
     -- its gate isn't live

@@ -20,7 +20,7 @@ use Rattle.store_growing.specs.declared.faults.GrowFault.{GrowFault}
 use Rattle.store_growing.specs.declared.faults.GrowFault.TheVariants.{DiskFailed, NotFormatted, TooSmall, BadBound, OtherStore, Damaged, BadSlot, Memory}
 use Rattle.store_growing.specs.declared.headers.StoreHeader.{StoreHeader}
 use Rattle.store_growing.specs.StoreHeaders.{cells_counted, HasVersionTwo, HasFirstHead, HeaderStands, store_header}
-use Rattle.store_growing.specs.RouteCells.{route_cell, RouteAt, HoldsRoute, IsErased, IsFree, FreeFrom, HaveCells, HaveSlots}
+use Rattle.store_growing.specs.RouteCells.{route_cell, RouteAt, HoldsRoute, AreErased, IsFree, FreeFrom, HaveCells, HaveSlots}
 use Rattle.store_growing.specs.RouteCells.{CanGrow, HoldsOther, RefusesBytes}
 use Rattle.store_growing.specs.LookSteps.{HaveJust, UsedAt, RefusesSlots}
 use Rattle.store_growing.specs.GrowingStores.{OfBytes, CanBeGrown, CannotBeGrown, IsOther, HasRouteRoom, no_room, other_store, no_store, by_bytes}
@@ -202,7 +202,7 @@ module _ (wanted : Layout) (routes : List Route) (old : DiskState) where
 
 -- ---- each is decided
 
-erased_or_not : (at n : ℕ) (x : List ℕ) → Decided (IsErased at n x)
+erased_or_not : (at n : ℕ) (x : List ℕ) → Decided (AreErased at n x)
 erased_or_not at n x = elim (bytes_same (part at n x) (replicate n 0)) [
   | inl zeros ↦ inl (inl zeros)
   | inr other ↦ elim (bytes_same (part at n x) (replicate n 0xff)) [

@@ -18,7 +18,7 @@ use Rattle.freshness_routes.specs.declared.routes.Route.{Route}
 use Rattle.freshness_store.specs.Bound.{bound_cell}
 use Rattle.store_plan.specs.Growing.{HasHeadButCount, count_at, with_number}
 use Rattle.store_growing.specs.StoreHeaders.{cells_counted}
-use Rattle.store_growing.specs.RouteCells.{first_bound, HasSlot, HoldsRoute, IsErased, IsFree}
+use Rattle.store_growing.specs.RouteCells.{first_bound, HasSlot, HoldsRoute, AreErased, IsFree}
 use Rattle.store_growing.specs.GrowingStores.{first_copy, with_cell}
 
 -- ---- what is written over a place
@@ -115,7 +115,7 @@ held_same j at n route x y s apart held = (held.0, held.1, cell_same j at n x y 
 pub slot_same : (j at n : ℕ) (x y : List ℕ) → SameOutside at n x y → Apart (first_at j) 68 at n → HasSlot x j → HasSlot y j
 slot_same j at n x y s apart held = (held.0, held.1, cell_same j at n x y s apart ∙ held.2, held.3)
 
-pub erased_same : (place size at n : ℕ) (x y : List ℕ) → SameOutside at n x y → Apart place size at n → IsErased place size x → IsErased place size y
+pub erased_same : (place size at n : ℕ) (x y : List ℕ) → SameOutside at n x y → Apart place size at n → AreErased place size x → AreErased place size y
 erased_same place size at n x y s apart erased =
     let same : part place size y ≡ part place size x = part-same place size at n x y s apart in
     elim erased [ inl zeros ↦ inl (same ∙ zeros) | inr ones ↦ inr (same ∙ ones) ]
@@ -137,7 +137,7 @@ ones_closed : is_live (replicate 34 0xff) ≡ false
 unfolding is_live
 ones_closed = refl
 
-pub erased_closed : (at : ℕ) (x : List ℕ) → IsErased at 34 x → is_live (part at 34 x) ≡ false
+pub erased_closed : (at : ℕ) (x : List ℕ) → AreErased at 34 x → is_live (part at 34 x) ≡ false
 erased_closed at x erased = elim erased [ inl zeros ↦ ap is_live zeros ∙ zeros_closed | inr ones ↦ ap is_live ones ∙ ones_closed ]
 
 -- whether a copy is live, by its first byte

@@ -39,15 +39,15 @@ abbrev pub HaveSlots : List ℕ → ℕ → Type 0
 HaveSlots x count = (cell : ℕ) → cell < count → HasSlot x cell
 
 -- n bytes of x from a place on are as an erase leaves them: all 00, or all ff
-abbrev pub IsErased : ℕ → ℕ → List ℕ → Type 0
-IsErased at n x = (part at n x ≡ replicate n 0) ⊎ (part at n x ≡ replicate n 0xff)
+abbrev pub AreErased : ℕ → ℕ → List ℕ → Type 0
+AreErased at n x = (part at n x ≡ replicate n 0) ⊎ (part at n x ≡ replicate n 0xff)
 
 -- This cell can be written: it isn't counted, the gate of its first copy isn't live, and its second copy is erased. So it
 -- holds nothing. A growth that was cut leaves such cells.
 pub record IsFree (x : List ℕ) (cell : ℕ) : Type 0 where
   pub uncounted : cells_counted x ≤ cell
   pub closed : is_live (part (first_at cell) 34 x) ≡ false
-  pub erased : IsErased (second_at cell) 34 x
+  pub erased : AreErased (second_at cell) 34 x
 
 -- the cells of the places from one on, below another, can be written
 abbrev pub FreeFrom : List ℕ → ℕ → ℕ → Type 0
@@ -60,8 +60,8 @@ pub record HaveCells (routes : List Route) (x : List ℕ) (count : ℕ) : Type 0
       → HoldsRoute x (route_cell place) route
 
 -- where a cell after those of all routes would stand x is erased
-abbrev pub EndsErased : List Route → List ℕ → Type 0
-EndsErased routes x = IsErased (first_at (route_cell (length routes))) 68 x
+abbrev pub RoutesEndErased : List Route → List ℕ → Type 0
+RoutesEndErased routes x = AreErased (first_at (route_cell (length routes))) 68 x
 
 -- A twin store of version 1 has its fourteen slots. So many of the first routes have their cells, and those of the
 -- others can be written. What comes after them is erased, so the store has no further cell: a number above that of the
@@ -71,7 +71,7 @@ pub record CanGrow (routes : List Route) (x : List ℕ) (count : ℕ) : Type 0 w
   pub slots : HaveSlots x 14
   pub have : HaveCells routes x count
   pub free : FreeFrom x count (length routes)
-  pub ends : EndsErased routes x
+  pub ends : RoutesEndErased routes x
 
 -- ---- why no cell is written, of bytes that begin as a twin store of version 1: the causes in the order in which they
 -- are looked for
@@ -109,7 +109,7 @@ pub record IsUsedAfter (routes : List Route) (x : List ℕ) : Type 0 where
   pub count : ℕ
   pub have : HaveCells routes x count
   pub free : FreeFrom x count (length routes)
-  pub used : ¬ EndsErased routes x
+  pub used : ¬ RoutesEndErased routes x
 
 -- for which fault of these bytes; the other faults aren't theirs
 abbrev pub RefusesBytes : List Route → List ℕ → GrowFault → Type 0

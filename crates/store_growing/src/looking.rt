@@ -5,7 +5,7 @@ ghost use Rattle.cell_store.specs.Layout.{part};
 ghost use Rattle.cell_store.specs.Twin.{twin_size, first_at, is_live};
 ghost use Rattle.freshness_routes.specs.declared.config.TheConstants.{MOST_ROUTES};
 ghost use Rattle.store_growing.specs.StoreHeaders.{cells_counted, HasFirstHead};
-ghost use Rattle.store_growing.specs.RouteCells.{route_cell, HoldsRoute, IsErased, IsFree, FreeFrom, CanGrow, HasSlot};
+ghost use Rattle.store_growing.specs.RouteCells.{route_cell, HoldsRoute, AreErased, IsFree, FreeFrom, CanGrow, HasSlot};
 ghost use Rattle.store_growing.specs.RouteCells.{HaveSlots, RefusesBytes};
 ghost use Rattle.store_growing.specs.LookSteps.{HaveJust, UsedAt, RefusesSlot, RefusesSlots};
 
@@ -143,7 +143,7 @@ fn is_open(image: &[u8], cell: u16) -> bool
 /// Whether a copy of a cell, 34 bytes from this address on, is as an erase leaves it.
 fn is_erased_copy(image: &[u8], at: usize) -> bool
     requires { at + 34 ≤ length image.now }
-    ensures { IsTrue result ↔ IsErased at 34 image.now }
+    ensures { IsTrue result ↔ AreErased at 34 image.now }
 {
     if image[at..at + 34] == [0; 34][..] {
         return true;
@@ -155,7 +155,7 @@ fn is_erased_copy(image: &[u8], at: usize) -> bool
 fn is_erased_pair(image: &[u8], cell: u16) -> bool
     requires few { cell < 1024 }
     requires room { twin_size (cell + 1) ≤ length image.now }
-    ensures { IsTrue result ↔ IsErased (first_at cell) 68 image.now }
+    ensures { IsTrue result ↔ AreErased (first_at cell) 68 image.now }
 {
     let at = pair_place(cell) as usize;
     if image[at..at + 68] == [0; 68][..] {

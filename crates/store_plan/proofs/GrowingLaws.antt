@@ -19,7 +19,7 @@ use Rattle.cell_store.specs.Writing.{ClosesGate, Unfinished}
 use Rattle.cell_store.proofs.CallerLemmas.{part-part, part-same, part-splice, closed-already, filling, opening, side_bounds, splice-gate, SameOutside-after, SameOutside-refl, SameOutside-splice, SameOutside-widen}
 use Rattle.store_plan.specs.declared.planning.Plan.{Plan}
 use Rattle.store_plan.specs.Plans.{PlansPut, CutWithin, in_first, in_second, in_third, applied, applied_write, WritesAt}
-use Rattle.store_plan.specs.Growing.{PlansGrowth, PlansCount, HasHeadButCount, with_number, CountsFirst, IsErased, EndsErased, SaysCells, IsFree}
+use Rattle.store_plan.specs.Growing.{PlansGrowth, PlansCount, HasHeadButCount, with_number, CountsFirst, IsErased, EndsErased, SaysCells, HasNoLiveCopy}
 use Rattle.store_plan.proofs.GatedLaws.{no_bytes, splice-at, splice-empty}
 use Rattle.store_plan.proofs.CutLaws.{apply-done, at-place, cut-unfinished, outside-firm, read-firm, same-all}
 
@@ -109,7 +109,7 @@ unfolding is_live
 dead-ones = refl
 
 -- what is erased is free
-pub erased-free : (x : List ℕ) (j : ℕ) → twin_size (j + 1) ≤ length x → IsErased x j → IsFree x j
+pub erased-free : (x : List ℕ) (j : ℕ) → twin_size (j + 1) ≤ length x → IsErased x j → HasNoLiveCopy x j
 erased-free x j room erased = elim erased [
   | inl zeros ↦ (let two = one_byte x j 0 room zeros in record { first = ap is_live two.0 ∙ dead-zeros; second = ap is_live two.1 ∙ dead-zeros })
   | inr ones ↦ (let two = one_byte x j 0xff room ones in record { first = ap is_live two.0 ∙ dead-ones; second = ap is_live two.1 ∙ dead-ones })
@@ -124,7 +124,7 @@ unfolding cell_of
 closed-none first second a b = rw (closed-counts first second a, closed-counts second first b) refl
 
 -- what is free holds no cell
-pub free-none : (x : List ℕ) (i : ℕ) → IsFree x i → cell_at x i ≡ None
+pub free-none : (x : List ℕ) (i : ℕ) → HasNoLiveCopy x i → cell_at x i ≡ None
 unfolding cell_at
 free-none x i f = closed-none (part (first_at i) 34 x) (part (second_at i) 34 x) f.first f.second
 
@@ -322,7 +322,7 @@ module _ (n : ℕ) (c : List ℕ) (sized : length c ≡ 32) (x : List ℕ) (room
   growth-is : applied plan x ≡ with_number (n + 1) made
   growth-is = ap (applied_write plan.third) both-is ∙ splice-at plan.third 10 (bytes_of 2 (n + 1)) made p.third
 
-  module _ (head : Head n x) (free : IsFree x n) where
+  module _ (head : Head n x) (free : HasNoLiveCopy x n) where
     -- beside the first copy the second is as it was
     second-dead : (y : List ℕ) → SameOutside (first_at n) 34 x y → is_live (part (second_at n) 34 y) ≡ false
     second-dead y s = ap is_live (part-same (second_at n) 34 (first_at n) 34 x y s (inr (omega arith))) ∙ free.second
@@ -367,11 +367,11 @@ module _ (n : ℕ) (c : List ℕ) (sized : length c ≡ 32) (x : List ℕ) (room
 
     module _ (few : n < 1024) (said : CountsFirst x n) (after : EndsErased x (n + 1)) where
       -- the old number of cells
-      as-old : (y : List ℕ) → SameOutside (first_at n) 34 x y → is_live (part (first_at n) 34 y) ≡ false → SaysCells y n × IsFree y n
+      as-old : (y : List ℕ) → SameOutside (first_at n) 34 x y → is_live (part (first_at n) 34 y) ≡ false → SaysCells y n × HasNoLiveCopy y n
       as-old y s dead =
           let here : Head n y = head-kept x y (first_at n) 34 n (omega arith) s head in
           let long = s.lengths in
-          let now : IsFree y n = record { first = dead; second = second-dead y s } in (
+          let now : HasNoLiveCopy y n = record { first = dead; second = second-dead y s } in (
             record {
               head = head-counted n n y (omega arith) here;
               counts = record {
@@ -404,7 +404,7 @@ module _ (n : ℕ) (c : List ℕ) (sized : length c ≡ 32) (x : List ℕ) (room
             sure = inr (new-ends y s);
           }
 
-      sorted : (y : List ℕ) → Left y → (SaysCells y n × IsFree y n) ⊎ (SaysCells y (n + 1) × (cell_at y n ≡ Some c))
+      sorted : (y : List ℕ) → Left y → (SaysCells y n × HasNoLiveCopy y n) ⊎ (SaysCells y (n + 1) × (cell_at y n ≡ Some c))
       sorted y u = elim u.spare [
         | inl dead ↦ inl (as-old y u.same dead)
         | inr more ↦ elim more [
@@ -413,7 +413,7 @@ module _ (n : ℕ) (c : List ℕ) (sized : length c ≡ 32) (x : List ℕ) (room
         ]
       ]
 
-      pub growth-cut : (y : List ℕ) → CutWithin plan x y → (SaysCells y n × IsFree y n) ⊎ (SaysCells y (n + 1) × (cell_at y n ≡ Some c))
+      pub growth-cut : (y : List ℕ) → CutWithin plan x y → (SaysCells y n × HasNoLiveCopy y n) ⊎ (SaysCells y (n + 1) × (cell_at y n ≡ Some c))
       growth-cut y cut = elim cut [
         | in_first s ↦ sorted y (left-first y s)
         | in_second s ↦ sorted y (left-second y s)

@@ -69,13 +69,13 @@ TellsNot x Damaged = HasHeadButCount x 1 × (¬ EndsTooSoon x) × ((n : ℕ) →
 -- ---- a cell more
 
 -- no copy at the place of cell i is live
-pub record IsFree (x : List ℕ) (i : ℕ) : Type 0 where
+pub record HasNoLiveCopy (x : List ℕ) (i : ℕ) : Type 0 where
   pub first : is_live (part (first_at i) 34 x) ≡ false
   pub second : is_live (part (second_at i) 34 x) ≡ false
 
 -- x may get cell n: the place of that cell is free, and what is after it is erased
 pub record MayGrow (x : List ℕ) (n : ℕ) : Type 0 where
-  pub free : IsFree x n
+  pub free : HasNoLiveCopy x n
   pub after : EndsErased x (n + 1)
 
 -- the plan is to write cell i, of this payload, and the number of cells

@@ -7,7 +7,7 @@ ghost use Rattle.cell_store.specs.Store.{Stands, HasHeader};
 ghost use Rattle.store_plan.specs.declared.planning.Plan.{Plan};
 ghost use Rattle.store_plan.specs.Plans.{PlansPut, CutWithin, applied};
 ghost use Rattle.store_plan.specs.Leaving.{LeavesPut, IsImageOf};
-ghost use Rattle.store_plan.specs.Growing.{HasHeadButCount, SaysCells, EndsErased, IsFree, MayGrow, PlansGrowth};
+ghost use Rattle.store_plan.specs.Growing.{HasHeadButCount, SaysCells, EndsErased, HasNoLiveCopy, MayGrow, PlansGrowth};
 ghost use Rattle.store_plan.specs.Growing.{PlansCount};
 
 /// If the power goes within a plan, what stands there is the old list or the new one. The device has to keep what is
@@ -57,11 +57,11 @@ pub fn a_done_put_keeps_an_image()
 pub fn a_cut_within_a_growth_leaves_a_store()
     ensures either { (plan : Plan) (x y : List ℕ) (n : ℕ) (c : List ℕ) → length c ≡ 32 → n < 1024 → SaysCells x n
         → HasHeader (twin_layout One) n x → MayGrow x n → PlansGrowth plan n c → CutWithin plan x y
-        → (SaysCells y n × IsFree y n) ⊎ (SaysCells y (n + 1) × (cell_at y n ≡ Some c)) }
+        → (SaysCells y n × HasNoLiveCopy y n) ⊎ (SaysCells y (n + 1) × (cell_at y n ≡ Some c)) }
     ensures others { (plan : Plan) (x y : List ℕ) (n j : ℕ) (c : List ℕ) → length c ≡ 32 → twin_size (n + 1) ≤ length x
         → PlansGrowth plan n c → CutWithin plan x y → j ≢ n → cell_at y j ≡ cell_at x j }
     ensures done { (plan : Plan) (x : List ℕ) (n : ℕ) (c : List ℕ) → length c ≡ 32 → twin_size (n + 1) ≤ length x
-        → HasHeader (twin_layout One) n x → IsFree x n → PlansGrowth plan n c
+        → HasHeader (twin_layout One) n x → HasNoLiveCopy x n → PlansGrowth plan n c
         → CutWithin plan x (applied plan x) × HasHeader (twin_layout One) (n + 1) (applied plan x)
         × (cell_at (applied plan x) n ≡ Some c) }
 {}

@@ -123,14 +123,14 @@ last_text json last =
 
 -- how many values of freshness above the map's and up to the last one a line of the map has, how many of them weren't
 -- accepted, and their share in percent
-abbrev pub values_of : MapLine → LineCounts → ℕ
-values_of entry counts = counts.last - entry.counter
+abbrev pub values_counted : MapLine → LineCounts → ℕ
+values_counted entry counts = counts.last - entry.counter
 
 abbrev pub missed_of : MapLine → LineCounts → ℕ
-missed_of entry counts = values_of entry counts - counts.accepted
+missed_of entry counts = values_counted entry counts - counts.accepted
 
 abbrev pub missed_share_of : MapLine → LineCounts → ℕ
-missed_share_of entry counts = share_of (missed_of entry counts) (values_of entry counts)
+missed_share_of entry counts = share_of (missed_of entry counts) (values_counted entry counts)
 
 -- the numbers of a line of the map: how many frames it accepted, how many it didn't, how many values of freshness it
 -- missed, and the one that it accepted last

@@ -4,7 +4,7 @@ ghost use Rattle.hex.specs.Hex.{encode_lower};
 ghost use Rattle.watch_commands.specs.States.{counts_after};
 ghost use Rattle.watch_commands.specs.WatchTotals.{counts_of, named, before_value, count_text, counts_text};
 ghost use Rattle.watch_commands.specs.WatchTotals.{can_text, line_head, last_text, total_line};
-ghost use Rattle.watch_commands.specs.WatchTotals.{values_of, missed_of, missed_share_of, does_pass};
+ghost use Rattle.watch_commands.specs.WatchTotals.{values_counted, missed_of, missed_share_of, does_pass};
 
 use crate::limits::{Limits, is_within, share_of};
 use can_logs::{FrameTally, MapLine, OtherLine};
@@ -160,7 +160,7 @@ pub struct LineCounts {
 impl LineCounts {
     /// How many values of freshness above the map's and up to the last one it has.
     fn values(&self, entry: &MapLine) -> u64
-        ensures { result ≡ values_of entry.now self.now }
+        ensures { result ≡ values_counted entry.now self.now }
     {
         self.last.saturating_sub(entry.counter)
     }

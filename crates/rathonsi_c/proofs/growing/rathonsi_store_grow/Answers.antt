@@ -1,6 +1,6 @@
 use Rattle.std.proofs.Common.{inr, sym, subst, FitsSigned, w32, rules, ℕ}
 use Rattle.std.proofs.lemmas.Int.{to_z-of_z}
-use Rattle.rathonsi_c.specs.Growing.{GrowAnswers, TellAnswers, TellsCells, NumberAnswers}
+use Rattle.rathonsi_c.specs.Growing.{GrowAnswers, TellAnswers, SaysSize, NumberAnswers}
 use Rattle.rathonsi_c.proofs.GrowthAnswers.{tell-says, tell-none}
 use Rattle.rathonsi_c.proofs.growing.rathonsi_store_grow.Goals as goal
 
@@ -16,7 +16,7 @@ returns-in-Ok-clause-answer c =
         (λ out. out c.in-Some.direction c.in-Some.ensures.some),
         inr (
           (λ none. none (c.has_place.ensures.0 c.if-not-has_place.false)),
-          tell-says image cells (λ answer. (n : ℕ) × (TellsCells image n × NumberAnswers r image n answer)) c.grow.result c.in-Ok.ensures.told (cells, (c.in-Ok.ensures.told, c.grow.ensures.answer)),
+          tell-says image cells (λ answer. (n : ℕ) × (SaysSize image n × NumberAnswers r image n answer)) c.grow.result c.in-Ok.ensures.told (cells, (c.in-Ok.ensures.told, c.grow.ensures.answer)),
         ),
       ),
     ))
@@ -32,8 +32,8 @@ returns-in-Err-clause-answer c =
         (λ out. out c.in-Some.direction c.in-Some.ensures.some),
         inr (
           (λ none. none (c.has_place.ensures.0 c.if-not-has_place.false)),
-          subst (λ s. TellAnswers image (λ answer. (n : ℕ) × (TellsCells image n × NumberAnswers r image n answer)) s) (sym c.untold_status.ensures)
-              (tell-none image (λ answer. (n : ℕ) × (TellsCells image n × NumberAnswers r image n answer)) _ c.in-Err.ensures.untold),
+          subst (λ s. TellAnswers image (λ answer. (n : ℕ) × (SaysSize image n × NumberAnswers r image n answer)) s) (sym c.untold_status.ensures)
+              (tell-none image (λ answer. (n : ℕ) × (SaysSize image n × NumberAnswers r image n answer)) _ c.in-Err.ensures.untold),
         ),
       ),
     ))
