@@ -2,7 +2,9 @@
 //! is the example of 16 bytes.
 use crate::blocks::{block, schedule};
 use crate::comparing::holds;
-use secured_pdu::{assemble, build, input_bytes, input_mac, split, sync_answer, sync_counter};
+use counter_answers::{CounterQuestion, answer_input, answer_with, counter_with};
+use secured_pdu::{assemble, build, input_bytes, input_mac, split};
+use she_cmac::{Block, cmac};
 
 const KEY: u128 = 0x2b7e1516_28aed2a6_abf71588_09cf4f3c;
 
@@ -56,26 +58,36 @@ fn other_lengths_are_refused(rt: HostRuntime) {
     holds(&rt, "a PDU of 65", split(&[0; 65]).is_none());
 }
 
-const NONCE: [u8; 16] = [0, 1, 2, 3, 4, 5, 6, 7, 8, 9, 10, 11, 12, 13, 14, 15];
+/// A question of one unit to another.
+const QUESTION: CounterQuestion = CounterQuestion {
+    id: ID,
+    direction: 1,
+    asker: 0x0a0b_0c0d,
+    answerer: 0x0102_0304,
+    nonce: [0, 1, 2, 3, 4, 5, 6, 7, 8, 9, 10, 11, 12, 13, 14, 15],
+};
 
-/// The answer to this nonce, whose CMAC OpenSSL makes of the 80 bytes of its input.
+/// The answer to it, whose CMAC OpenSSL makes of the 88 bytes of its input.
 const ANSWER: [u8; 24] = [
-    0xe9, 0x3d, 0x7e, 0x11, 0x73, 0x93, 0x17, 0x2a, 0xe3, 0xb0, 0x5c, 0x2f, 0x5d, 0x98, 0xe1, 0xad,
-    0xe1, 0xf1, 0x94, 0xae, 0xb8, 0x49, 0x7c, 0x69,
+    0xe9, 0x3d, 0x7e, 0x11, 0x73, 0x93, 0x17, 0x2a, 0xf8, 0xb6, 0xb0, 0xdf, 0x41, 0x50, 0x79, 0xd4,
+    0x09, 0x6c, 0xfd, 0x44, 0xc5, 0xd4, 0x19, 0x35,
 ];
 
-/// Whether the answer is made, and tells the counter to whoever drew the nonce alone.
+/// The MAC of the answer to this question.
+fn answer_mac(question: &CounterQuestion) -> Block {
+    cmac(&schedule(KEY), &answer_input(question, FRESHNESS))
+}
+
+/// Whether the answer is made, and tells the counter to whoever asked this alone.
 fn is_answered() -> bool {
-    let schedule = schedule(KEY);
-    let mut other = NONCE;
-    other[15] = 16;
-    sync_answer(&schedule, ID, &NONCE, FRESHNESS) == ANSWER
-        && sync_counter(&schedule, ID, &NONCE, &ANSWER) == Some(FRESHNESS)
-        && sync_counter(&schedule, ID, &other, &ANSWER).is_none()
-        && sync_counter(&schedule, ID + 1, &NONCE, &ANSWER).is_none()
+    let mut other = QUESTION;
+    other.answerer = 0x0102_0305;
+    answer_with(FRESHNESS, answer_mac(&QUESTION).bytes()) == ANSWER
+        && counter_with(answer_mac(&QUESTION).bytes(), &ANSWER) == Some(FRESHNESS)
+        && counter_with(answer_mac(&other).bytes(), &ANSWER).is_none()
 }
 
 #[test]
 fn an_answer_tells_a_counter(rt: HostRuntime) {
-    holds(&rt, "the answer to a nonce", is_answered());
+    holds(&rt, "the answer to a question", is_answered());
 }

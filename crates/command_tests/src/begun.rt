@@ -1,5 +1,5 @@
 //! What is done over the disks of a replay whose sink fails: the events whose lines were begun, and no others. What is
-//! written then is rows of checks/replay_rows.
+//! written then is rows of checks/rows/bus_replay_runs.toml.
 use crate::comparing::{holds, same};
 use crate::playing::{Run, status_behind};
 use crate::replays::{ORDINARY, TWO_DISKS, disks_of};

@@ -1,5 +1,5 @@
 //! Links that a collection can't have, and payloads without the bytes of theirs. A script of pairs hands no such link
-//! on: its words are refused before. What a part has, and how arrivals join, are rows of checks/pairing_rows.
+//! on: its words are refused before. What a part has, and how arrivals join, are rows of checks/rows/pairing.toml.
 use crate::comparing::{holds, same};
 use pdu_collection::Linker;
 use she_aes::{Block, expand};

@@ -1,20 +1,13 @@
 -- Laws of the answer to a question.
-use Rattle.std.proofs.Common.{◌≡◌, ◌≢◌, ℕ, ◌^◌, ◌<◌, ◌≤◌, List, [], ◌∷◌, ◌++◌, length, take, drop, codes, get_or, refl, sym, ap, ◌∙◌, arith}
-use Rattle.std.proofs.lemmas.List.{append_cancel_left, length-append, take_at, drop_at}
+use Rattle.std.proofs.Common.{◌≡◌, ◌≢◌, ℕ, ◌^◌, ◌<◌, ◌≤◌, List, [], ◌∷◌, ◌++◌, length, take, codes, get_or, refl, sym, ap, ◌∙◌, arith}
+use Rattle.std.proofs.lemmas.List.{append_cancel_left, length-append, take_at}
 use Rattle.basics.specs.Numbers.{number_of, bytes_of}
 use Rattle.basics.proofs.CallerLemmas.{length-bytes_of, number_of-bytes_of-lt, same_number}
 use Rattle.she_cmac.specs.Cmac.{cmac}
 use Rattle.secured_pdu.specs.Frame.{authenticated_input, IsPayload}
-use Rattle.secured_pdu.proofs.CallerLemmas.{length-input}
+use Rattle.secured_pdu.proofs.CallerLemmas.{length-input, parts_same}
 use Rattle.counter_answers.specs.Answering.{answer_input, answer_of, IsQuestion, TellsWith, AnswersWith, SharesMac}
 use Rattle.counter_answers.specs.declared.answering.CounterQuestion.{CounterQuestion}
-
--- two joined lists are the same, and their first parts equally long: so both parts are the same
-pub both_parts : (p q x y : List ℕ) → length p ≡ length q → p ++ x ≡ q ++ y → (p ≡ q) × (x ≡ y)
-both_parts p q x y h e = (
-  sym (take_at p x (length p) refl) ∙ ap (take (length p)) e ∙ take_at q y (length p) (sym h),
-  sym (drop_at p x (length p) refl) ∙ ap (drop (length p)) e ∙ drop_at q y (length p) (sym h),
-)
 
 abbrev pub label : List ℕ
 label = codes "RATHONSI COUNTER OF A ROUTE, IN ANSWER TO A QUESTION:"
@@ -84,11 +77,11 @@ same_question q p a b c d e =
 pub same_from_answer_input : (q p : CounterQuestion) (counter other : ℕ) → IsQuestion q → IsQuestion p → counter < 2 ^ 64 → other < 2 ^ 64 → answer_input q counter ≡ answer_input p other → (q ≡ p) × (counter ≡ other)
 unfolding answer_input
 same_from_answer_input q p counter other hq hp fits fits' e =
-    let ends = both_parts (upto_nonce q) (upto_nonce p) (bytes_of 8 counter) (bytes_of 8 other) (length-nonce q hq ∙ sym (length-nonce p hp)) e in
-    let nonces = both_parts (upto_answerer q) (upto_answerer p) q.nonce p.nonce (length-answerer q ∙ sym (length-answerer p)) ends.0 in
-    let answerers = both_parts (upto_asker q) (upto_asker p) (bytes_of 4 q.answerer) (bytes_of 4 p.answerer) (length-asker q ∙ sym (length-asker p)) nonces.0 in
-    let askers = both_parts (upto_direction q) (upto_direction p) (bytes_of 4 q.asker) (bytes_of 4 p.asker) (length-direction q ∙ sym (length-direction p)) answerers.0 in
-    let ways = both_parts (upto_id q) (upto_id p) (q.direction ∷ []) (p.direction ∷ []) (length-id q ∙ sym (length-id p)) askers.0 in
+    let ends = parts_same (upto_nonce q) (upto_nonce p) (bytes_of 8 counter) (bytes_of 8 other) (length-nonce q hq ∙ sym (length-nonce p hp)) e in
+    let nonces = parts_same (upto_answerer q) (upto_answerer p) q.nonce p.nonce (length-answerer q ∙ sym (length-answerer p)) ends.0 in
+    let answerers = parts_same (upto_asker q) (upto_asker p) (bytes_of 4 q.answerer) (bytes_of 4 p.answerer) (length-asker q ∙ sym (length-asker p)) nonces.0 in
+    let askers = parts_same (upto_direction q) (upto_direction p) (bytes_of 4 q.asker) (bytes_of 4 p.asker) (length-direction q ∙ sym (length-direction p)) answerers.0 in
+    let ways = parts_same (upto_id q) (upto_id p) (q.direction ∷ []) (p.direction ∷ []) (length-id q ∙ sym (length-id p)) askers.0 in
     let ids = append_cancel_left label (bytes_of 2 q.id) (bytes_of 2 p.id) ways.0 in (
       same_question q p (same_number 2 q.id p.id hq.id_fits hp.id_fits ids) (ap (λ (l : List ℕ). get_or l 0 0) ways.1) (same_number 4 q.asker p.asker hq.asker_fits hp.asker_fits askers.1)
           (same_number 4 q.answerer p.answerer hq.answerer_fits hp.answerer_fits answerers.1) nonces.1,
@@ -98,7 +91,7 @@ same_from_answer_input q p counter other hq hp fits fits' e =
 -- the two parts of one answer
 answer_parts : (mac mac' : List ℕ) (counter counter' : ℕ) → answer_of counter mac ≡ answer_of counter' mac' → (bytes_of 8 counter ≡ bytes_of 8 counter') × (mac ≡ mac')
 unfolding answer_of
-answer_parts mac mac' counter counter' e = both_parts (bytes_of 8 counter) (bytes_of 8 counter') mac mac' (length-bytes_of 8 counter ∙ sym (length-bytes_of 8 counter')) e
+answer_parts mac mac' counter counter' e = parts_same (bytes_of 8 counter) (bytes_of 8 counter') mac mac' (length-bytes_of 8 counter ∙ sym (length-bytes_of 8 counter')) e
 
 -- the first eight bytes of an answer are its counter
 pub first_is : (mac : List ℕ) (counter : ℕ) (answer : List ℕ) → TellsWith mac counter answer → number_of (take 8 answer) ≡ counter

@@ -1,2 +1,2 @@
 -- The lemmas that crates above cite.
-pub use Rattle.counter_answers.proofs.AnsweringLaws.{both_parts, first_is, one_counter_told, one_question}
+pub use Rattle.counter_answers.proofs.AnsweringLaws.{first_is, one_counter_told, one_question}

@@ -20,7 +20,7 @@ pub fn gateways_are_runs()
 }
 
 /// The script of the worked example is a key update and one arrival twice. The law says nothing of the answers: that
-/// the gateway forwards the first arrival and refuses the second one is a row of `checks/gateway_rows`.
+/// the gateway forwards the first arrival and refuses the second one is a row of `checks/rows/gateway.toml`.
 pub fn example_replays()
     ensures { ExampleReplays }
 {}

@@ -1,5 +1,5 @@
 //! First cells, and cells that are no node's: they are handed back as they were. Which is named is rows of
-//! `checks/node_rows`.
+//! `checks/rows/node.toml`.
 ghost use Rattle.std.specs.Prelude.{◌≡◌, ◌+◌, length, false};
 
 use crate::bench::{STORES, config, store_of};

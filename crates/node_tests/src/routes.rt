@@ -1,4 +1,4 @@
-//! Nodes of several routes, and one of the most. The bounds that they keep are rows of `checks/node_rows`.
+//! Nodes of several routes, and one of the most. The bounds that they keep are rows of `checks/rows/node.toml`.
 use crate::bench::{Act, Answer, Plan, Row, Way, plays};
 use crate::lives::{AFTER_CUT, EMPTY, FIRST, FIRST_KEY, ID, MAC, MASTER, PAYLOAD, START};
 use cut_disk::Torn;

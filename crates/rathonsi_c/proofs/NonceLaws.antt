@@ -5,7 +5,7 @@ use Rattle.basics.specs.Numbers.{bytes_of}
 use Rattle.basics.proofs.CallerLemmas.{length-bytes_of, same_number}
 use Rattle.she_cmac.specs.Cmac.{cmac}
 use Rattle.counter_answers.specs.Answering.{SharesMac}
-use Rattle.counter_answers.proofs.CallerLemmas.{both_parts}
+use Rattle.secured_pdu.proofs.CallerLemmas.{parts_same}
 use Rattle.rathonsi_c.specs.declared.route.RathonsiRoute.{RathonsiRoute}
 use Rattle.rathonsi_c.specs.Nonces.{MakesNonce, nonce_input}
 
@@ -40,8 +40,8 @@ same_from_nonce_input : (id other asker named count last : ℕ) → id < 2 ^ 16 
     → SameNonce id other asker named count last
 unfolding nonce_input
 same_from_nonce_input id other asker named count last w x u v y z e =
-    let ends = both_parts (nonce_label ++ bytes_of 2 id ++ bytes_of 4 asker) (nonce_label ++ bytes_of 2 other ++ bytes_of 4 named) (bytes_of 8 count) (bytes_of 8 last) (length-named id asker ∙ sym (length-named other named)) e in
-    let names = both_parts (nonce_label ++ bytes_of 2 id) (nonce_label ++ bytes_of 2 other) (bytes_of 4 asker) (bytes_of 4 named) (length-front id ∙ sym (length-front other)) ends.0 in
+    let ends = parts_same (nonce_label ++ bytes_of 2 id ++ bytes_of 4 asker) (nonce_label ++ bytes_of 2 other ++ bytes_of 4 named) (bytes_of 8 count) (bytes_of 8 last) (length-named id asker ∙ sym (length-named other named)) e in
+    let names = parts_same (nonce_label ++ bytes_of 2 id) (nonce_label ++ bytes_of 2 other) (bytes_of 4 asker) (bytes_of 4 named) (length-front id ∙ sym (length-front other)) ends.0 in
     let ids = append_cancel_left nonce_label (bytes_of 2 id) (bytes_of 2 other) names.0 in
     record { ids = same_number 2 id other w x ids; names = same_number 4 asker named u v names.1; counts = same_number 8 count last y z ends.1 }
 

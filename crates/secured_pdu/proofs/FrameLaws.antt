@@ -16,6 +16,17 @@ parts_same p q x y h e = (
   sym (drop_at p x (length p) refl) ∙ ap (drop (length p)) e ∙ drop_at q y (length p) (sym h),
 )
 
+pub length-input : (id : ℕ) (payload : List ℕ) (freshness : ℕ) → length (authenticated_input id payload freshness) ≡ length payload + 10
+unfolding authenticated_input
+length-input id payload freshness =
+    omega (
+      arith,
+      length-append (bytes_of 2 id ++ payload) (bytes_of 8 freshness),
+      length-append (bytes_of 2 id) payload,
+      length-bytes_of 2 id,
+      length-bytes_of 8 freshness,
+    )
+
 -- the input is one-to-one
 pub same_from_authenticated_input : (d d' : ℕ) (p p' : List ℕ) (v v' : ℕ) → d < 2 ^ 16 → d' < 2 ^ 16 → v < 2 ^ 64
     → v' < 2 ^ 64 → authenticated_input d p v ≡ authenticated_input d' p' v' → (d ≡ d') × (p ≡ p') × (v ≡ v')

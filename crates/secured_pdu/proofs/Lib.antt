@@ -1,6 +1,5 @@
 pub mod Candidates
 pub mod Deciding
-pub mod SyncLaws
 pub mod FrameLaws
 pub mod VerdictLaws
 pub mod CallerLemmas

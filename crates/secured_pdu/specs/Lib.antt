@@ -1,4 +1,3 @@
 pub mod Frame
 pub mod Verdict
 pub mod Judged
-pub mod Sync

@@ -1,4 +1,4 @@
-//! The fault of a bus file that has no text. The text of each other one is rows of checks/text_rows.
+//! The fault of a bus file that has no text. The text of each other one is rows of checks/rows/bus_replay_inputs.toml.
 use crate::comparing::holds;
 use bus_config::{ConfigFault, config_fault_text};
 use std::alloc::Global;

@@ -1,7 +1,7 @@
 //! Tests of lines of text, of named buses, of trials, and of the lines that are printed. There is nothing else here:
-//! a crate of tests over several libraries has none of them proved a second time. Bus files are rows of
-//! checks/text_rows, and scripts of checks/script_rows and checks/gateway_rows, except the one fault that has no
-//! text, and a second node's own events.
+//! a crate of tests over several libraries has none of them proved a second time. Bus files and scripts are rows of
+//! checks/rows/bus_replay_inputs.toml and checks/rows/gateway.toml, except the one fault that has no text, and a second
+//! node's own events.
 #![tactic(auto)]
 
 #[cfg(test)]

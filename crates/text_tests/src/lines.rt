@@ -1,5 +1,5 @@
 // Lines, words and numbers of a text, and texts of faults, as no program prints them. What programs print is rows of
-// checks/text_rows.
+// checks/rows/bus_replay_inputs.toml.
 use crate::comparing::{holds, same};
 use basics::Bytes;
 use secoc_words::frames::FrameReader;

@@ -1,5 +1,5 @@
 //! A script of nodes' own events over a bus of two nodes. The one program that reads such a script is `gateway`, whose
-//! bus has one node: its scripts are rows of checks/gateway_rows.
+//! bus has one node: its scripts are rows of checks/rows/gateway.toml.
 use crate::bus_shapes::{Shape, bus_of};
 use crate::comparing::holds;
 use bus_script::{BusConfig, Event, read_own_script};

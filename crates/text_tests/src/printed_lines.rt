@@ -1,5 +1,5 @@
 //! Lines that no replay over disks in memory prints: what a cut finds on a disk that doesn't tell bytes that fit, and
-//! the longest line. The other texts are rows of checks/replay_rows.
+//! the longest line. The other texts are rows of checks/rows/bus_replay_runs.toml.
 use crate::comparing::holds;
 use basics::Pdu;
 use bus_machine::{Line, Refusal};

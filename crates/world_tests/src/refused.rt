@@ -1,5 +1,5 @@
 //! What a start doesn't go on over at its second node, which is named, with the disk as it was. A program that starts
-//! over disks that stand has one node: its stores and files are rows of checks/node_rows.
+//! over disks that stand has one node: its stores and files are rows of checks/rows/node.toml.
 use crate::attached::{SIZE, pair};
 use crate::bench::{STORES, bytes_at, disks, starts};
 use crate::comparing::same;
