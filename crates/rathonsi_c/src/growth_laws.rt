@@ -73,13 +73,13 @@ pub fn a_roll_back_opens()
         → InRanges filled direction → OpenAnswers filled (take size y) status → status ≡ OK }
 {}
 
-/// The line erased the room up to cell `top`. Then each call of a growth is answered OK, whatever calls of whichever
-/// software came before it, and wherever in their plans the power went: for a cell that the store has, and for the
-/// next one (`each_is_ok`). No cell is lost (`goes_on`). Each is as it was, or holds the first bound of its route, if
-/// it was nobody's (`cells`, `kept`).
+/// The line erased the room up to cell `top`, above each cell of the table that a store can have. Then each call of a
+/// growth is answered OK, whatever calls of whichever software came before it, and wherever in their plans the power
+/// went: for a cell that the store has, and for the next one (`each_is_ok`). No cell is lost (`goes_on`). Each is as it
+/// was, or holds the first bound of its route, if it was nobody's (`cells`, `kept`).
 pub fn a_store_gets_all_its_cells()
     ensures goes_on { (table : Table) (steps n top : ℕ) (x y : List ℕ) → StoreWithRoom n top x
-        → ((k : ℕ) → (table.route k).cell < top) → GrowthSteps table steps x y
+        → ((k : ℕ) → (table.route k).cell < 270 → (table.route k).cell < top) → GrowthSteps table steps x y
         → (m : ℕ) × (StoreWithRoom m top y × (n ≤ m)) }
     ensures cells { (table : Table) (steps j : ℕ) (x y : List ℕ) → GrowthSteps table steps x y
         → (cell_at y j ≡ cell_at x j) ⊎ HasFirstBound table y j }
