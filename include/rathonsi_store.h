@@ -19,15 +19,14 @@
  *
  * More is proved of a caller that keeps what it owes, over all lives with a store of several routes
  * and slots. A life lasts from one power-up to the next. This holds wherever within a write the
- * power goes. The caller may open, send, accept, take answers, reserve, advance, load, finish and
- * drop with the calls below. A route may have any key, window, reserve and boot, in this life and
+ * power goes. The caller may open, send, accept, take answers, rejoin, reserve, advance, load, finish
+ * and drop with the calls below. A route may have any key, window, reserve and boot, in this life and
  * the next.
- *   - The freshness sent under a Data ID strictly rises. So does the freshness accepted. Both stay
- *     at most the bound on the device. This holds over software updates that add routes, and over
- *     roll-backs, at any moment and in any order.
- *   - Of a unit in which one receiver rejoins after a reset, what that receiver accepts strictly
- *     rises, under two conditions: see rathonsi_sync_rejoin. The other points speak of units that
- *     don't rejoin.
+ *   - The freshness sent under a Data ID strictly rises. So does the freshness accepted by a route
+ *     that doesn't rejoin. Both stay at most the bound on the device. This holds over software
+ *     updates that add routes, and over roll-backs, at any moment and in any order.
+ *   - What a route accepts that rejoins after a reset strictly rises over all lives of one software,
+ *     under two conditions: see rathonsi_sync_rejoin.
  *   - After a receiver took an answer of its sender, it accepts what the sender sends after the
  *     answer, within its window. An answer that somebody made without the key moves no counter.
  *   - An update that was confirmed stays in its slot, and the same reply confirms it. This lasts
@@ -637,9 +636,10 @@ RathonsiVerdict rathonsi_sync_take(RathonsiRoute *route, const uint8_t *image, s
 /* Back at once after a reset. A route that is opened begins at its bound, so a receiver refuses what
  * its sender sends up to there: with a reserve of 128 up to 127 PDUs. This call moves its counter down
  * to the sender's, if no call moved it since rathonsi_route_open. The bound stays, so the first PDU
- * needs no plan (a nonce of rathonsi_sync_nonce needs one at each power-up). Ask after the route was
- * opened, by a nonce that nobody can foretell: see rathonsi_sync_nonce. Whoever foretells it asks the
- * sender early, and lowers the counter later.
+ * needs no plan, unless the sender is beyond the bound: RATHONSI_RESERVE. (A nonce of
+ * rathonsi_sync_nonce needs one at each power-up.) Ask after the route was opened, by a nonce that
+ * nobody can foretell: see rathonsi_sync_nonce. Whoever foretells it asks the sender early, and lowers
+ * the counter later.
  * What is accepted strictly rises over all lives, if each accepted PDU is one that this sender sent and
  * each answer was made since the route was opened. Without that it rises from an opening to the next.
  * So never rejoin under a key that another unit sent with before, or this one with a store that was made

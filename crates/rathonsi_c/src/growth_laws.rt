@@ -19,20 +19,20 @@ ghost use Rattle.rathonsi_c.specs.Lives.{Memory, Deed, Lives, SameRoute, RisesTo
 ghost use Rattle.rathonsi_c.specs.Routes.{InRanges, OpenAnswers};
 ghost use Rattle.rathonsi_c.specs.Slots.{ConfirmsSlot};
 ghost use Rattle.rathonsi_c.specs.Softwares.{Table, CellsApart, GrowthSteps, SoftwareComesUp, Software, AllSoftware};
-ghost use Rattle.rathonsi_c.specs.Softwares.{given_by_all, KeepsAtLeast, StoreWithRoom, HasOwnCell, HasFirstBound};
+ghost use Rattle.rathonsi_c.specs.Softwares.{given_by_all, NoneRejoins, KeepsAtLeast, StoreWithRoom, HasOwnCell, HasFirstBound};
 ghost use Rattle.rathonsi_c.specs.Stores.{IsWhole, CheckAnswers};
 
 /// A unit gets new software with more routes, over whatever cuts, goes back to older software, and forward again, as
-/// often as one likes. The freshness of each route rises over all of it (`rises`). If the image keeps a bound of the
-/// route at first, all freshness is above what that covers, and what the power leaves in the end keeps a bound that is
-/// at least all that the route gave out (`covered`).
+/// often as one likes. The freshness of each route that doesn't rejoin rises over all of it (`rises`). If the image keeps
+/// a bound of the route at first, all freshness is above what that covers, and what the power leaves in the end keeps a
+/// bound that is at least all that the route gave out (`covered`).
 pub fn freshness_rises_over_all_software()
     ensures rises { (table : Table) (softwares : List Software) (a c : Memory) (room end : List ℕ) → CellsApart table
         → IsEmptyPlan a.plan → IsWhole a.image → AllSoftware table softwares a room c end → (k : ℕ)
-        → (high : ℕ) × RisesTo 0 (given_by_all k softwares) high }
+        → NoneRejoins k softwares → (high : ℕ) × RisesTo 0 (given_by_all k softwares) high }
     ensures covered { (table : Table) (softwares : List Software) (a c : Memory) (room end : List ℕ) (k low : ℕ)
         → CellsApart table → IsEmptyPlan a.plan → IsWhole a.image → AllSoftware table softwares a room c end
-        → KeepsAtLeast low (table.route k) a.image
+        → NoneRejoins k softwares → KeepsAtLeast low (table.route k) a.image
         → (high : ℕ) × (RisesTo low (given_by_all k softwares) high
         × ((left : List ℕ) → LeavesPut c.plan c.image left → KeepsAtLeast high (table.route k) left)) }
 {}
