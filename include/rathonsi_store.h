@@ -43,11 +43,12 @@
  *   D-7 Only the functions below change the image, the plan and the counters of routes. One
  *     exception: the caller zeroes a plan as this list says.
  *   D-8 rathonsi_store_make and rathonsi_route_make change the image only before the first power-up.
- *   D-9 A store has one image and one plan. Several stores share nothing: each has its own. A call
- *     that only reads the image may run at the same time as another one, each on a route of its own,
- *     also while the writes of a plan are made: sending, receiving, opening, answers, states, MACs.
- *     Of the calls that write the plan, one runs at a time. While rathonsi_store_done,
- *     rathonsi_store_make or rathonsi_route_make runs, no other call on the store does.
+ *   D-9 A store has one image, and one plan at a time, or several as D-13 says. Several stores share
+ *     nothing: each has its own. A call that only reads the image may run at the same time as another
+ *     one, each on a route of its own, also while the writes of a plan are made: sending, receiving,
+ *     opening, answers, states, MACs. Of the calls that write the plan, one runs at a time. While
+ *     rathonsi_store_done, rathonsi_store_make or rathonsi_route_make runs, no other call on the
+ *     store does.
  *   D-10 A Data ID in one direction has one cell and one route. No other route uses the cell.
  *     rathonsi_routes_open sees to it, if one call gets all routes of the store. rathonsi_route_make
  *     and rathonsi_store_grow refuse a second cell, and rathonsi_store_look names one.
@@ -56,6 +57,10 @@
  *   D-12 A route has the same Data ID, direction and cell in every life. Slot, window, reserve and
  *     booted may change. The caller zeroes opened at power-up, and never sets it.
  *   D-13 While a plan is pending, routes send and receive as before. A new plan answers RATHONSI_BUSY.
+ *     One exception: calls that reserve may plan for several routes over one image, each into a plan
+ *     of its own, before a write of any is begun. They are done together: all first writes, then all
+ *     second ones, then all third ones, each step durable before the next begins. Then the caller
+ *     calls rathonsi_store_done for each, in any order, before it plans anything else.
  *   D-14 A nonce is drawn by the caller, and none is used twice. One for rathonsi_sync_rejoin is drawn
  *     since the route was opened, and nobody could foretell it. See both calls. A unit answers only
  *     questions whose answerer is its own name, and asks under its own alone: the library can't know it.
@@ -78,6 +83,7 @@
  *
  *   Writes
  *   D-20 The caller does the writes of a plan in their order, each durable before the next begins.
+ *     Within a step of several plans (D-13) the order is free, and a cut may tear several writes.
  *   D-21 A write that is durable stays. If the power goes within a write, that write may leave
  *     anything in its own bytes, and changes no other byte. Some memory rewrites whole words, pages
  *     or sectors: memory with error correction over words, NOR flash, many EEPROMs, eMMC. Such

@@ -12,6 +12,8 @@ pub mod SyncSteps
 pub mod RejoinLaws
 pub mod RejoinSteps
 pub mod PairLaws
+pub mod TogetherLaws
+pub mod TogetherLives
 pub mod NonceLaws
 pub mod PieceLaws
 pub mod StepLaws

@@ -15,7 +15,7 @@ use Rattle.rathonsi_c.specs.Stores.{IsWhole}
 use Rattle.rathonsi_c.specs.Lives.{Memory, Deed, sends, accepts, takes, rejoins, opens, sets, reserves, loads, drops, finishes, powers_up, Lives, DoesDeed}
 
 -- another image with the same header, and a copy that counts in each cell
-moved_whole : (x y : List ℕ) → length y ≡ length x → part 0 32 y ≡ part 0 32 x → ((i : ℕ) → IsSome (cell_at x i) → IsSome (cell_at y i)) → IsWhole x → IsWhole y
+pub moved_whole : (x y : List ℕ) → length y ≡ length x → part 0 32 y ≡ part 0 32 x → ((i : ℕ) → IsSome (cell_at x i) → IsSome (cell_at y i)) → IsWhole x → IsWhole y
 moved_whole x y l head cells h = record {
   count = h.count;
   size = record { least = h.size.least; most = h.size.most; is = l ∙ h.size.is };
