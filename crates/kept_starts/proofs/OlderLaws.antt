@@ -41,7 +41,7 @@ use Rattle.bus_world.specs.Opening.{of_store, of_cells}
 use Rattle.bus_world.proofs.CallerLemmas.{older_one}
 use Rattle.kept_starts.specs.declared.first.KeepFault.{KeepFault}
 use Rattle.kept_starts.specs.declared.first.KeepFault.TheVariants as keep
-use Rattle.kept_starts.specs.LookedAt.{cells_in_bus, size_in_bus, config_in_bus, cells_calls, look_calls, SeenInBus, KeepsTold, KeepsOlder, HoldsOldCells, UnreadInBus, CellsNotInBus, KeepCause, FailsWithin, fault_of_store, fault_of_cells}
+use Rattle.kept_starts.specs.LookedAt.{cells_in_bus, size_in_bus, config_in_bus, cells_calls, look_calls, SeenInBus, KeepsTold, KeepsOlder, HoldsOldCells, UnreadInBus, CellsNotInBus, KeepCause, FailsToKeepWithin, keep_fault_of_store, keep_fault_of_cells}
 use Rattle.kept_starts.proofs.LookLaws.{unlooked}
 use Rattle.kept_starts.proofs.KeepLaws.{blank_low, first_alone, second_there, first_not_blank}
 
@@ -99,10 +99,10 @@ module _ (bus : NamedBus) (disk : DiskState) where
   pub older_held : HoldsOldCells bus disk → KeepsOlder bus disk
   older_held holds t tells older = holds t tells
 
-  pub other_fails : (there : StoreHeader) → SeesTold (see.Other there) → FailsWithin (cells_calls bus) bus disk disk (keep.OtherStore there)
+  pub other_fails : (there : StoreHeader) → SeesTold (see.Other there) → FailsToKeepWithin (cells_calls bus) bus disk disk (keep.OtherStore there)
   other_fails there sees = record { runs = (unlooked (cells_calls bus) disk).runs; told = refl; cause = (refl, sees) }
 
-  pub neither_fails : SeesTold see.Neither → FailsWithin (cells_calls bus) bus disk disk keep.NotFormatted
+  pub neither_fails : SeesTold see.Neither → FailsToKeepWithin (cells_calls bus) bus disk disk keep.NotFormatted
   neither_fails sees = record { runs = (unlooked (cells_calls bus) disk).runs; told = refl; cause = (refl, λ t tells. inl (sees t tells)) }
 
 -- ---- the cells in version 1
@@ -212,7 +212,7 @@ module _ (bus : NamedBus) (before : DiskState) (few : FewCells (cells_in_bus bus
 
   pub unread_fails : (after : DiskState) (f : StoreFault) → store_size (layout bus.kind One) (cells_in_bus bus) ≤ before.size
       → NotAttached (layout bus.kind One) kept_reads (reads_to bus.kind (cells_in_bus bus)) (cells_in_bus bus) before after f
-      → FailsWithin (cells_calls bus) bus before after (fault_of_store f)
+      → FailsToKeepWithin (cells_calls bus) bus before after (keep_fault_of_store f)
   unread_fails after store.TooSmall room h = absurd (let no : ⊥ = omega (arith, room, h.0) in no)
   unread_fails after store.Memory room h = record {
     runs = subst (λ (d : DiskState). Runs [] (cells_calls bus) before d) (sym h.1) (unlooked (cells_calls bus) before).runs;
@@ -241,7 +241,7 @@ module _ (bus : NamedBus) (before : DiskState) (few : FewCells (cells_in_bus bus
     faults_here : after.faults ≡ before.faults
     faults_here = ap (λ (d : DiskState). d.faults) same ∙ a.as_before.faults
 
-    pub cells_fail : (f : AttachFault) → AttachCause config.routes s.cells f → FailsWithin (cells_calls bus) bus before after (fault_of_cells f)
+    pub cells_fail : (f : AttachFault) → AttachCause config.routes s.cells f → FailsToKeepWithin (cells_calls bus) bus before after (keep_fault_of_cells f)
     cells_fail (cells.BadSlot slot) cause = record {
       runs = runs_here;
       told = told_here;
@@ -282,7 +282,7 @@ module _ (bus : NamedBus) (disk mid after : DiskState) (look : AsBefore 3 disk m
   join_cause keep.DiskFailed cause = subst (λ (n : ℕ). Rose n after.faults) look.faults cause
   join_cause keep.Memory cause = cause ∙ look.faults
 
-  pub join_fails : (r : Result (Unit {0}) KeepFault) → IfErr r (FailsWithin (cells_calls bus) bus mid after) → IfErr r (FailsWithin (look_calls bus) bus disk after)
+  pub join_fails : (r : Result (Unit {0}) KeepFault) → IfErr r (FailsToKeepWithin (cells_calls bus) bus mid after) → IfErr r (FailsToKeepWithin (look_calls bus) bus disk after)
   join_fails (Ok u) fails = tt
   join_fails (Err fault) fails = record {
     runs = runs_join look.runs fails.runs;
@@ -291,10 +291,10 @@ module _ (bus : NamedBus) (disk mid after : DiskState) (look : AsBefore 3 disk m
   }
 
 -- no more was read if the look came to no end
-pub failed_look : (bus : NamedBus) (disk after : DiskState) → FailsLook 3 disk after look_fault.DiskFailed → FailsWithin (look_calls bus) bus disk after keep.DiskFailed
+pub failed_look : (bus : NamedBus) (disk after : DiskState) → FailsLook 3 disk after look_fault.DiskFailed → FailsToKeepWithin (look_calls bus) bus disk after keep.DiskFailed
 failed_look bus disk after f = record { runs = runs_more (look_calls bus) (omega arith) f.runs; told = f.told; cause = f.cause }
 
-pub failed_memory : (bus : NamedBus) (disk after : DiskState) → FailsLook 3 disk after look_fault.Memory → FailsWithin (look_calls bus) bus disk after keep.Memory
+pub failed_memory : (bus : NamedBus) (disk after : DiskState) → FailsLook 3 disk after look_fault.Memory → FailsToKeepWithin (look_calls bus) bus disk after keep.Memory
 failed_memory bus disk after f = record { runs = runs_more (look_calls bus) (omega arith) f.runs; told = f.told; cause = f.cause }
 
 -- ---- as the code has it
@@ -315,13 +315,13 @@ module _ (bus : NamedBus) (before : DiskState) (kind : Kind) (n : ℕ) (kind_is 
 
   module _ (few : FewCells (cells_in_bus bus)) (good : IsConfig (config_in_bus bus)) (older : SeesTold bus before see.Older) where
     pub older_unread : size_in_bus bus ≤ before.size → (after : DiskState) (f : StoreFault)
-        → NotAttached (layout kind One) (reads kind n) (reads_to kind n) n before after f → FailsWithin (cells_calls bus) bus before after (fault_of_store f)
+        → NotAttached (layout kind One) (reads kind n) (reads_to kind n) n before after f → FailsToKeepWithin (cells_calls bus) bus before after (keep_fault_of_store f)
     older_unread room after f h =
         unread_fails bus before few good older after f (room_one bus.kind bus.version (cells_in_bus bus) before.size room)
         (subst (λ (k : Kind). NotAttached (layout k One) (reads k (cells_in_bus bus)) (reads_to k (cells_in_bus bus)) (cells_in_bus bus) before after f) kind_is
         (subst (λ (m : ℕ). NotAttached (layout kind One) (reads kind m) (reads_to kind m) m before after f) n_is h))
 
     pub older_cells : (copy : Config) → copy ≡ config_in_bus bus → (s : CellsState) (after : DiskState) → Attached (layout kind One) (reads kind n) n before s → after ≡ s.disk
-        → (f : AttachFault) → AttachCause copy.routes s.cells f → FailsWithin (cells_calls bus) bus before after (fault_of_cells f)
+        → (f : AttachFault) → AttachCause copy.routes s.cells f → FailsToKeepWithin (cells_calls bus) bus before after (keep_fault_of_cells f)
     older_cells copy config_is s after a same f cause =
         cells_fail bus before few good older after s (attached_here s a) same f (subst (λ (c : Config). AttachCause c.routes s.cells f) config_is cause)

@@ -62,21 +62,23 @@ HoldsOldCells bus disk = (t : Told) → disk.told ≡ Some t → (kept : Kept) �
 
 -- if told bytes have the node's store in version 1, which a start in version 2 moves, its cells are the node's
 abbrev pub KeepsOlder : NamedBus → DiskState → Type 0
-KeepsOlder bus disk = (t : Told) → disk.told ≡ Some t → IsFound bus.kind bus.version (cells_in_bus bus) t.bytes found.Older
-    → (kept : Kept) × IsKept (config_in_bus bus) kept × Stands (layout bus.kind One) t.bytes (CellsOf (config_in_bus bus) kept)
+KeepsOlder bus disk = (t : Told) → disk.told ≡ Some t
+    → IsFound bus.kind bus.version (cells_in_bus bus) t.bytes found.Older
+    → (kept : Kept) × IsKept (config_in_bus bus) kept
+    × Stands (layout bus.kind One) t.bytes (CellsOf (config_in_bus bus) kept)
 
 -- why a store in version 1 isn't read, and why its cells are no node's
-abbrev pub fault_of_store : StoreFault → KeepFault
-fault_of_store store.DiskFailed = keep.DiskFailed
-fault_of_store store.NotFormatted = keep.NotFormatted
-fault_of_store store.TooSmall = keep.NotFormatted
-fault_of_store (store.Damaged place) = keep.Damaged place
-fault_of_store store.Memory = keep.Memory
+abbrev pub keep_fault_of_store : StoreFault → KeepFault
+keep_fault_of_store store.DiskFailed = keep.DiskFailed
+keep_fault_of_store store.NotFormatted = keep.NotFormatted
+keep_fault_of_store store.TooSmall = keep.NotFormatted
+keep_fault_of_store (store.Damaged place) = keep.Damaged place
+keep_fault_of_store store.Memory = keep.Memory
 
-abbrev pub fault_of_cells : AttachFault → KeepFault
-fault_of_cells (cells.BadSlot slot) = keep.BadSlot slot
-fault_of_cells (cells.BadBound cell) = keep.BadBound cell
-fault_of_cells cells.Memory = keep.Memory
+abbrev pub keep_fault_of_cells : AttachFault → KeepFault
+keep_fault_of_cells (cells.BadSlot slot) = keep.BadSlot slot
+keep_fault_of_cells (cells.BadBound cell) = keep.BadBound cell
+keep_fault_of_cells cells.Memory = keep.Memory
 
 -- the bytes are such as no node of the bus's configuration is started over: for what stands of a store, or its cells
 abbrev pub UnreadInBus : NamedBus → List ℕ → StoreFault → Type 0
@@ -104,13 +106,13 @@ KeepCause bus disk seen keep.DiskFailed = Rose disk.faults seen.faults
 KeepCause bus disk seen keep.Memory = seen.faults ≡ disk.faults
 
 -- so the disk was only read, in so many calls
-pub record FailsWithin (calls : ℕ) (bus : NamedBus) (disk seen : DiskState) (fault : KeepFault) : Type 0 where
+pub record FailsToKeepWithin (calls : ℕ) (bus : NamedBus) (disk seen : DiskState) (fault : KeepFault) : Type 0 where
   pub runs : Runs [] calls disk seen
   pub told : seen.told ≡ disk.told
   pub cause : KeepCause bus disk seen fault
 
 abbrev pub FailsToKeep : NamedBus → DiskState → DiskState → KeepFault → Type 0
-FailsToKeep bus disk seen fault = FailsWithin (look_calls bus) bus disk seen fault
+FailsToKeep bus disk seen fault = FailsToKeepWithin (look_calls bus) bus disk seen fault
 
 -- ---- the first of the disks
 

@@ -5,8 +5,8 @@ ghost use Rattle.std.specs.Prelude.{Some};
 ghost use Rattle.cut_disk.specs.State.{Told};
 ghost use Rattle.disk_looks.specs.declared.looks.Seen.TheVariants.{Older};
 ghost use Rattle.kept_starts.specs.LookedAt.{LookedAt, NotKept, FailsToKeep, KeepsTold, HasStoreRoom, size_in_bus, cells_in_bus};
-ghost use Rattle.kept_starts.specs.LookedAt.{KeepsOlder, HoldsOldCells, FailsWithin, SeenInBus, look_calls, cells_calls};
-ghost use Rattle.kept_starts.specs.LookedAt.{fault_of_store, fault_of_cells, config_in_bus};
+ghost use Rattle.kept_starts.specs.LookedAt.{KeepsOlder, HoldsOldCells, FailsToKeepWithin, SeenInBus, look_calls, cells_calls};
+ghost use Rattle.kept_starts.specs.LookedAt.{keep_fault_of_store, keep_fault_of_cells, config_in_bus};
 ghost use Rattle.freshness_routes.specs.Config.{IsConfig};
 ghost use Rattle.bus_world.specs.Starts.{HasRoom};
 
@@ -139,7 +139,8 @@ fn kept_as<D: Disk>(
     ensures as_before { OnOk result.1 (AsBefore (cells_calls bus.now) (D.state disk) (D.state result.0)) }
     ensures keeps { OnOk result.1 (KeepsTold bus.now (D.state disk)) }
     ensures keeps_older { OnOk result.1 (KeepsOlder bus.now (D.state disk)) }
-    ensures refused { IfErr result.1 (FailsWithin (cells_calls bus.now) bus.now (D.state disk) (D.state result.0)) }
+    ensures refused { IfErr result.1
+        (FailsToKeepWithin (cells_calls bus.now) bus.now (D.state disk) (D.state result.0)) }
 {
     match seen {
         Seen::Unused | Seen::Standing => (disk, Ok(())),
@@ -156,7 +157,8 @@ fn look_at_older<D: Disk>(alloc: Global, bus: &BusConfig, disk: D) -> (D, Result
     requires older { (t : Told) → (D.state disk).told ≡ Some t → SeenInBus bus.now t.bytes Older }
     ensures as_before { OnOk result.1 (AsBefore (cells_calls bus.now) (D.state disk) (D.state result.0)) }
     ensures holds { OnOk result.1 (HoldsOldCells bus.now (D.state disk)) }
-    ensures refused { IfErr result.1 (FailsWithin (cells_calls bus.now) bus.now (D.state disk) (D.state result.0)) }
+    ensures refused { IfErr result.1
+        (FailsToKeepWithin (cells_calls bus.now) bus.now (D.state disk) (D.state result.0)) }
 {
     let Ok(config) = node_config(bus).copy(alloc) else {
         return (disk, Err(KeepFault::Memory));
@@ -175,7 +177,7 @@ fn look_at_older<D: Disk>(alloc: Global, bus: &BusConfig, disk: D) -> (D, Result
 
 /// Why a store in version 1 isn't read.
 fn store_fault(fault: StoreFault) -> KeepFault
-    ensures { result ≡ fault_of_store fault }
+    ensures { result ≡ keep_fault_of_store fault }
 {
     match fault {
         StoreFault::DiskFailed => KeepFault::DiskFailed,
@@ -187,7 +189,7 @@ fn store_fault(fault: StoreFault) -> KeepFault
 
 /// Why its cells are no node's.
 fn cells_fault(fault: &AttachFault) -> KeepFault
-    ensures { result ≡ fault_of_cells fault.now }
+    ensures { result ≡ keep_fault_of_cells fault.now }
 {
     match fault {
         AttachFault::BadSlot(slot) => KeepFault::BadSlot(*slot),
