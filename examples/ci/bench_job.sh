@@ -36,7 +36,7 @@ verdict=0
     echo "bench: status $bench"
     echo "watch: status $verdict"
     [ "$early" = 0 ] || echo "the recorder ended before the bench did"
-    grep -E '"kind":"(frame|over)"|"accepted":0,' watch.jsonl || true
+    grep -E '"kind":"(frame|over|silent)"|"accepted":0,' watch.jsonl || true
     cat explained.txt
 } >report.txt
 python3 "$here/junit.py" "$map" explained.txt <watch.jsonl >junit.xml || true
