@@ -79,7 +79,7 @@ def limits_of(options):
     if "--strict" in options:
         for name in ("malformed", "unmapped", *(["missed"] if given["missed-share"] is None else [])):
             given[name] = given[name] or 0
-        given["silent"] = given["silent"] or 10**6
+        given["silent"] = given["silent"] or 5 * 10**6
     return given
 
 
@@ -132,7 +132,7 @@ def totals(map_text, log_text, answers, options=()):
         share = -(-100 * missed // values) if values else 0
         what = f"line {number} {head.decode()} {words[1].decode().lower()} "
         over += over_lines(limits, {"missed": missed, "missed-share": share}, what)
-        begin, end = longest([moments[0], *heard[place], moments[-1]]) if moments else (0, 0)
+        begin, end = longest([moments[0], *heard[place], moments[-1]]) if moments else (0, 2**64 - 1)
         if limits["silent"] is not None and not mapping[place][2] and end - begin >= limits["silent"]:
             over += f"silent {what}from {seconds(begin)} to {seconds(end)} limit {seconds(limits['silent'])}\n"
         text += f"line {number} {head.decode()} {words[1].decode().lower()} accepted {accepted[place]}"

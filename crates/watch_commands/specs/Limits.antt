@@ -36,5 +36,5 @@ limits_in options = record {
   missed_share = options.limits.missed_share;
   malformed = or_strict options.strict 0 options.limits.malformed;
   unmapped = or_strict options.strict 0 options.limits.unmapped;
-  silent = or_strict options.strict 1000000 options.limits.silent;
+  silent = or_strict options.strict 5000000 options.limits.silent;
 }

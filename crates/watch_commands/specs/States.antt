@@ -11,7 +11,7 @@ use Rattle.watch_commands.specs.declared.counts.LineCounts.{LineCounts}
 use Rattle.watch_commands.specs.declared.times.LogClock.{LogClock}
 use Rattle.watch_commands.specs.declared.times.HeardTimes.{HeardTimes}
 use Rattle.watch_commands.specs.declared.times.Silence.{Silence}
-use Rattle.watch_commands.specs.Silences.{no_silence}
+use Rattle.watch_commands.specs.Silences.{endless_silence}
 use Rattle.watch_commands.specs.Times.{first_time, moment_after, time_found, clock_of, times_of, no_times, until, heard}
 use Rattle.secoc_words.specs.Counting.{last_accepted}
 use Rattle.watch_commands.specs.WatchedMaps.{WatchedMap}
@@ -172,8 +172,8 @@ pub record WatchesNext (old : WatchState) (number : ℕ) (line : List ℕ) (new 
 -- the longest silence of a line of the map, if the log ends here
 abbrev pub silence_until : Option ℕ → Option ℕ → HeardTimes → Silence
 silence_until (Some begin) (Some moment) times = until begin moment times
-silence_until (Some begin) None times = no_silence
-silence_until None moment times = no_silence
+silence_until (Some begin) None times = endless_silence
+silence_until None moment times = endless_silence
 
 abbrev pub silence_at : WatchState → ℕ → Silence
 silence_at state place =

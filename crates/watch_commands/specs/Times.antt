@@ -7,7 +7,7 @@ use Rattle.watch_commands.specs.declared.times.HeardTimes.{HeardTimes}
 use Rattle.watch_commands.specs.declared.times.LogClock.{LogClock}
 use Rattle.watch_commands.specs.declared.times.Silence.{Silence}
 use Rattle.watch_commands.specs.Seconds.{seconds_form}
-use Rattle.watch_commands.specs.Silences.{no_silence, longer}
+use Rattle.watch_commands.specs.Silences.{no_silence, endless_silence, longer}
 use Rattle.watch_commands.specs.Stamps.{LineStamp, within_ends}
 use Rattle.watch_commands.specs.Watching.{Found}
 use Rattle.watch_commands.specs.WatchTotals.{is_accepted_at, is_other_of, is_malformed_line}
@@ -67,11 +67,11 @@ abbrev pub longest : ℕ → List ℕ → Silence
 longest begin moments = fold longer no_silence (between begin moments)
 
 -- that of the map's line at a place: from the log's first time, or from a frame that it accepted, to the next such frame
--- or to the log's last moment. A log without times has none
+-- or to the log's last moment. In a log without times it has no end
 abbrev pub silence_in : List ℕ → Option ℕ → Option ℕ → Silence
 silence_in heard (Some begin) (Some end) = longest begin (heard ++ end ∷ [])
-silence_in heard (Some begin) None = no_silence
-silence_in heard None end = no_silence
+silence_in heard (Some begin) None = endless_silence
+silence_in heard None end = endless_silence
 
 abbrev pub silence_of : ℕ → List Found → Silence
 silence_of place found = silence_in (heard_from place None found) (begin_of found) (moment_of found)

@@ -11,8 +11,8 @@ use crate::times::seconds;
 use std::marker::Model;
 use text_lines::forms;
 
-/// The silence that is too long if all is strict, in microseconds: a second.
-const STRICT_SILENCE: u64 = 1_000_000;
+/// The silence that is too long if all is strict, in microseconds.
+const STRICT_SILENCE: u64 = 5_000_000;
 
 /// How findings are printed, and what passes.
 #[derive(Clone, Copy, Debug)]

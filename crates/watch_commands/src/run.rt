@@ -30,7 +30,7 @@ LOG is a log of candump -L; - is standard input.
 --time prints the time and the channel of the log before each answer.
 LIMIT is what a log may have at most: --missed N and --missed-share PERCENT of freshness for a line of MAP,
 --silent SECONDS without an accepted frame of a line of MAP that isn't optional,
---malformed N lines, --unmapped for no frame that MAP doesn't name. --strict is all of them, with 0 and 1 second.
+--malformed N lines, --unmapped for no frame that MAP doesn't name. --strict is all of them, with 0 and 5 seconds.
 --expect compares the output with FILE and prints none: 0 if it is the same, else 1 and the line that differs.
 A line of MAP: CANID ID KEY FRESH LEN [WINDOW [CHANNEL]] [optional] [name=NAME] [# COMMENT]
 Status 0: each mapped frame was accepted, and one at least for each line of MAP that isn't optional.

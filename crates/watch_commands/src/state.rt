@@ -303,10 +303,10 @@ impl Watch {
         ensures { result ≡ silence_at self.now place }
     {
         let Some(begin) = self.clock.begin else {
-            return Silence::none();
+            return Silence::endless();
         };
         let Some(moment) = self.clock.moment else {
-            return Silence::none();
+            return Silence::endless();
         };
         self.times[place].until(begin, moment)
     }

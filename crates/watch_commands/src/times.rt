@@ -6,7 +6,7 @@ ghost use Rattle.std.specs.Char.{is_ascii_digit};
 ghost use Rattle.std.specs.Str.Parse.{digits_value};
 ghost use Rattle.watch_commands.specs.Seconds.{millionths, seconds_parts, seconds_form, seconds_text};
 ghost use Rattle.watch_commands.specs.Times.{moment_after, first_time, no_times, until, heard};
-ghost use Rattle.watch_commands.specs.Silences.{no_silence, lasts};
+ghost use Rattle.watch_commands.specs.Silences.{no_silence, endless_silence, lasts};
 
 use itoa::Buffer;
 use line_stream::add_bytes;
@@ -159,6 +159,16 @@ impl Silence {
         ensures { result ≡ no_silence }
     {
         Silence { from: 0, to: 0 }
+    }
+
+    /// That of a log without times: nobody knows when a line accepted anything.
+    pub fn endless() -> Silence
+        ensures { result ≡ endless_silence }
+    {
+        Silence {
+            from: 0,
+            to: u64::MAX,
+        }
     }
 
     /// How long it lasts.

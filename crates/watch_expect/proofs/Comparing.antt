@@ -18,7 +18,7 @@ use Rattle.line_stream.specs.declared.driver.StreamFault.TheVariants as stream
 use Rattle.line_stream.proofs.CallerLemmas.{TakesLines-keeps, Paused-keeps}
 use Rattle.watch_commands.specs.WatchedMaps.{WatchedMap}
 use Rattle.watch_commands.specs.States.{WatchState, IsFreshWatch, Watched, end_text}
-use Rattle.watch_commands.specs.Watching.{Found, findings_of, WatchesEach, FindsComplete, FindsAll, found_text, told_text}
+use Rattle.watch_commands.specs.Watching.{Found, WatchesEach, FindsComplete, FindsAll, found_text, told_text}
 use Rattle.watch_commands.specs.LogTotals.{totals_text}
 use Rattle.watch_commands.specs.Words.{AsksWatch, text_asked}
 use Rattle.watch_commands.specs.WatchRows.{OverMap, ComesOnErrors, no_form, no_map, map_fault, no_log, FailsOfLog, failed, too_long}

@@ -7,7 +7,7 @@ use Rattle.text_lines.specs.Lines.{is_line_feed}
 use Rattle.text_lines.specs.Texts.{line}
 use Rattle.program_edge.specs.Inputs.{Reading}
 use Rattle.watch_commands.specs.WatchedMaps.{WatchedMap}
-use Rattle.watch_commands.specs.Watching.{Found, findings_of, FindsComplete, FindsAll, found_text}
+use Rattle.watch_commands.specs.Watching.{Found, FindsComplete, FindsAll, found_text}
 use Rattle.watch_commands.specs.LogTotals.{totals_text}
 use Rattle.can_logs.specs.LogRuns.{Writing, ReadsToEnd, HasCome}
 
