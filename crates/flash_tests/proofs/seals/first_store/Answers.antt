@@ -1,4 +1,4 @@
-use Rattle.std.proofs.Common.{[], ◌∷◌, replicate, sym, ◌∙◌, arith}
+use Rattle.std.proofs.Common.{sym, ◌∙◌, arith}
 use Rattle.seal_parts.specs.MemPart.{memory_part}
 use Rattle.seal_store.specs.Store.{off_at}
 use Rattle.seal_store.proofs.CallerLemmas.{lived_first}
