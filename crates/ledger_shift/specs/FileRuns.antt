@@ -1,8 +1,7 @@
 -- How the file of a ledger is opened, served and closed (own)
-use Rattle.std.specs.Prelude.{◌≡◌, ◌⊎◌, ◌<◌, ◌≤◌, ℕ, Bool, true, false, [], IsTrue}
+use Rattle.std.specs.Prelude.{◌≡◌, ◌⊎◌, ◌<◌, ◌≤◌, ℕ, Bool, true, false, []}
 use Rattle.bus_port.specs.Sink.{SinkState}
 use Rattle.program_edge.specs.Inputs.{Reading}
-use Rattle.program_edge.specs.Rows.{Row}
 use Rattle.program_edge.specs.Told.{EndingTold}
 use Rattle.sqlite_disk.specs.declared.Disk.{Ghosts}
 use Rattle.sqlite_disk.specs.declared.Files.{Files}
