@@ -1,9 +1,10 @@
 //! Files of ledgers by their paths. No clause says which file is looked at, made or opened here.
-ghost use Rattle.std.specs.Prelude.{◌≡◌, IfErr, IfOk, IsTrue};
+ghost use Rattle.std.specs.Prelude.{false, IfErr, IfOk, IfSome, IsTrue};
 ghost use Rattle.sqlite.specs.State.{HasCleanDisk};
 ghost use Rattle.sqlite.specs.Files.{IsOpened, file_state};
 ghost use Rattle.sqlite.specs.Held.{IsNew};
 ghost use Rattle.sqlite.specs.Opening.{is_open_error};
+ghost use Rattle.ledger_shift.specs.Opening.{IsOpenFault};
 
 use ledger_shift::{FileFault, LedgerOpener};
 use program_edge::OpenedWords;
@@ -32,11 +33,15 @@ impl<'a> LedgerPaths<'a> {
     }
 }
 
-/// Whether there is no file, or an empty one. What can't be looked at is left to the open.
-fn is_missing(rt: &HostRuntime, path: &str) -> bool {
+/// Why a file has no ledger before it is opened. What can't be looked at is left to the open.
+fn look_at(rt: &HostRuntime, path: &str) -> Option<FileFault>
+    ensures { IfSome result (IsOpenFault false) }
+{
     match fs::metadata(rt, path) {
-        Ok(metadata) => metadata.is_file() && metadata.len() == 0,
-        Err(error) => error.kind() == std::io::ErrorKind::NotFound,
+        Ok(metadata) if metadata.is_file() && metadata.len() == 0 => Some(FileFault::Empty),
+        Ok(_) => None,
+        Err(error) if error.kind() == std::io::ErrorKind::NotFound => Some(FileFault::Missing),
+        Err(_) => None,
     }
 }
 
@@ -77,8 +82,8 @@ impl<'a> LedgerOpener for LedgerPaths<'a> {
         self.opened = self.opened.and(path);
         if is_new {
             make_file(self.rt, path);
-        } else if is_missing(self.rt, path) {
-            return Err(FileFault::Missing);
+        } else if let Some(fault) = look_at(self.rt, path) {
+            return Err(fault);
         }
         match open_database(self.rt, path) {
             Ok(conn) => Ok(conn),

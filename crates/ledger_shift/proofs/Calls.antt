@@ -82,20 +82,20 @@ module _ {S : Type 0} (g : Ghosts S) where
   by_asked before after number (ask.By origin) (same, done) clean = (subst IsClean same clean, none_of before after number (ap (rows_of g) same))
   by_asked before after number (ask.Issue i) named clean =
       let serves = was_named before.noted.is_named before after (printed_line_number number) (ask.Issue i) named in (
-    omega (arith, serves.survives.clean),
-    elim serves.ends [
-      | inl answered ↦ issue_calls before after number i answered.0 (answered.1 clean) answered.3
-      | inr failed ↦ absurd failed
-    ],
-  )
+        omega (arith, serves.survives.clean),
+        elim serves.ends [
+          | inl answered ↦ issue_calls before after number i answered.0 (answered.1 clean) answered.3
+          | inr failed ↦ absurd failed
+        ],
+      )
   by_asked before after number (ask.Confirm k) named clean =
       let serves = was_named before.noted.is_named before after (printed_line_number number) (ask.Confirm k) named in (
-    omega (arith, serves.survives.clean),
-    elim serves.ends [
-      | inl answered ↦ confirm_calls before after number k answered.0 (answered.1 clean) answered.3
-      | inr failed ↦ absurd failed
-    ],
-  )
+        omega (arith, serves.survives.clean),
+        elim serves.ends [
+          | inl answered ↦ confirm_calls before after number k answered.0 (answered.1 clean) answered.3
+          | inr failed ↦ absurd failed
+        ],
+      )
   by_asked before after number (ask.Show uid id) serves clean = (
     omega (arith, serves.survives.clean),
     elim serves.ends [

@@ -61,7 +61,7 @@ origin_is origin station operator time s o t = rw (s, o, t) refl
 pub shift_of : {S : Type 0} (g : Ghosts S) (call : ShiftCall S) (first : RowOrigin) (ended : Result ShiftEnd StreamFault) (conn : Held S) (origin : RowOrigin) (noted : Noted) (sink : SinkState) (row : Row)
     → first ≡ nobody → call.conn_after ≡ conn → call.sink_after ≡ sink
     → Streamed (TakesShiftLine g) (PausesShift g) (EndsShift g) call.script (record { conn = call.conn_before; origin = first; noted = nothing_noted; sink = call.sink_before })
-      (record { conn = conn; origin = origin; noted = noted; sink = sink }) ended
+    (record { conn = conn; origin = origin; noted = noted; sink = sink }) ended
     → IsEndRow ended row → EndingTold call.errors_before call.errors_after row.text row.status call.status → RunsShift g call
 shift_of g call first ended conn origin noted sink row is same_conn same_sink streamed row_is told = record {
   ended = ended;

@@ -16,12 +16,12 @@ use Rattle.sqlite.specs.State.{HasCleanDisk}
 use Rattle.sqlite.specs.declared.error.Error.{Error}
 use Rattle.ledger_tables.specs.Held.{ledger_in, HasLedgerTable}
 use Rattle.ledger_shift.specs.declared.opening.FileFault.{FileFault}
-use Rattle.ledger_shift.specs.Opening.{file_row, fault_row, IsOpenFault, IsTableFault}
+use Rattle.ledger_shift.specs.Opening.{file_row, file_fault_row, IsOpenFault, IsTableFault}
 use Rattle.ledger_shift.specs.Statuses.{RunsShift}
 
 -- what a run over a file has from its caller: whether a ledger is to be made, the script, where answers and refusals go,
 -- and the status
-pub record FileCall : Type 0 where
+pub record FileRun : Type 0 where
   pub is_new : Bool
   pub script : Reading
   pub sink_before : SinkState
@@ -31,10 +31,10 @@ pub record FileCall : Type 0 where
   pub status : ℕ
 
 -- the file isn't served: nothing is read of the script, nothing is answered, and the row of the cause is printed
-pub record RefusesFile (call : FileCall) (fault : FileFault) : Type 0 where
+pub record RefusesFile (call : FileRun) (fault : FileFault) : Type 0 where
   pub unread : call.script.after ≡ call.script.before
   pub unanswered : call.sink_after ≡ call.sink_before
-  pub told : EndingTold call.errors_before call.errors_after (fault_row fault).text (fault_row fault).status call.status
+  pub told : EndingTold call.errors_before call.errors_after (file_fault_row fault).text (file_fault_row fault).status call.status
 
 -- the close failed after a shift with this status: 0 and 1 give way to the row of the error, and any other stays
 abbrev pub TellsClosing : Error → SinkState → ℕ → SinkState → ℕ → Type 0
@@ -56,13 +56,13 @@ module _ {D : Type 0} (g : Ghosts D) where
       × TellsClosing e before status after answer)
 
   -- an opened file isn't served, and nothing was added to it
-  abbrev pub IsUnserved : FileConn → FileCall → Type 0
+  abbrev pub IsUnserved : FileConn → FileRun → Type 0
   IsUnserved opened call =
       (fault : FileFault) × (conn : FileConn) × IsTableFault call.is_new (file_state opened) (file_state conn) fault
       × RefusesFile call fault
 
   -- An opened file is served by a shift, and closed. It has a ledger: an empty one that was made, or that which was found.
-  pub record IsServed (opened : FileConn) (call : FileCall) : Type 0 where
+  pub record IsServed (opened : FileConn) (call : FileRun) : Type 0 where
     pub ready : FileConn
     pub table : HasCleanDisk (file_state ready) → HasLedgerTable (file_state ready)
     pub made : call.is_new ≡ true → HasCleanDisk (file_state ready) → ledger_in (file_state ready) ≡ []
@@ -82,11 +82,11 @@ module _ {D : Type 0} (g : Ghosts D) where
     })
     pub closes : ClosesShift last errors status call.errors_after call.status
 
-  abbrev pub ServesOpened : FileConn → FileCall → Type 0
+  abbrev pub ServesOpened : FileConn → FileRun → Type 0
   ServesOpened opened call = IsUnserved opened call ⊎ IsServed opened call
 
   -- the file wasn't opened; or it was, and the connection sees what was committed
-  abbrev pub ServesFile : FileCall → Type 0
+  abbrev pub ServesFile : FileRun → Type 0
   ServesFile call =
       ((fault : FileFault) × IsOpenFault call.is_new fault × RefusesFile call fault)
       ⊎ ((opened : FileConn) × (HasCleanDisk (file_state opened) → IsOpened opened) × ServesOpened opened call)

@@ -47,14 +47,14 @@ pub record RunsOverFile {D : Type 0} (g : Ghosts D) (opens : List ℕ → Source
   pub files : call.files_after ≡ call.files_before ++ file ∷ []
   pub over_script : OverNamed opens call.sources_before call.sources_after (second_of_two (file_and_script call.words))
       call.script_after (λ script. ServesFile g (record {
-    is_new = makes_ledger call.words;
-    script = script;
-    sink_before = call.sink_before;
-    sink_after = call.sink_after;
-    errors_before = call.errors_before;
-    errors_after = call.errors_after;
-    status = call.status;
-  }))
+        is_new = makes_ledger call.words;
+        script = script;
+        sink_before = call.sink_before;
+        sink_after = call.sink_after;
+        errors_before = call.errors_before;
+        errors_after = call.errors_after;
+        status = call.status;
+      }))
 
 -- what comes of the arguments
 pub data RunsLedger {D : Type 0} (g : Ghosts D) (opens : List ℕ → SourceState → Type 0) (call : LedgerCall) : Type 0 where

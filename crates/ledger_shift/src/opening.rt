@@ -4,7 +4,7 @@ ghost use Rattle.sqlite.specs.State.{HasCleanDisk};
 ghost use Rattle.sqlite.specs.Files.{IsOpened, file_state};
 ghost use Rattle.sqlite.specs.Held.{IsNew, state};
 ghost use Rattle.ledger_tables.specs.Held.{HasLedgerTable, ledger_in};
-ghost use Rattle.ledger_shift.specs.Opening.{file_row, fault_row, IsOpenFault, IsTableFault};
+ghost use Rattle.ledger_shift.specs.Opening.{file_row, file_fault_row, IsOpenFault, IsTableFault};
 
 use ledger_tables::{is_ledger, new_ledger};
 use program_edge::Refusal;
@@ -15,8 +15,10 @@ use std::alloc::Global;
 /// Why the file of a ledger isn't served.
 #[derive(Clone, Copy, Debug, PartialEq, Eq)]
 pub enum FileFault {
-    /// There is no file, or an empty one, and none is to be made.
+    /// There is no file, and none is to be made.
     Missing,
+    /// The file is empty, and no ledger is to be made.
+    Empty,
     /// A ledger is to be made, and the file has something.
     Taken,
     /// The file isn't a ledger.
@@ -33,7 +35,7 @@ pub trait LedgerOpener {
     ghost opened: { Self → List (List ℕ) };
 
     /// Opens the file whose path this is. If a ledger is to be made, a file that isn't there is made, and nobody else may
-    /// read it. If not, none is made here, and one that isn't there or is empty is `Missing`.
+    /// read it. If not, none is made here: one that isn't there is `Missing`, and one without bytes is `Empty`.
     fn open(
         &mut self,
         path: &str,
@@ -71,14 +73,18 @@ pub(crate) fn file_refusal(error: &Error) -> Refusal
 
 /// The row for a cause why a file isn't served.
 pub(crate) fn fault_refusal(fault: &FileFault) -> Refusal
-    ensures { result ≡ fault_row fault.now }
+    ensures { result ≡ file_fault_row fault.now }
 {
     match fault {
         FileFault::Missing => {
             Refusal::fixed(10, "ledger: there is no ledger: --new makes one\n")
         }
+        FileFault::Empty => Refusal::fixed(10, "ledger: the file is empty\n"),
         FileFault::Taken => {
-            Refusal::fixed(10, "ledger: the file isn't empty: --new makes a new ledger\n")
+            Refusal::fixed(
+                10,
+                "ledger: the file isn't empty: --new makes a new ledger\n",
+            )
         }
         FileFault::Other => Refusal::fixed(10, "ledger: the file isn't a ledger\n"),
         FileFault::Failed(error) => file_refusal(error),

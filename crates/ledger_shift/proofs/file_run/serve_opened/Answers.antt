@@ -17,9 +17,14 @@ returns-in-Ok g c = inr (record {
 })
 
 pub returns-in-Err : goal.returns-in-Err
-returns-in-Err g c = inl (c.in-Err.fault, c.find_table.new.conn, c.in-Err.ensures.refused, record {
-  unread = refl;
-  unanswered = refl;
-  told = subst (λ (r : Row). EndingTold (g.E.Sink.state c.args.errors.now) (g.E.Sink.state c.tell_refusal-in-Err.new.sink) r.text r.status c.tell_refusal-in-Err.result)
-      c.fault_refusal.ensures c.tell_refusal-in-Err.ensures;
-})
+returns-in-Err g c = inl (
+  c.in-Err.fault,
+  c.find_table.new.conn,
+  c.in-Err.ensures.refused,
+  record {
+    unread = refl;
+    unanswered = refl;
+    told = subst (λ (r : Row). EndingTold (g.E.Sink.state c.args.errors.now) (g.E.Sink.state c.tell_refusal-in-Err.new.sink) r.text r.status c.tell_refusal-in-Err.result)
+        c.fault_refusal.ensures c.tell_refusal-in-Err.ensures;
+  },
+)
