@@ -60,8 +60,7 @@
  *     One exception: calls that reserve may plan for several routes over one image, each into a plan
  *     of its own, before a write of any is begun. They are done together: all first writes, then all
  *     second ones, then all third ones, each step durable before the next begins. Then the caller
- *     calls rathonsi_store_done for each, in any order. Until then it opens no route, and plans nothing
- *     else.
+ *     calls rathonsi_store_done for each, in any order, before it plans anything else.
  *   D-14 A nonce is drawn by the caller, and none is used twice. One for rathonsi_sync_rejoin is drawn
  *     since the route was opened, and nobody could foretell it. See both calls. A unit answers only
  *     questions whose answerer is its own name, and asks under its own alone: the library can't know it.
