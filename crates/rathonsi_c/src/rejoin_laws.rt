@@ -54,8 +54,8 @@ pub fn a_rejoin_is_two_steps()
 {}
 
 /// Two nonces of one key are the same only if two messages have one CMAC under it, or both are made of one count of one
-/// route by units of one name. A unit makes no two of one count: each becomes the route's counter, and it rises over all
-/// lives (`freshness_rises_over_all_lives`).
+/// route by units of one name. A unit makes no two of one count: each becomes the route's counter, and that rises over all
+/// lives, since the route sends and so never rejoins ([`crate::laws::freshness_rises_over_all_lives`]).
 pub fn a_nonce_is_of_one_count()
     ensures { (r s : RathonsiRoute) (image later nonce : List ℕ) (asker other : ℕ) (m : MakesNonce r image asker nonce)
         (l : MakesNonce s later other nonce) → m.key ≡ l.key → r.data_id < 2 ^ 16 → s.data_id < 2 ^ 16
