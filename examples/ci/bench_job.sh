@@ -3,11 +3,11 @@
 #
 #   bench_job.sh MAP RECORDER BENCH..
 #
-# RECORDER is one word, such as 'candump -L can0'; BENCH.. is the bench with its arguments. bus.log, watch.jsonl,
-# report.txt and junit.xml stand in the folder in which the job runs, however it ends. It ends with the status of `watch`;
-# if that is 0, with 5 if the recorder ended before the bench did, with 3 if it wrote nothing in the last SILENCE seconds
-# of the bench, 5 if none are given, else with the status of the bench. WATCH and EXPLAIN name the programs, else they are
-# those of this repository. Without LIMITS `watch` has --strict.
+# RECORDER is one word, such as 'candump -L can0', and writes each frame at once. BENCH.. is the bench, with arguments.
+# bus.log, watch.jsonl, report.txt and junit.xml stand in the folder in which the job runs, however it ends. It ends
+# with the status of `watch`. If that is 0, it ends with 5 if the recorder ended before the bench did, with 3 if it wrote
+# nothing in the last SILENCE seconds of the bench (5 if none are given), else with the status of the bench. WATCH and
+# EXPLAIN name the programs, else they are those of this repository. Without LIMITS `watch` has --strict.
 set -eu
 here=$(dirname "$0")
 watch=${WATCH:-$here/../../bin/watch} explain=${EXPLAIN:-$here/../../bin/explain}
@@ -39,6 +39,9 @@ verdict=0
     echo "bench: status $bench"
     echo "watch: status $verdict"
     [ "$early" = 0 ] || echo "the recorder ended before the bench did"
+    if grep -qE '^ *(\([^)]*\) +)?[a-z]+[0-9]+ +[0-9A-F]{3,8} +\[[0-9]+\]' bus.log; then
+        echo "bus.log looks like candump without -L: use -L"
+    fi
     [ "$silent" -le "${SILENCE:-5}" ] || echo "the recorder wrote nothing in the last $silent seconds"
     grep -E '"kind":"(frame|over|silent)"|"accepted":0,' watch.jsonl || true
     cat explained.txt
