@@ -73,8 +73,8 @@ pub fn a_start_erases_nothing()
 {}
 
 /// On a part of blanks resets after a put that was done wear nothing, however many they are and wherever the power goes:
-/// each start writes nothing, and all units stay as they were. So a thousand resets without a put wear nothing. The same
-/// holds after a move.
+/// each start writes nothing, and all units stay as they were. So a thousand resets after such a put wear nothing. The
+/// same holds after a move.
 pub fn a_start_after_a_put_writes_nothing_on_a_part_of_blanks()
     ensures put { (s : SealSizes) (events resets : List SealEvent) (cells now made : List (List ℕ))
         (a b c d : SealMachine) (point : SealPoint) (cell : ℕ) (payload : List ℕ) (found : FoundStore)
