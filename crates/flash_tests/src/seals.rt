@@ -131,6 +131,56 @@ fn put_once(
     }
 }
 
+/// Replaces all cells.
+fn anew_once(
+    part: &mut MemPart,
+    store: &mut SealStore,
+    cells: &mut [[u8; 32]],
+    made: &[[u8; 32]],
+) -> Result<(), SealPutFault>
+    requires stands { StandsOn (memory_part part.old) store.old cells.old }
+    ensures stands { StandsOn (memory_part part.new) store.new cells.new }
+    ensures sizes { store.new.sizes ≡ store.old.sizes }
+{
+    a_unit_is_programmed_once_on_a_part_of_blanks();
+    match store.make_anew(part, cells, made) {
+        Ok(()) => Ok(()),
+        Err(SealPutFault::Failed) => Err(SealPutFault::Failed),
+        Err(SealPutFault::Exhausted) => Err(SealPutFault::Exhausted),
+        Err(SealPutFault::NoCell) => Err(SealPutFault::NoCell),
+        Err(SealPutFault::NotReady) => Err(SealPutFault::NotReady),
+    }
+}
+
+/// Puts a value into a cell; each seventh value goes into all of them.
+fn change_once(
+    part: &mut MemPart,
+    store: &mut SealStore,
+    cells: &mut [[u8; 32]],
+    cell: u16,
+    value: u8,
+) -> Result<(), SealPutFault>
+    requires stands { StandsOn (memory_part part.old) store.old cells.old }
+    ensures stands { StandsOn (memory_part part.new) store.new cells.new }
+    ensures sizes { store.new.sizes ≡ store.old.sizes }
+{
+    if value % 7 == 0 {
+        return anew_once(part, store, cells, &[[value; 32]; 2]);
+    }
+    put_once(part, store, cells, cell, &[value; 32])
+}
+
+/// What the cells have after this value.
+fn changed(sure: [u8; 2], cell: u8, value: u8) -> [u8; 2] {
+    if value % 7 == 0 {
+        return [value; 2];
+    }
+    if cell == 0 {
+        return [value, sure[1]];
+    }
+    [sure[0], value]
+}
+
 /// Puts until something fails.
 fn put_some(
     part: &mut MemPart,
@@ -147,9 +197,8 @@ fn put_some(
     for i in 0..puts {
         let value = first.wrapping_add(i);
         let cell = i % 2;
-        known.cut = known.sure;
-        known.cut[cell as usize] = value;
-        match put_once(part, store, cells, cell as u16, &[value; 32]) {
+        known.cut = changed(known.sure, cell, value);
+        match change_once(part, store, cells, cell as u16, value) {
             Ok(()) => known.sure = known.cut,
             Err(SealPutFault::Failed) => return LifeEnd::Cut,
             Err(SealPutFault::Exhausted) => {

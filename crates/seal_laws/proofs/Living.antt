@@ -1,5 +1,5 @@
 -- What holds of a part of blanks in all lives of a store.
-use Rattle.std.proofs.Common.{◌≡◌, ◌≢◌, ◌⊎◌, inl, inr, ℕ, suc, ◌-◌, ◌<◌, ◌≤◌, true, Some, None, List, [], ◌∷◌, ◌++◌, length, set, refl, sym, ap, subst, ◌∙◌, arith}
+use Rattle.std.proofs.Common.{◌≡◌, ◌≢◌, ◌⊎◌, inl, inr, ℕ, suc, ◌+◌, ◌-◌, ◌<◌, ◌≤◌, true, Some, None, List, [], ◌∷◌, ◌++◌, length, set, refl, sym, ap, subst, ◌∙◌, arith}
 use Rattle.std.proofs.lemmas.Bool.{cases_eq}
 use Rattle.std.proofs.lemmas.Option.{same_Some}
 use Rattle.std.proofs.lemmas.List.{length-set}
@@ -20,15 +20,15 @@ use Rattle.seal_logs.specs.declared.starting.StartEnd.TheVariants.{NoStore, Dama
 use Rattle.seal_logs.specs.Reads.{MakesOf, after_body}
 use Rattle.seal_laws.specs.declared.SealSizes.{SealSizes}
 use Rattle.seal_laws.specs.declared.SealPoint.{SealPoint}
-use Rattle.seal_laws.specs.Writes.{seal_line, deed_of, deed_writes, copy_writes, put_deed, put_writes, move_writes, first_writes, start_writes, started_at, put_on, moved_on, FitsPut, FitsMove}
+use Rattle.seal_laws.specs.Writes.{seal_line, deed_of, deed_writes, copy_writes, put_deed, put_writes, bank_after, move_deed, move_writes, first_writes, start_writes, started_at, put_on, moved_on, FitsPut, FitsMove}
 use Rattle.seal_laws.specs.Lives.{seal_off, seal_ready, SealMachine, SealEvent, starts, puts_cell, makes_anew, cuts_start, cuts_puts, cuts_anew, rests, StartsSeal, CutsStartSeal, cuts_reads, cuts_writes, PutsSeal, goes_next, goes_on, CutsPutSeal, cuts_next, cuts_on, MakesAnewSeal, CutsAnewSeal, DoesSealEvent, SealLives, MayMakeSeal, PossibleSeal, FindsSeal, FormattedSeal, OnlyResets}
 use Rattle.seal_laws.proofs.Flashes.{firm_line, firm_reads, blank_no_content, Extends, chain_extends, chain_before, read_leaves, deed_done, done_firm, done_closed, LeavesBank, copy_done, deed_may, copy_may, does_both, may_both}
 use Rattle.seal_laws.proofs.Sealed.{OlderIn, FreeFrom, SoundBank, HasDeeds, in_bank_more, at_move_more, free_here, deeds_on}
 use Rattle.seal_laws.proofs.Writing.{Rests, rests_in, rests_at, Ready, ready_in, ready_at, rests_ready, ready_line_may, move_on, next_left, next_done}
-use Rattle.seal_laws.proofs.Moving.{home_ready, move_done, move_cut, move_may}
+use Rattle.seal_laws.proofs.Moving.{home_ready, move_done, move_whole, move_cut, move_may}
 use Rattle.seal_laws.proofs.StartingMoved.{start_leaves}
 use Rattle.seal_laws.proofs.Finding.{finds_store}
-use Rattle.seal_laws.proofs.Resting.{nothing_written}
+use Rattle.seal_laws.proofs.Resting.{nothing_written, nothing_moved}
 
 -- ---- more cells may be, and which are
 
@@ -402,37 +402,40 @@ module _ (s : SealSizes) (events : List SealEvent) (cells : List (List ℕ)) (a 
       nothing_written Either s c.flash after finds.view finds.reads found made p.bank p.generation p.next n.cur n.chain n.copy (set now cell payload) n.bank n.free
       (done_closed p.bank p.next (seal_line p.generation (put_deed p cell payload)) b.flash c.flash does) finds.finds
 
-  -- resets after such a put leave all as it was
-  module _ (p : SealPoint) (now : List (List ℕ)) (cell : ℕ) (payload : List ℕ) (is : b.stage ≡ seal_ready p now) (fits : FitsPut s p) where
-    abbrev IsPut : PartFlash → Type 0
-    IsPut f = DoesPartWrites Blanks (put_writes Blanks p cell payload) b.flash f
+  pub nothing_after_move : (p : SealPoint) (now fresh made : List (List ℕ)) (c : SealMachine) (found : FoundStore) (after : PartFlash) → b.stage ≡ seal_ready p now → FitsMove s p → length fresh ≡ length now
+      → DoesPartWrites Blanks (move_writes Blanks s p fresh) b.flash c.flash → FindsSeal Blanks s c (Found found) made after → start_writes Blanks s found ≡ []
+  nothing_after_move p now fresh made c found after is fits count does finds =
+      let Either : List (List ℕ) → Type 0 = λ (z : List (List ℕ)). (z ≡ now) ⊎ (z ≡ fresh) in
+      let ready = ready_stands Any s b p now is stands_then in
+      let w = move_whole Either s x.fits.two p now fresh (count ∙ ready_count Any s.log b.flash p now ready) (inr refl) fits b.flash c.flash (ready_only Any Either s.log b.flash p now (inl refl) ready) does in
+      nothing_moved Either s c.flash after finds.view finds.reads found made p.bank p.generation (p.next + p.lacking) (move_deed s p) w.chain (bank_after s.log.banks p.bank) fresh w.move w.free w.apart w.closed finds.finds
 
-    put_still : (c d : SealMachine) → d.flash ≡ c.flash → IsPut c.flash → IsPut d.flash
-    put_still c d same does = subst IsPut (sym same) does
+-- ---- resets while a start would write nothing
 
-    start_still : (c d : SealMachine) → IsPut c.flash → StartsSeal Blanks s c d → d.flash ≡ c.flash
-    start_still c d does x =
-        let none = nothing_after_put p now x.cells cell payload c x.found x.between is fits does x.finds in
-        let same : d.flash ≡ x.between = subst (λ (ws : List PartWrite). DoesPartWrites Blanks ws x.between d.flash) none x.writes in
-        same ∙ read_leaves c.flash x.between x.finds.view x.finds.reads
+module _ (s : SealSizes) (Q : PartFlash → Type 0)
+    (nothing : (c : SealMachine) (found : FoundStore) (made : List (List ℕ)) (after : PartFlash) → Q c.flash → FindsSeal Blanks s c (Found found) made after → start_writes Blanks s found ≡ []) where
+  start_still : (c d : SealMachine) → Q c.flash → StartsSeal Blanks s c d → d.flash ≡ c.flash
+  start_still c d does x =
+      let same : d.flash ≡ x.between = subst (λ (ws : List PartWrite). DoesPartWrites Blanks ws x.between d.flash) (nothing c x.found x.cells x.between does x.finds) x.writes in
+      same ∙ read_leaves c.flash x.between x.finds.view x.finds.reads
 
-    cut_still : (c d : SealMachine) → IsPut c.flash → CutsStartSeal Blanks s c d → d.flash ≡ c.flash
-    cut_still c d does (cuts_reads view was reads off) = read_leaves c.flash d.flash view reads
-    cut_still c d does (cuts_writes found made between finds cut off) =
-        absurd (subst (λ (ws : List PartWrite). CutsPartWrites Blanks ws between d.flash) (nothing_after_put p now made cell payload c found between is fits does finds) cut)
+  cut_still : (c d : SealMachine) → Q c.flash → CutsStartSeal Blanks s c d → d.flash ≡ c.flash
+  cut_still c d does (cuts_reads view was reads off) = read_leaves c.flash d.flash view reads
+  cut_still c d does (cuts_writes found made between finds cut off) =
+      absurd (subst (λ (ws : List PartWrite). CutsPartWrites Blanks ws between d.flash) (nothing c found made between does finds) cut)
 
-    pub resets_same : (resets : List SealEvent) (c d : SealMachine) → OnlyResets resets → IsPut c.flash → SealLives Blanks s resets c d → d.flash ≡ c.flash
-    resets_same [] c d only does run = ap (λ (z : SealMachine). z.flash) run
-    resets_same (starts ∷ resets) c d only does run = (let same = start_still c run.0 does run.1.0 in resets_same resets run.0 d only (put_still c run.0 same does) run.1.1 ∙ same)
-    resets_same (cuts_start ∷ resets) c d only does run = (let same = cut_still c run.0 does run.1.0 in resets_same resets run.0 d only (put_still c run.0 same does) run.1.1 ∙ same)
-    resets_same (rests ∷ resets) c d only does run = (let same = run.1.0.0 in resets_same resets run.0 d only (put_still c run.0 same does) run.1.1 ∙ same)
-    resets_same (puts_cell i bytes ∷ resets) c d only does run = absurd only
-    resets_same (makes_anew made ∷ resets) c d only does run = absurd only
-    resets_same (cuts_puts i bytes ∷ resets) c d only does run = absurd only
-    resets_same (cuts_anew made ∷ resets) c d only does run = absurd only
+  resets_same : (resets : List SealEvent) (c d : SealMachine) → OnlyResets resets → Q c.flash → SealLives Blanks s resets c d → d.flash ≡ c.flash
+  resets_same [] c d only does run = ap (λ (z : SealMachine). z.flash) run
+  resets_same (starts ∷ resets) c d only does run = (let same = start_still c run.0 does run.1.0 in resets_same resets run.0 d only (subst Q (sym same) does) run.1.1 ∙ same)
+  resets_same (cuts_start ∷ resets) c d only does run = (let same = cut_still c run.0 does run.1.0 in resets_same resets run.0 d only (subst Q (sym same) does) run.1.1 ∙ same)
+  resets_same (rests ∷ resets) c d only does run = (let same = run.1.0.0 in resets_same resets run.0 d only (subst Q (sym same) does) run.1.1 ∙ same)
+  resets_same (puts_cell i bytes ∷ resets) c d only does run = absurd only
+  resets_same (makes_anew made ∷ resets) c d only does run = absurd only
+  resets_same (cuts_puts i bytes ∷ resets) c d only does run = absurd only
+  resets_same (cuts_anew made ∷ resets) c d only does run = absurd only
 
-    pub nothing_after_resets : (resets : List SealEvent) (made : List (List ℕ)) (c d : SealMachine) (found : FoundStore) (after : PartFlash) → OnlyResets resets → IsPut c.flash → SealLives Blanks s resets c d
-        → (d.flash ≡ c.flash) × (FindsSeal Blanks s d (Found found) made after → start_writes Blanks s found ≡ [])
-    nothing_after_resets resets made c d found after only does run =
-        let same = resets_same resets c d only does run in
-        (same, λ finds. nothing_after_put p now made cell payload d found after is fits (put_still c d same does) finds)
+  pub nothing_after_resets : (resets : List SealEvent) (made : List (List ℕ)) (c d : SealMachine) (found : FoundStore) (after : PartFlash) → OnlyResets resets → Q c.flash → SealLives Blanks s resets c d
+      → (d.flash ≡ c.flash) × (FindsSeal Blanks s d (Found found) made after → start_writes Blanks s found ≡ [])
+  nothing_after_resets resets made c d found after only does run =
+      let same = resets_same resets c d only does run in
+      (same, λ finds. nothing d found made after (subst Q (sym same) does) finds)

@@ -72,15 +72,22 @@ pub fn a_start_erases_nothing()
         → erases_begun_by (move_writes class s point cells) ≡ 1 }
 {}
 
-/// On a part of blanks resets after a put that went to the next place of its bank wear nothing, however many they are
-/// and wherever the power goes: each start writes nothing, and all units stay as they were. So a thousand resets without
-/// a put wear nothing.
+/// On a part of blanks resets after a put that was done wear nothing, however many they are and wherever the power goes:
+/// each start writes nothing, and all units stay as they were. So a thousand resets after such a put wear nothing. The
+/// same holds after a move.
 pub fn a_start_after_a_put_writes_nothing_on_a_part_of_blanks()
-    ensures { (s : SealSizes) (events resets : List SealEvent) (cells now made : List (List ℕ))
+    ensures put { (s : SealSizes) (events resets : List SealEvent) (cells now made : List (List ℕ))
         (a b c d : SealMachine) (point : SealPoint) (cell : ℕ) (payload : List ℕ) (found : FoundStore)
         (after : PartFlash) → FormattedSeal Blanks s cells a → SealLives Blanks s events a b
         → b.stage ≡ seal_ready point now → FitsPut s point
         → DoesPartWrites Blanks (put_writes Blanks point cell payload) b.flash c.flash → OnlyResets resets
+        → SealLives Blanks s resets c d → (d.flash ≡ c.flash)
+        × (FindsSeal Blanks s d (Found found) made after → start_writes Blanks s found ≡ []) }
+    ensures moves { (s : SealSizes) (events resets : List SealEvent) (cells now fresh made : List (List ℕ))
+        (a b c d : SealMachine) (point : SealPoint) (found : FoundStore) (after : PartFlash)
+        → FormattedSeal Blanks s cells a → SealLives Blanks s events a b → b.stage ≡ seal_ready point now
+        → FitsMove s point → length fresh ≡ length now
+        → DoesPartWrites Blanks (move_writes Blanks s point fresh) b.flash c.flash → OnlyResets resets
         → SealLives Blanks s resets c d → (d.flash ≡ c.flash)
         × (FindsSeal Blanks s d (Found found) made after → start_writes Blanks s found ≡ []) }
 {}

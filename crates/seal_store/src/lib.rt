@@ -2,13 +2,14 @@
 //!
 //! [`start`] reads each place once, and decides on that. After a clean end it does no operation; after a cut it programs
 //! the latest deed again, in the next place. [`SealStore::put`] programs one deed, or, if the bank is full, makes a copy
-//! in the next bank, and programs the move to it as a deed of the old one. [`begin_store`] makes the first store.
+//! in the next bank, and programs the move to it as a deed of the old one. [`SealStore::make_anew`] replaces all cells by
+//! such a move. [`begin_store`] makes the first store.
 //!
 //! Each call is an event of `seal_laws`: what it writes if it is done, and what it leaves if it fails. So the laws there
 //! over all lives hold of this code. They also say that each unit is blank that a call programs, which each call asks.
 //!
 //! A start hands out no cells if no place is left for what it has to program (`Exhausted`). That takes many cuts within
-//! starts: no law bounds them yet.
+//! starts. No law says how many, nor how many puts a bank takes.
 #![tactic(auto)]
 
 ghost use Rattle.std.specs.Prelude.{◌<◌, ◌≤◌};

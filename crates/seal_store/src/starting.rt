@@ -237,7 +237,7 @@ fn find<P: SealPart>(
 /// again, in the next place.
 ///
 /// No operation is done if the part isn't one of blanks. A start that answers `Failed` may be done again, after any
-/// loss of power.
+/// loss of power. After each fault `cells` may have anything.
 pub fn start<P: SealPart>(
     part: &mut P,
     sizes: SealSizes,

@@ -7,7 +7,7 @@ ghost use Rattle.seal_parts.specs.State.{PartRuns};
 ghost use Rattle.seal_parts.specs.Designs.{MayDoPartWrites};
 ghost use Rattle.seal_laws.specs.Writes.{put_writes, move_writes, FitsPut, FitsMove};
 ghost use Rattle.seal_laws.specs.Writes.{put_on as point_put, moved_on as point_moved_on};
-ghost use Rattle.seal_laws.specs.Lives.{PutsSeal, CutsPutSeal};
+ghost use Rattle.seal_laws.specs.Lives.{PutsSeal, CutsPutSeal, MakesAnewSeal, CutsAnewSeal};
 ghost use Rattle.seal_store.specs.Store.{machine_at, MayPut, IsFull};
 
 use crate::SealStore;
@@ -229,6 +229,62 @@ impl SealStore {
         match self.put_moved(part, cells, cell, payload) {
             Ok(()) => Ok(()),
             Err(_) => Err(SealPutFault::Failed),
+        }
+    }
+
+    /// Replaces all cells, by a copy in the next bank: the store has all of them then, or is as it was. `cells` is then
+    /// `made`. A call that answers `Failed` is there after the next start, or not. `NoCell`: `made` has not as many.
+    pub fn make_anew<P: SealPart>(
+        &mut self,
+        part: &mut P,
+        cells: &mut [[u8; 32]],
+        made: &[[u8; 32]],
+    ) -> Result<(), SealPutFault>
+        requires class { (P.state part.old).class ≡ Blanks }
+        requires banks { self.old.sizes.log.banks ≡ (P.state part.old).banks }
+        requires places { self.old.sizes.log.places ≡ (P.state part.old).places }
+        requires alike { length cells.old ≡ self.old.sizes.log.cells }
+        requires may { self.old.is_ready ≡ true → length made.now ≡ length cells.old
+            → FitsMove self.old.sizes self.old.point → MayDoPartWrites Blanks (move_writes Blanks self.old.sizes self.old.point made.now)
+            (P.state part.old).flash }
+        ensures runs { PartRuns (P.state part.old) (P.state part.new) }
+        ensures sizes { self.new.sizes ≡ self.old.sizes }
+        ensures count { OnOk result ((P.state part.new).faults ≡ (P.state part.old).faults) }
+        ensures failed { IsErrOf result SealPutFault.Failed
+            → Rose (P.state part.old).faults (P.state part.new).faults }
+        ensures done { OnOk result (MakesAnewSeal Blanks self.old.sizes made.now
+            (machine_at (P.state part.old).flash self.old cells.old)
+            (machine_at (P.state part.new).flash self.new cells.new)) }
+        ensures cut { IsErrOf result SealPutFault.Failed → CutsAnewSeal Blanks self.old.sizes made.now
+            (machine_at (P.state part.old).flash self.old cells.old)
+            (machine_at (P.state part.new).flash self.new cells.new) }
+        ensures not_ready { IsErrOf result SealPutFault.NotReady → self.old.is_ready ≡ false }
+        ensures no_cell { IsErrOf result SealPutFault.NoCell
+            → (self.old.is_ready ≡ true) × (length made.now ≢ length cells.old) }
+        ensures exhausted { IsErrOf result SealPutFault.Exhausted → (self.old.is_ready ≡ true)
+            × ((length made.now ≡ length cells.old) × (FitsMove self.old.sizes self.old.point → ⊥)) }
+        ensures untouched { IfErr result (λ e. e ≢ SealPutFault.Failed
+            → (P.state part.new ≡ P.state part.old) × ((self.new ≡ self.old) × (cells.new ≡ cells.old))) }
+    {
+        if !self.is_ready {
+            return Err(SealPutFault::NotReady);
+        }
+        if made.len() != self.sizes.log.cells as usize {
+            return Err(SealPutFault::NoCell);
+        }
+        if !fits_move(self.sizes, &self.point) {
+            return Err(SealPutFault::Exhausted);
+        }
+        match write_move(part, self.sizes, self.point, made) {
+            Ok(()) => {
+                cells.copy_from_slice(made);
+                self.point = moved_on(self.sizes, &self.point);
+                Ok(())
+            }
+            Err(_) => {
+                self.is_ready = false;
+                Err(SealPutFault::Failed)
+            }
         }
     }
 }
