@@ -22,7 +22,7 @@ use Rattle.program_edge.proofs.CallerLemmas.{EndsInRow-more}
 use Rattle.bus_commands.specs.Rows.{DoneReplay}
 use Rattle.bus_commands.specs.Headline.{ReplayedOver}
 use Rattle.bus_commands.specs.Steps.{AnswersReplay, refused_replay, first_done}
-use Rattle.bus_commands.specs.Keeping.{DoneKept, AnswersKept, refused_kept, kept_done}
+use Rattle.bus_commands.specs.Keeping.{DoneKept, AnswersKeepReplay, refused_kept, kept_done}
 use Rattle.bus_commands.proofs.WholeRun.{written_as}
 
 -- ---- a start that is refused after the look
@@ -116,7 +116,7 @@ module _ (set_up : StartsSetUp) (go_on : StartsGoOnFirst) (leave : TurnsLeaveDis
 -- how the replay after the look ends
 pub kept_answers : StartsSetUp → StartsGoOnFirst → TurnsLeaveDisks → TurnsAreWorldRuns → (same known : Type 0) (bus : NamedBus) (events : List Event)
     (d : DiskStates) (disks : List DiskState) (e : Ending) → LookedAt bus d.before disks → (¬ HasRoom bus d.before → known → same)
-    → AnswersReplay known Attach bus events (record { before = disks; after = d.after }) e → AnswersKept same bus events d e
+    → AnswersReplay known Attach bus events (record { before = disks; after = d.after }) e → AnswersKeepReplay same bus events d e
 kept_answers set_up go_on leave runs same known bus events d disks e look back (refused_replay ends) =
     refused_kept (EndsInRow-more (comes_behind_look same known bus d disks look back) ends)
 kept_answers set_up go_on leave runs same known bus events d disks e look back (first_done result done) =

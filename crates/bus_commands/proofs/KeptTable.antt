@@ -25,7 +25,7 @@ use Rattle.kept_starts.specs.KeepRows.{ComesKept, BusKeepsDisk, RefusesStart}
 use Rattle.kept_starts.proofs.CallerLemmas.{kept_7, kept_9, kept_10, kept_complete, kept_failure, kept_status, kept_with_room, kept_without_room, look_keeps, refuses_more, room_before, same_told}
 use Rattle.bus_commands.specs.declared.words.WorldCommand.TheVariants.{Replay}
 use Rattle.bus_commands.specs.Inputs.{SetsWorld}
-use Rattle.bus_commands.specs.Keeping.{DoneKept, AnswersKept, refused_kept, kept_done, KeptEvents, TellsUnkept, TellsKept}
+use Rattle.bus_commands.specs.Keeping.{DoneKept, AnswersKeepReplay, refused_kept, kept_done, KeptEvents, TellsUnkept, TellsKeptNode}
 
 abbrev pub EndsKept : ℕ → Type 0
 EndsKept n = (n ≡ 0) ⊎ (n ≡ 6) ⊎ (n ≡ 7) ⊎ (n ≡ 9) ⊎ (n ≡ 10)
@@ -81,7 +81,7 @@ module _ (same : Type 0) (i : BusInputs) (d : DiskStates) (e : Ending) (bus : Na
   failed_row_told : EndsInRow (ComesKept same bus d) e → CountsDiskFault d 0 → EndsInRow (λ row. row ≡ failed_row 0) e
   failed_row_told ends rose = record { row = ends.row; comes = kept_failure same bus d ends.row ends.comes rose; told = ends.told }
 
-  pub tells_refused : EndsInRow (ComesKept same bus d) e → TellsKept same i d e
+  pub tells_refused : EndsInRow (ComesKept same bus d) e → TellsKeptNode same i d e
   tells_refused ends = record {
     ends = (bus, events, set, (is, refused_kept ends));
     statuses = ends_in ends;
@@ -162,7 +162,7 @@ module _ (same : Type 0) (i : BusInputs) (d : DiskStates) (e : Ending) (bus : Na
   not_refused : {A : Type 0} (n : ℕ) (result : Result (Unit {0}) Unwritten) → DoneKept bus events d e result → e.status ≡ n → (n ≡ 9) ⊎ (n ≡ 10) → A
   not_refused n result ran at high = absurd (let no : ⊥ = omega (arith, done_status result ran.status_is, at, high) in no)
 
-  pub tells_done : (result : Result (Unit {0}) Unwritten) → DoneKept bus events d e result → TellsKept same i d e
+  pub tells_done : (result : Result (Unit {0}) Unwritten) → DoneKept bus events d e result → TellsKeptNode same i d e
   tells_done result ran = record {
     ends = (bus, events, set, (is, kept_done result ran));
     statuses = done_ends result ran;
@@ -179,6 +179,6 @@ module _ (same : Type 0) (i : BusInputs) (d : DiskStates) (e : Ending) (bus : Na
     complete = λ other offers able well. done_well result ran well;
   }
 
-  pub tells_kept : AnswersKept same bus events d e → TellsKept same i d e
+  pub tells_kept : AnswersKeepReplay same bus events d e → TellsKeptNode same i d e
   tells_kept (refused_kept ends) = tells_refused ends
   tells_kept (kept_done result ran) = tells_done result ran

@@ -33,7 +33,7 @@ use Rattle.bus_commands.specs.Rows.{done, without_disks, in_row}
 use Rattle.bus_commands.specs.Steps.{Prepares, AnswersWorld, AnswersReplay, refused_replay, first_done}
 use Rattle.bus_commands.specs.Steps.{DoesNamed, over_disk, no_disk}
 use Rattle.bus_commands.specs.Named.{NamesSources, RunsNamed, RefusesNode, ran_over_disk, refused_node}
-use Rattle.bus_commands.specs.Keeping.{DoesKept, kept_over_disk, kept_no_disk, TellsKept, RunsKept, kept_over_opened, refused_unopened}
+use Rattle.bus_commands.specs.Keeping.{DoesKept, kept_over_disk, kept_no_disk, TellsKeptNode, RunsKept, kept_over_opened, refused_unopened}
 use Rattle.bus_commands.proofs.Asking.{apart, asks_one}
 use Rattle.bus_commands.proofs.AskedWords.{names_node}
 use Rattle.bus_commands.proofs.Doing.{ends_world}
@@ -164,7 +164,7 @@ module _ {D : Type 0} (state : D → DiskState) (opens : List ℕ → SourceStat
 
   kept_opened : (name : List ℕ) (disks : Vec D Global) → NamesDisk words name → (opened : IsOpenedBy opens_disk name (map state disks.items))
       → o.disks_after ≡ o.disks_before ++ name ∷ []
-      → OverSources (λ i. TellsKept (left ≡ disks) i (record { before = map state disks.items; after = map state left.items }) e)
+      → OverSources (λ i. TellsKeptNode (left ≡ disks) i (record { before = map state disks.items; after = map state left.items }) e)
       → RunsKept state opens opens_disk o back left words e
   kept_opened name disks names opened once over = kept_over_opened (record {
     name = name;

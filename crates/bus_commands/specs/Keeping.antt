@@ -59,11 +59,11 @@ pub record DoneKept (bus : NamedBus) (events : List Event) (d : DiskStates) (e :
   pub one_run : TellFirm bus d.before → ReplayedOver Attach bus d.before d.after events e.before e.after result
 
 -- how it ends: it isn't started, for what a look or the start finds on the disk; or it did its first events
-pub data AnswersKept (same : Type 0) (bus : NamedBus) (events : List Event) (d : DiskStates) (e : Ending)
+pub data AnswersKeepReplay (same : Type 0) (bus : NamedBus) (events : List Event) (d : DiskStates) (e : Ending)
     : Type 0 where
-  refused_kept : EndsInRow (ComesKept same bus d) e → AnswersKept same bus events d e
+  refused_kept : EndsInRow (ComesKept same bus d) e → AnswersKeepReplay same bus events d e
   kept_done : (result : Result (Unit {0}) Unwritten) → DoneKept bus events d e result
-      → AnswersKept same bus events d e
+      → AnswersKeepReplay same bus events d e
 
 -- its inputs are valid, and it did the first events of its script, which ended so
 abbrev pub KeptEvents : BusInputs → DiskStates → Ending → Result (Unit {0}) Unwritten → Type 0
@@ -80,9 +80,9 @@ TellsUnkept bus disks = (disk : DiskState) → (told : Told) × ((get_or disks 0
 -- What `node --keep` promises over its disk, by status; its inputs are valid. "Both ways": the status has this cause,
 -- and the cause brings the status, if the bus file's source tells the bus. A sink whose count of faults rises makes it 6
 -- instead, and 0, 9 and 10 may give way to 7, out of memory: no clause brings 7.
-pub record TellsKept (same : Type 0) (i : BusInputs) (d : DiskStates) (e : Ending) : Type 0 where
+pub record TellsKeptNode (same : Type 0) (i : BusInputs) (d : DiskStates) (e : Ending) : Type 0 where
   -- The inputs are valid. It isn't started, and the row that says why is printed; or it did its first events.
-  pub ends : OverReplayOf Attach i (λ bus events. IsNamedBus bus × AnswersKept same bus events d e)
+  pub ends : OverReplayOf Attach i (λ bus events. IsNamedBus bus × AnswersKeepReplay same bus events d e)
   -- No status comes but 0, 6, 7, 9 and 10.
   pub statuses : (e.status ≡ 0) ⊎ (e.status ≡ 6) ⊎ (e.status ≡ 7) ⊎ (e.status ≡ 9) ⊎ (e.status ≡ 10)
   -- 0: all events were done, and all lines were written.
@@ -122,7 +122,7 @@ pub record TellsKept (same : Type 0) (i : BusInputs) (d : DiskStates) (e : Endin
 pub data DoesKept {D : Type 0} (state : D → DiskState) (opens : List ℕ → DiskState → Type 0)
     (before after : List (List ℕ)) (word : List ℕ) (job : WorldJob) (left : Vec D Global) (e : Ending) : Type 0 where
   kept_over_disk : (disks : Vec D Global) → IsOpenedBy opens word (map state disks.items) → after ≡ before ++ word ∷ []
-      → AnswersKept (left ≡ disks) job.bus job.events.items
+      → AnswersKeepReplay (left ≡ disks) job.bus job.events.items
       (record { before = map state disks.items; after = map state left.items }) e
       → DoesKept state opens before after word job left e
   kept_no_disk : after ≡ before → left.items ≡ [] → e.status ≡ 7 → e.after ≡ e.before
@@ -140,7 +140,7 @@ pub record KeptOpened {D : Type 0} (state : D → DiskState) (opens : List ℕ �
   pub opened : IsOpenedBy opens_disk name (map state disks.items)
   pub opened_once : o.disks_after ≡ o.disks_before ++ name ∷ []
   pub over : HadOverNamed opens o.before o.after back plain (NamesSources plain)
-      (λ i. TellsKept (left ≡ disks) i (record { before = map state disks.items; after = map state left.items }) e)
+      (λ i. TellsKeptNode (left ≡ disks) i (record { before = map state disks.items; after = map state left.items }) e)
   pub one_run : (result : Result (Unit {0}) Unwritten)
       → KeptEvents (inputs_had over) (record { before = map state disks.items; after = map state left.items }) e result
       → NodeIsRun (inputs_had over) (record { before = map state disks.items; after = map state left.items }) e result

@@ -12,7 +12,7 @@ ghost use Rattle.bus_world.specs.declared.start.Start.TheVariants.{Attach};
 ghost use Rattle.bus_commands.specs.Words.{Asks, AsksNothing, NamesDisk};
 ghost use Rattle.bus_commands.specs.Steps.{IsWholeWorld};
 ghost use Rattle.bus_commands.specs.Named.{NamesSources, RunsNamed};
-ghost use Rattle.bus_commands.specs.Keeping.{KeepsAs, AsksToKeep, AnswersKept, DoesKept, RunsKept};
+ghost use Rattle.bus_commands.specs.Keeping.{KeepsAs, AsksToKeep, AnswersKeepReplay, DoesKept, RunsKept};
 
 use crate::job::WorldJob;
 use crate::replay::replay;
@@ -218,7 +218,7 @@ fn keep_and_replay<K: Sink, D: CutDisk>(
     requires is_bus { IsNamedBus bus.now }
     requires are_events { AreEvents bus.now events.now }
     requires one { length disks.old.items ≡ 1 }
-    ensures { AnswersKept (disks.new ≡ disks.old) bus.now events.now
+    ensures { AnswersKeepReplay (disks.new ≡ disks.old) bus.now events.now
         (record { before = map D.state disks.old.items; after = map D.state disks.new.items })
         (record { before = K.state sink.old; after = K.state sink.new; status = result }) }
 {
@@ -233,11 +233,7 @@ fn keep_and_replay<K: Sink, D: CutDisk>(
 }
 
 /// Looks at the one disk, if the bus has one node. For a bus of more nodes it is too few, and the start says so.
-fn look_at_one<D: Disk>(
-    alloc: Global,
-    bus: &BusConfig,
-    disks: &mut Vec<D>,
-) -> Result<(), KeepFault>
+fn look_at_one<D: Disk>(alloc: Global, bus: &BusConfig, disks: &mut Vec<D>) -> Result<(), KeepFault>
     requires is_bus { IsNamedBus bus.now }
     requires one { length disks.old.items ≡ 1 }
     ensures looked { OnOk result (LookedAt bus.now (map D.state disks.old.items) (map D.state disks.new.items)) }

@@ -220,7 +220,12 @@ fn with_world<'a>(
 }
 
 /// What they ask for if a bus goes on over its disk.
-pub(crate) fn with_disk<'a>(start: Start, bus: &'a str, file: &'a str, disk: &'a str) -> CommandLine<'a>
+pub(crate) fn with_disk<'a>(
+    start: Start,
+    bus: &'a str,
+    file: &'a str,
+    disk: &'a str,
+) -> CommandLine<'a>
     ensures { (name : List ℕ) → Asks (name ∷ bus.now ∷ file.now ∷ disk.now ∷ []) (World (Replay start))
         → IsAsked (name ∷ bus.now ∷ file.now ∷ disk.now ∷ []) result.command (option_map (λ w. w.now) result.config)
         (option_map (λ w. w.now) result.script) (option_map (λ w. w.now) result.disk) }
