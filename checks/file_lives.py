@@ -20,6 +20,7 @@ import pathlib
 import random
 import re
 import shutil
+import signal
 import subprocess
 import sys
 import tempfile
@@ -505,6 +506,8 @@ def over_disks(name, libraries, does):
     """Makes the checks of this name in a folder in memory, if there is one."""
     checks = Checks(name)
     memory = "/dev/shm" if os.access("/dev/shm", os.W_OK) else None
+    # what ends it leaves no folder there
+    signal.signal(signal.SIGTERM, lambda *_: sys.exit(143))
     if shutil.which(COMPILER):
         with tempfile.TemporaryDirectory(dir=memory) as folder:
             does(Room(folder, built(folder, libraries)), checks)
