@@ -8,13 +8,17 @@ ghost use Rattle.ledger_shift.specs.Opening.{IsOpenFault};
 
 use ledger_shift::{FileFault, LedgerOpener};
 use program_edge::OpenedWords;
-use sqlite::{Connection, Error, FileFrom, FileStore, Wary};
+use sqlite::{Connection, Error, ErrorCode, FileFrom, FileStore, Wary};
+use std::alloc::AllocError;
 use std::fs;
 use std::fs::OpenOptions;
 use std::os::unix::fs::OpenOptionsExt;
 
 /// The mode of a file that is made, and of the log beside it: its owner alone reads it.
 const OWN_MODE: u32 = 0o600;
+
+/// The bytes of the least log that has a row: its header, and one page of 512 bytes with a header.
+const LEAST_LOG: u64 = 32 + 24 + 512;
 
 /// Opens the file whose path an argument is.
 #[derive(Drop)]
@@ -33,8 +37,8 @@ impl<'a> LedgerPaths<'a> {
     }
 }
 
-/// Why a file has no ledger before it is opened. What can't be looked at is left to the open.
-fn look_at(rt: &HostRuntime, path: &str) -> Option<FileFault>
+/// Whether there is no file, or an empty one. What can't be looked at is left to the open.
+fn absence(rt: &HostRuntime, path: &str) -> Option<FileFault>
     ensures { IfSome result (IsOpenFault false) }
 {
     match fs::metadata(rt, path) {
@@ -42,6 +46,32 @@ fn look_at(rt: &HostRuntime, path: &str) -> Option<FileFault>
         Ok(_) => None,
         Err(error) if error.kind() == std::io::ErrorKind::NotFound => Some(FileFault::Missing),
         Err(_) => None,
+    }
+}
+
+/// Whether a log stands beside this path that may have rows.
+fn has_log(rt: &HostRuntime, path: &str) -> Result<bool, AllocError> {
+    let log = format!(in rt.alloc(); "{path}-wal")?;
+    match fs::metadata(rt, log.as_str()) {
+        Ok(metadata) => Ok(LEAST_LOG <= metadata.len()),
+        Err(_) => Ok(false),
+    }
+}
+
+/// Why a file isn't opened.
+fn look_at(rt: &HostRuntime, path: &str, is_new: bool) -> Option<FileFault>
+    ensures { IfSome result (IsOpenFault is_new) }
+{
+    let fault = absence(rt, path)?;
+    match has_log(rt, path) {
+        Ok(true) => Some(FileFault::LogAlone),
+        Ok(false) => {
+            if is_new {
+                return None;
+            }
+            Some(fault)
+        }
+        Err(AllocError) => Some(FileFault::Failed(Error::SqliteFailure(ErrorCode::OutOfMemory))),
     }
 }
 
@@ -80,10 +110,11 @@ impl<'a> LedgerOpener for LedgerPaths<'a> {
         is_new: bool,
     ) -> Result<Connection<FileStore<FileFrom<Wary>>>, FileFault> {
         self.opened = self.opened.and(path);
+        if let Some(fault) = look_at(self.rt, path, is_new) {
+            return Err(fault);
+        }
         if is_new {
             make_file(self.rt, path);
-        } else if let Some(fault) = look_at(self.rt, path) {
-            return Err(fault);
         }
         match open_database(self.rt, path) {
             Ok(conn) => Ok(conn),

@@ -25,14 +25,18 @@ file_row _ = row_of 10 (codes "ledger: the file failed\n")
 abbrev pub file_fault_row : FileFault → Row
 file_fault_row fault.Missing = row_of 10 (codes "ledger: there is no ledger: --new makes one\n")
 file_fault_row fault.Empty = row_of 10 (codes "ledger: the file is empty\n")
+file_fault_row fault.LogAlone =
+    row_of 10 (codes "ledger: its log stands there without the file: put the file back\n")
 file_fault_row fault.Taken = row_of 10 (codes "ledger: the file isn't empty: --new makes a new ledger\n")
 file_fault_row fault.Other = row_of 10 (codes "ledger: the file isn't a ledger\n")
 file_fault_row (fault.Failed e) = file_row e
 
--- why an open gives no connection: there is no file, or an empty one, and no ledger is to be made; or an error of an open
+-- why an open gives no connection: there is no file, or an empty one, and no ledger is to be made, or its log stands
+-- there; or an error of an open
 abbrev pub IsOpenFault : Bool → FileFault → Type 0
 IsOpenFault is_new fault.Missing = is_new ≡ false
 IsOpenFault is_new fault.Empty = is_new ≡ false
+IsOpenFault is_new fault.LogAlone = Unit {0}
 IsOpenFault is_new fault.Taken = ⊥
 IsOpenFault is_new fault.Other = ⊥
 IsOpenFault is_new (fault.Failed e) = IsTrue (is_open_error e)
@@ -41,6 +45,7 @@ IsOpenFault is_new (fault.Failed e) = IsTrue (is_open_error e)
 abbrev pub IsTableFault : Bool → State → State → FileFault → Type 0
 IsTableFault is_new old new fault.Missing = ⊥
 IsTableFault is_new old new fault.Empty = ⊥
+IsTableFault is_new old new fault.LogAlone = ⊥
 IsTableFault is_new old new fault.Taken = (is_new ≡ true) × (¬ (old.now.schema ≡ no_schema))
 IsTableFault is_new old new fault.Other = (is_new ≡ false) × (¬ (old.now.schema ≡ ledger_schema))
 IsTableFault is_new old new (fault.Failed e) = HasCleanDisk new → StoreFailed old new e

@@ -19,6 +19,8 @@ pub enum FileFault {
     Missing,
     /// The file is empty, and no ledger is to be made.
     Empty,
+    /// There is no file, or an empty one, and beside it stands its log, which may have rows.
+    LogAlone,
     /// A ledger is to be made, and the file has something.
     Taken,
     /// The file isn't a ledger.
@@ -35,7 +37,8 @@ pub trait LedgerOpener {
     ghost opened: { Self → List (List ℕ) };
 
     /// Opens the file whose path this is. If a ledger is to be made, a file that isn't there is made, and nobody else may
-    /// read it. If not, none is made here: one that isn't there is `Missing`, and one without bytes is `Empty`.
+    /// read it. If not, none is made here: one that isn't there is `Missing`, and one without bytes is `Empty`. If the log
+    /// of such a file has rows, it is `LogAlone` in either case.
     fn open(
         &mut self,
         path: &str,
@@ -80,6 +83,10 @@ pub(crate) fn fault_refusal(fault: &FileFault) -> Refusal
             Refusal::fixed(10, "ledger: there is no ledger: --new makes one\n")
         }
         FileFault::Empty => Refusal::fixed(10, "ledger: the file is empty\n"),
+        FileFault::LogAlone => Refusal::fixed(
+            10,
+            "ledger: its log stands there without the file: put the file back\n",
+        ),
         FileFault::Taken => {
             Refusal::fixed(
                 10,
