@@ -8,7 +8,7 @@ use Rattle.key_campaign.specs.declared.commands.Confirm.{Confirm}
 use Rattle.key_campaign.specs.declared.lines.LedgerLine.{LedgerLine}
 use Rattle.key_campaign.specs.declared.lines.LedgerLine.TheVariants as line
 use Rattle.line_stream.specs.Pieces.{in_64_bits}
-use Rattle.line_stream.specs.Streams.{TakesNext, TakesLines, kept_of}
+use Rattle.line_stream.specs.Streams.{TakesLines, kept_of}
 use Rattle.campaign_commands.specs.LedgerTexts.{ledger_line_text}
 use Rattle.sqlite_trees.specs.Tree.{Trees}
 use Rattle.sqlite_trees.specs.declared.store.Store.{Ghosts}
@@ -19,7 +19,7 @@ use Rattle.ledger_shift.specs.declared.line.ShiftLine.{ShiftLine}
 use Rattle.ledger_shift.specs.declared.line.ShiftLine.TheVariants as ask
 use Rattle.ledger_shift.specs.declared.port.ShiftEnd.{ShiftEnd}
 use Rattle.ledger_shift.specs.Answers.{AnswersAsk, MayAddRow}
-use Rattle.ledger_shift.specs.Shifts.{ShiftAt, conn_of, printed_line_number, ServesCommand, ServesNamed, ServesAsk, TakesShiftLine}
+use Rattle.ledger_shift.specs.Shifts.{ShiftAt, conn_of, printed_line_number, ServesNamed, ServesAsk, TakesShiftLine}
 use Rattle.ledger_shift.specs.Laws.{counter_told, rows_of, IsCallOf, AreCallsOf}
 use Rattle.ledger_shift.specs.Crashes.{said_in, NoneAnswered, CrashLeaves, CrashesLeaveRuns, CutLinesLeaveRuns}
 use Rattle.ledger_shift.proofs.Calls.{IsClean, same_rows, was_named, by_line, by_lines}
@@ -35,7 +35,7 @@ none_append [] ns a b = b
 none_append (m ∷ ms) ns a b = (a.0, none_append ms ns a.1 b)
 
 -- the same commands, which leave these rows
-idle : List LedgerRow → List FileMoment → List FileMoment
+abbrev idle : List LedgerRow → List FileMoment → List FileMoment
 idle rows [] = []
 idle rows (m ∷ ms) = record { command = m.command; line = None; after = rows } ∷ idle rows ms
 
@@ -81,7 +81,7 @@ module _ {S : Type 0} (g : Ghosts S) (left : Trees) where
       let m : FileMoment = record { command = IssueBy i before.origin; line = None; after = rows_of g after } in
       let cut : FileMoment = record { command = IssueBy i before.origin; line = None; after = rows_left } in
       one_left before after number m (line.Refused why) refl refl (inl (same_rows g before after does.1)) wrote (elim crash [
-        | inl leaves ↦ inl (leaves, refl, tt)
+        | inl leaves ↦ inl (leaves, (refl, tt))
         | inr adds ↦ inr (cut ∷ [], refl, (inr adds, refl))
       ])
   issue_left before after number i (line.Confirmed counter) crash does wrote may = absurd does
@@ -99,7 +99,7 @@ module _ {S : Type 0} (g : Ghosts S) (left : Trees) where
       let m : FileMoment = record { command = ConfirmBy k before.origin; line = None; after = rows_of g after } in
       let cut : FileMoment = record { command = ConfirmBy k before.origin; line = None; after = rows_left } in
       one_left before after number m (line.Refused why) refl refl (inl (same_rows g before after does.1)) wrote (elim crash [
-        | inl leaves ↦ inl (leaves, refl, tt)
+        | inl leaves ↦ inl (leaves, (refl, tt))
         | inr adds ↦ inr (cut ∷ [], refl, (inr adds, refl))
       ])
   confirm_left before after number k (line.Issued counter request) crash does wrote may = absurd does
@@ -171,14 +171,14 @@ module _ {S : Type 0} (g : Ghosts S) (left : Trees) where
         | inl (leaves, none) ↦ quiet_after count start mid last text lines (line_left start mid (in_64_bits (count + 1)) (kept_of text) takes mid_clean leaves) later.0 later.1 none
         | inr (calls, said, run) ↦
             let here = (by_line g start mid (in_64_bits (count + 1)) (kept_of text) takes mid_clean).1 in (
-            here.0 ++ later.0,
-            (mid, here.0, later.0, refl, here.1, later.1),
-            inr (
-              here.0 ++ calls,
-              said_append here.0 calls ∙ rw said (sym (said_append here.0 later.0)),
-              Run-append FileStep (rows_of g start) here.0 calls (rows_of g mid) rows_left here.2 run,
-            ),
-          )
+              here.0 ++ later.0,
+              (mid, here.0, later.0, refl, here.1, later.1),
+              inr (
+                here.0 ++ calls,
+                said_append here.0 calls ∙ rw said (sym (said_append here.0 later.0)),
+                Run-append FileStep (rows_of g start) here.0 calls (rows_of g mid) rows_left here.2 run,
+              ),
+            )
       ]
 
   -- ---- a line with whatever end
@@ -192,14 +192,14 @@ module _ {S : Type 0} (g : Ghosts S) (left : Trees) where
   issue_cut : (named : Bool) (before after : ShiftAt S) (number : ℕ) (i : Issue) (result : Result (Unit {0}) ShiftEnd) → ServesNamed g named before number (ask.Issue i) after result → IsClean g after → Leaves after → CutLeft before
   issue_cut true before after number i result serves clean may = (
     omega (arith, serves.survives.clean),
-    elim (serves.survives.crash clean left may) [ | inl leaves ↦ inl leaves | inr adds ↦ inr (IssueBy i before.origin, inr adds) ],
+    elim (serves.survives.crash clean left may) [ inl leaves ↦ inl leaves | inr adds ↦ inr (IssueBy i before.origin, inr adds) ],
   )
   issue_cut false before after number i result (same, is) clean may = same_cut before after same clean may
 
   confirm_cut : (named : Bool) (before after : ShiftAt S) (number : ℕ) (k : Confirm) (result : Result (Unit {0}) ShiftEnd) → ServesNamed g named before number (ask.Confirm k) after result → IsClean g after → Leaves after → CutLeft before
   confirm_cut true before after number k result serves clean may = (
     omega (arith, serves.survives.clean),
-    elim (serves.survives.crash clean left may) [ | inl leaves ↦ inl leaves | inr adds ↦ inr (ConfirmBy k before.origin, inr adds) ],
+    elim (serves.survives.crash clean left may) [ inl leaves ↦ inl leaves | inr adds ↦ inr (ConfirmBy k before.origin, inr adds) ],
   )
   confirm_cut false before after number k result (same, is) clean may = same_cut before after same clean may
 
@@ -210,7 +210,7 @@ module _ {S : Type 0} (g : Ghosts S) (left : Trees) where
   asked_cut before after number (ask.Confirm k) result named clean may = confirm_cut before.noted.is_named before after number k result named clean may
   asked_cut before after number (ask.Show uid id) result serves clean may = (
     omega (arith, serves.survives.clean),
-    elim (serves.survives.crash clean left may) [ | inl leaves ↦ inl leaves | inr adds ↦ absurd adds ],
+    elim (serves.survives.crash clean left may) [ inl leaves ↦ inl leaves | inr adds ↦ absurd adds ],
   )
 
   line_cut : (before after : ShiftAt S) (number : ℕ) (text : List ℕ) (result : Result (Unit {0}) ShiftEnd) → TakesShiftLine g before number text after result → IsClean g after → Leaves after → CutLeft before
