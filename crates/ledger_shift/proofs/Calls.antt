@@ -22,11 +22,11 @@ use Rattle.ledger_shift.specs.Shifts.{ShiftAt, conn_of, printed_line_number, Ser
 use Rattle.ledger_shift.specs.Laws.{counter_told, rows_of, IsCallOf, AreCallsOf, ShiftsAreRuns}
 
 module _ {S : Type 0} (g : Ghosts S) where
-  abbrev IsClean : ShiftAt S → Type 0
+  abbrev pub IsClean : ShiftAt S → Type 0
   IsClean s = HasCleanDisk (conn_of g s)
 
   -- a line's calls
-  abbrev Calls : ShiftAt S → ℕ → ShiftAt S → Type 0
+  abbrev pub Calls : ShiftAt S → ℕ → ShiftAt S → Type 0
   Calls before number after = (here : List FileMoment) × IsCallOf g before number after here × Run FileStep (rows_of g before) here (rows_of g after)
 
   none_of : (before after : ShiftAt S) (number : ℕ) → rows_of g after ≡ rows_of g before → Calls before number after
@@ -36,7 +36,7 @@ module _ {S : Type 0} (g : Ghosts S) where
       → FileStep (rows_of g before) m.command m.line m.after → AppendedWell before.sink after.sink (ledger_line_text (printed_line_number number) told) → Calls before number after
   one_of before after number m told line_is after_is step wrote = (m ∷ [], (told, line_is, after_is, step, wrote), (step, sym after_is))
 
-  same_rows : (before after : ShiftAt S) → (conn_of g after).now ≡ (conn_of g before).now → rows_of g after ≡ rows_of g before
+  pub same_rows : (before after : ShiftAt S) → (conn_of g after).now ≡ (conn_of g before).now → rows_of g after ≡ rows_of g before
   same_rows before after same = ap (λ (d : Database). ledger_of (d.trees 0)) same
 
   issue_calls : (before after : ShiftAt S) (number : ℕ) (i : Issue) (told : LedgerLine) → AnswersAsk before.origin (conn_of g before) (conn_of g after) (ask.Issue i) told
@@ -69,11 +69,11 @@ module _ {S : Type 0} (g : Ghosts S) where
   show_calls before after number uid id line.Armed does = absurd does
   show_calls before after number uid id (line.Refused why) does = absurd does
 
-  abbrev Earlier : ShiftAt S → ℕ → ShiftAt S → Type 0
+  abbrev pub Earlier : ShiftAt S → ℕ → ShiftAt S → Type 0
   Earlier before number after = IsClean before × Calls before number after
 
   -- a line that asked for a row, and was taken, came after a name
-  was_named : (named : Bool) (before after : ShiftAt S) (number : ℕ) (asked : ShiftLine) → ServesNamed g named before number asked after (Ok tt) → ServesCommand g before number asked after (Ok tt)
+  pub was_named : (named : Bool) (before after : ShiftAt S) (number : ℕ) (asked : ShiftLine) → ServesNamed g named before number asked after (Ok tt) → ServesCommand g before number asked after (Ok tt)
   was_named true before after number asked serves = serves
   was_named false before after number asked (same, is) = absurd (let e = is in cc)
 
@@ -104,12 +104,12 @@ module _ {S : Type 0} (g : Ghosts S) where
     ],
   )
 
-  by_line : (before after : ShiftAt S) (number : ℕ) (text : List ℕ) → TakesShiftLine g before number text after (Ok tt) → IsClean after → Earlier before number after
+  pub by_line : (before after : ShiftAt S) (number : ℕ) (text : List ℕ) → TakesShiftLine g before number text after (Ok tt) → IsClean after → Earlier before number after
   by_line before after number text (inl (same, is)) clean = absurd (let e = is in cc)
   by_line before after number text (inr (inl (cause, refused, same, is))) clean = absurd (let e = is in cc)
   by_line before after number text (inr (inr (asked, means, serves))) clean = by_asked before after number asked serves clean
 
-  by_lines : (count : ℕ) (start last : ShiftAt S) (lines : List (List ℕ)) → TakesLines (TakesShiftLine g) count start lines last → IsClean last
+  pub by_lines : (count : ℕ) (start last : ShiftAt S) (lines : List (List ℕ)) → TakesLines (TakesShiftLine g) count start lines last → IsClean last
       → IsClean start × ((ms : List FileMoment) × AreCallsOf g count start lines last ms × Run FileStep (rows_of g start) ms (rows_of g last))
   by_lines count start last [] same clean = (subst IsClean same clean, ([], (same, refl), ap (rows_of g) same))
   by_lines count start last (text ∷ lines) (mid, takes, more) clean =

@@ -1,3 +1,4 @@
 pub mod Words
 mod Served
 mod Calls
+mod Crashed

@@ -6,3 +6,4 @@ pub mod Statuses
 pub mod FileRuns
 pub mod Words
 pub mod Laws
+pub mod Crashes

@@ -1,4 +1,5 @@
 //! What holds of each shift over a ledger, put together from the laws of the crates below.
+ghost use Rattle.ledger_shift.specs.Crashes.{CrashesLeaveRuns, CutLinesLeaveRuns};
 ghost use Rattle.ledger_shift.specs.Laws.{ShiftsAreRuns};
 
 use ledger_rows::laws::answered_counters_rise;
@@ -11,3 +12,13 @@ pub fn shifts_are_runs<S: Alter>()
 {
     answered_counters_rise();
 }
+
+/// Whatever a crash leaves after lines that were taken has the row of each counter that was answered.
+pub fn crashes_leave_runs<S: Alter>()
+    ensures { CrashesLeaveRuns S.Store }
+{}
+
+/// The same of a crash in a line: beside those rows there is at most that of the line's command.
+pub fn cut_lines_leave_runs<S: Alter>()
+    ensures { CutLinesLeaveRuns S.Store }
+{}

@@ -6,7 +6,8 @@
 //! on, and no row is entered before it. `issue`, `confirm` and `show` are those of `campaign`, and so are their answers.
 //! `RunsShift` says it whole: each line is served in its order, a row is committed before its line is written, and the
 //! status names the end. The shift ends at the first line that is refused, and if the file or the sink fails.
-//! [`laws`] says that the counters which a shift prints for a unit and slot strictly rise.
+//! [`laws`] says that the counters which a shift prints for a unit and slot strictly rise, and that whatever a crash leaves
+//! has the row of each.
 #![tactic(auto)]
 
 mod file_run;
