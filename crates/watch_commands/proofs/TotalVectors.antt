@@ -9,7 +9,7 @@ use Rattle.watch_commands.specs.declared.options.WatchOptions.{WatchOptions}
 use Rattle.watch_commands.specs.Limits.{no_limits, share_of}
 use Rattle.watch_commands.specs.WatchedMaps.{WatchedMap}
 use Rattle.can_logs.specs.Findings.{Finding, other, too_short, verdict}
-use Rattle.watch_commands.specs.Seconds.{seconds_form}
+use Rattle.can_logs.specs.Seconds.{seconds_form}
 use Rattle.watch_commands.specs.Times.{silence_of}
 use Rattle.watch_commands.specs.Watching.{Found, findings_of}
 use Rattle.watch_commands.specs.WatchTotals.{counts_of}
@@ -60,6 +60,8 @@ entry optional = record {
   window = 16;
   channel = None;
   optional = optional;
+  every = None;
+  silent = None;
   name = None;
 }
 
@@ -168,10 +170,6 @@ never_heard = refl
 falls_back : silence_of 0 (at_second 5 (verdict 1 0 (codes "123") (Accepted [] 11)) ∷ at_second 1 (other kind.Unmapped) ∷ at_second 6 (other kind.Unmapped) ∷ []) ≡ record { from = 5000000; to = 6000000 }
 unfolding at_second seconds_form
 falls_back = refl
-
-times_of_words : (seconds_form (codes "12.5") ≡ Some 12500000) × (seconds_form (codes "0000000001.0000019") ≡ Some 1000001) × (seconds_form (codes ".5") ≡ None) × (seconds_form (codes "1,5") ≡ None)
-unfolding seconds_form
-times_of_words = (refl, refl, refl, refl)
 
 shares_are_rounded_up : (share_of 1 3 ≡ 34) × (share_of 0 0 ≡ 0) × (share_of 1 1000 ≡ 1)
 shares_are_rounded_up = (refl, refl, refl)
