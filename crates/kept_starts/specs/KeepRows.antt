@@ -25,22 +25,10 @@ keep_row (keep.BadBound cell) = start_row (fault.BadBound 1 cell)
 keep_row keep.DiskFailed = start_row (fault.Store 1 reread.DiskFailed)
 keep_row keep.Memory = memory_row
 
--- its text names a store, or a place of one, and is made when it is printed
-abbrev pub NamesStore : KeepFault → Type 0
-NamesStore (keep.OtherStore there) = Unit {0}
-NamesStore (keep.Damaged place) = Unit {0}
-NamesStore (keep.BadSlot slot) = Unit {0}
-NamesStore (keep.BadBound cell) = Unit {0}
-NamesStore fault = ⊥
-
--- that row; or out of memory, if its text is made
-abbrev pub IsKeepRow : KeepFault → Row → Type 0
-IsKeepRow fault row = (row ≡ keep_row fault) ⊎ (NamesStore fault × (row ≡ memory_row))
-
 -- The row of a start that doesn't go on: of the look at the disk; or of the start after it, over the disk as it was
 -- then. If it is that of 9 every disk is as before, and `same` says so of the disks themselves.
 pub data ComesKept (same : Type 0) (bus : NamedBus) (d : DiskStates) (row : Row) : Type 0 where
-  of_look : (fault : KeepFault) → NotKept bus d.before d.after fault → IsKeepRow fault row → ComesKept same bus d row
+  of_look : (fault : KeepFault) → NotKept bus d.before d.after fault → row ≡ keep_row fault → ComesKept same bus d row
   of_start : (seen : List DiskState) → LookedAt bus d.before seen
       → ComesUnstarted same Attach bus (record { before = seen; after = d.after }) row → ComesKept same bus d row
 
