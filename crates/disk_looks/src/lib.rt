@@ -12,4 +12,4 @@ mod texts;
 
 pub use laws::bytes_are_seen_as_one_thing;
 pub use looks::{LookFault, Seen, is_zeroed, look_whole};
-pub use texts::standing_refusal;
+pub use texts::{standing_refusal, standing_text};
