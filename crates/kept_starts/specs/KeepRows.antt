@@ -38,9 +38,10 @@ abbrev pub BusKeepsDisk : NamedBus → DiskStates → Type 0
 BusKeepsDisk bus d = BusHasDisks Attach bus d × ((disk : DiskState) → KeepsTold bus (get_or d.before 0 disk))
 
 -- Why a start of the bus refuses what stands on its disk, in a row of 10, and this of the text that tells it. There is
--- room for the store. At the look: another store's header stands, or none does and a byte isn't zero, or the disk
--- failed; it was only read. Or at the start after the look: the disk failed, or its bytes are refused, and it is left as
--- an unfinished start leaves it.
+-- room for the store. At the look: another store's header stands, or none does and a byte isn't zero, or a store in
+-- version 1 that would be moved is damaged or a cell of it isn't the node's, or the disk failed; it was only read. Or at
+-- the start after the look: the disk failed, or its bytes are refused. If the disk didn't fail, no byte of a disk that
+-- was in use changed (`RefusedStartsWriteNothing`).
 pub data RefusesStart (bus : NamedBus) (d : DiskStates) (Tells : List ℕ → Type 0) : Type 0 where
   at_look : (fault : KeepFault) → NotKept bus d.before d.after fault → (keep_row fault).status ≡ 10
       → Tells (keep_row fault).text → RefusesStart bus d Tells
