@@ -286,7 +286,10 @@ fn new_silence(given: Option<u64>, word: &[u8]) -> Option<u64>
     if given.is_some() {
         return None;
     }
-    period(word).map(|time| time.get())
+    match period(word) {
+        Some(time) => Some(time.get()),
+        None => None,
+    }
 }
 
 /// What words ask for, the program's name left out, and how many of them stand before the inputs; all, if an option has
