@@ -7,6 +7,7 @@ pub mod Stamping
 pub mod WordSizes
 pub mod Reading
 pub mod Silencing
+pub mod Calm
 pub mod Going
 pub mod WatchRising
 pub mod OneWatch
