@@ -86,5 +86,7 @@ impl WatchTask {
 fn has_silence(lines: &[MapLine], limits: &Limits) -> bool
     ensures { result ≡ list_any (λ entry. is_some (silence_limit limits.now entry)) lines.now }
 {
-    lines.iter().any(|entry| silence_limit(limits, entry).is_some())
+    lines
+        .iter()
+        .any(|entry| silence_limit(limits, entry).is_some())
 }

@@ -32,9 +32,9 @@ struct Kept {
 
 /// Watches a log, and ends with 0 exactly if `watch` prints the kept text, of at most 1,048,576 bytes. Nothing is
 /// printed on standard output. The kept text is read whole, then the map. Each piece of the log is compared before the
-/// log is read again. At the first difference the run ends with 1, and its line is told on `errors`, with what is
-/// kept there and what came; so, too, if the output ends before the text. The rows of faults are those of `run_watch`, and of the kept text 5, 8 and 7. Out of
-/// memory comes only before the log.
+/// log is read again. At the first difference the run ends with 1. `errors` has the number of its line, the line as it
+/// is kept, and as it came; so, too, if the output ends before the text. The rows of faults are those of `run_watch`,
+/// and of the kept text 5, 8 and 7. Out of memory comes only before the log.
 pub fn run_expected<F: Source, S: Source, T: Source, E: Sink>(
     alloc: Global,
     words: &[String],
