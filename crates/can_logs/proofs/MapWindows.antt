@@ -15,7 +15,7 @@ use Rattle.can_logs.specs.declared.map_lines.MapLine.{MapLine}
 use Rattle.can_logs.specs.MapLines.{line_with, most_map_lines}
 use Rattle.can_logs.proofs.CallerLemmas.{HaveWindows, line_with-window}
 use Rattle.can_logs.specs.Seconds.{period_form}
-use Rattle.can_logs.specs.WatchMaps.{words_to, own_channel, own_window, reached_can_form, line_name_form, begins_every, begins_silent, marked_optional, marked_every, marked_silent, marked_name, with_mark, with_two_marks, with_line_marks, watch_line_of, watch_map_of}
+use Rattle.can_logs.specs.WatchMaps.{words_to, own_channel, own_window, reached_can_form, line_name_form, begins_every, begins_silent, marked_optional, marked_every, marked_silent, marked_name, with_mark, chosen_mark, with_two_marks, with_line_marks, watch_line_of, watch_map_of}
 
 -- the window of a line that is given, and of another if none is
 abbrev window_in : MapLine → Result MapLine Cause → ℕ
@@ -75,8 +75,8 @@ chosen_mark-window false number words l m h = ap (window_in l) (sym h)
 
 two_marks-window : (count told : ℕ) (words : List (List ℕ)) (l m : MapLine) → with_two_marks count told words l ≡ Ok m → m.window ≡ l.window
 two_marks-window count told words l m h =
-    let first = bind_ok (if nat_lt count told then with_mark (count + 1) words l else Ok l) _ m h in
-    chosen_mark-window (nat_lt (count + 1) told) (count + 2) words first.0 m first.2
+    let first = bind_ok (chosen_mark count told words l) (chosen_mark (count + 1) told words) m h in
+    chosen_mark-window (nat_lt (count + 1) told) (count + 1 + 1) words first.0 m first.2
     ∙ chosen_mark-window (nat_lt count told) (count + 1) words l first.0 first.1
 
 with_line_marks-window : (count told : ℕ) (words : List (List ℕ)) (l m : MapLine) → with_line_marks count told words l ≡ Ok m → m.window ≡ l.window

@@ -112,11 +112,12 @@ marked_by number word l =
 abbrev pub with_mark : ℕ → List (List ℕ) → MapLine → Result MapLine Cause
 with_mark number words l = marked_by number (nth_word words number) l
 
--- a line with the marks that follow its first `count` words, of `told` in all: at most two, or at most four
+-- a line with the marks that follow its first `count` words, of `told` in all: at most one, two or four
+abbrev pub chosen_mark : ℕ → ℕ → List (List ℕ) → MapLine → Result MapLine Cause
+chosen_mark count told words l = if nat_lt count told then with_mark (count + 1) words l else Ok l
+
 abbrev pub with_two_marks : ℕ → ℕ → List (List ℕ) → MapLine → Result MapLine Cause
-with_two_marks count told words l =
-    (if nat_lt count told then with_mark (count + 1) words l else Ok l)
-    >>= (λ l. if nat_lt (count + 1) told then with_mark (count + 2) words l else Ok l)
+with_two_marks count told words l = chosen_mark count told words l >>= chosen_mark (count + 1) told words
 
 abbrev pub with_line_marks : ℕ → ℕ → List (List ℕ) → MapLine → Result MapLine Cause
 with_line_marks count told words l =

@@ -11,7 +11,7 @@ ghost use Rattle.can_logs.specs.WatchMaps.{begins_every, begins_silent, begins_n
 ghost use Rattle.can_logs.specs.Seconds.{period_form};
 ghost use Rattle.can_logs.specs.WatchMaps.{is_line_name_byte, is_named};
 ghost use Rattle.can_logs.specs.WatchMaps.{line_name_form, marked_optional, marked_every, marked_silent, marked_name};
-ghost use Rattle.can_logs.specs.WatchMaps.{with_mark, with_two_marks, with_line_marks};
+ghost use Rattle.can_logs.specs.WatchMaps.{with_mark, chosen_mark, with_two_marks, with_line_marks};
 ghost use Rattle.can_logs.specs.WatchMaps.{own_channel, own_window, hears_all_of, is_shadowed, is_reached};
 ghost use Rattle.can_logs.specs.WatchMaps.{reached_can_form, watch_map_of, line_numbers, IsMapOf};
 
@@ -335,25 +335,38 @@ fn marked(
     with_name(alloc, number, word, line)
 }
 
+/// A line with the mark that follows its first `count` words, if there are more, of `told` in all.
+fn chosen_mark(
+    alloc: Global,
+    words: &Words<'_>,
+    count: usize,
+    told: usize,
+    line: MapLine,
+) -> Result<MapLine, LineFault>
+    requires few { count ≤ 10 }
+    requires within { told ≤ length words.now }
+    ensures { GivesLine (chosen_mark count told words.now line) result }
+{
+    if count >= told {
+        return Ok(line);
+    }
+    marked(alloc, words, count + 1, line)
+}
+
 /// A line with two marks at most that follow its first `count` words, of `told` in all.
 fn with_two_marks(
     alloc: Global,
     words: &Words<'_>,
     count: usize,
     told: usize,
-    mut line: MapLine,
+    line: MapLine,
 ) -> Result<MapLine, LineFault>
     requires few { count ≤ 9 }
     requires within { told ≤ length words.now }
     ensures { GivesLine (with_two_marks count told words.now line) result }
 {
-    if told > count {
-        line = marked(alloc, words, count + 1, line)?;
-    }
-    if told > count + 1 {
-        line = marked(alloc, words, count + 2, line)?;
-    }
-    Ok(line)
+    let line = chosen_mark(alloc, words, count, told, line)?;
+    chosen_mark(alloc, words, count + 1, told, line)
 }
 
 /// A line with the marks that follow its first `count` words, of `told` in all: four at most.

@@ -5,8 +5,8 @@ use Rattle.can_logs.specs.Seconds.{seconds_form, period_form}
 use Rattle.can_logs.proofs.maps.period_behind.Goals as goal
 
 -- no byte is left
-pub returns-then-count : goal.returns-then-count
+pub returns-then-word-count : goal.returns-then-word-count
 unfolding seconds_form
-returns-then-count c =
+returns-then-word-count c =
     let none : drop c.args.count c.args.word.now ≡ [] = drop_of_length-le c.args.word.now (omega arith) in
     sym (ap period_form none)
