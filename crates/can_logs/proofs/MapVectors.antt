@@ -1,8 +1,7 @@
 -- The words of a line of a map, times, and the bytes of a frame, tried on written-out lines
 use Rattle.std.proofs.Common.{◌≡◌, true, false, [], ◌∷◌, refl}
-use Rattle.text_lines.specs.Forms.{hex_bytes_form}
 use Rattle.std.specs.Prelude.{codes, None, Some}
-use Rattle.can_logs.specs.Frames.{data_form}
+use Rattle.can_logs.specs.Frames.{without_long_code}
 use Rattle.can_logs.specs.Seconds.{seconds_form, period_form}
 use Rattle.can_logs.specs.WatchMaps.{words_to, line_name_form}
 
@@ -42,10 +41,11 @@ unfolding seconds_form
 no_period = (refl, refl)
 
 -- `candump -8` writes a data length code of 11 so; one of 8 it doesn't write
-a_long_code : data_form (codes "0011223344556677_B") ≡ Some (0 ∷ 0x11 ∷ 0x22 ∷ 0x33 ∷ 0x44 ∷ 0x55 ∷ 0x66 ∷ 0x77 ∷ [])
-unfolding data_form hex_bytes_form
+a_long_code : without_long_code (codes "0011223344556677_B") ≡ codes "0011223344556677"
 a_long_code = refl
 
-no_long_code : (data_form (codes "0011223344556677_8") ≡ None) × (data_form (codes "00112233445566_B") ≡ None) × (data_form (codes "0011223344556677_BB") ≡ None)
-unfolding data_form hex_bytes_form
-no_long_code = (refl, refl, refl)
+a_code_of_8 : without_long_code (codes "0011223344556677_8") ≡ codes "0011223344556677_8"
+a_code_of_8 = refl
+
+behind_7_bytes : without_long_code (codes "00112233445566_B") ≡ codes "00112233445566_B"
+behind_7_bytes = refl
