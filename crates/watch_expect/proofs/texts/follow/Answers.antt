@@ -3,7 +3,7 @@ use Rattle.std.specs.Prelude.{min}
 use Rattle.std.specs.List.{slice_get}
 use Rattle.std.proofs.lemmas.List.{length-drop, take_min}
 use Rattle.watch_expect.specs.Comparing.{Parts, LeavesAt}
-use Rattle.watch_expect.proofs.Following.{short, follows, leaves}
+use Rattle.watch_expect.proofs.Following.{short, follows, leaves, goes_on_at}
 use Rattle.watch_expect.proofs.texts.follow.Goals as goal
 
 -- behind the whole text as behind more
@@ -25,6 +25,7 @@ returns-then-count-found c =
       subst (λ (t : List ℕ). LeavesAt text (t ++ found) (at + count)) first_is
           (leaves text found at count within inside same c.if-count-found.true
           (subst (λ (t : List ℕ). Parts (slice_get t count) (slice_get found count)) rest_is (c.count_same-count.ensures.parts c.if-count-found.true))),
+      subst (λ (t : List ℕ). drop count found ≡ drop (at + count) (t ++ found)) first_is (goes_on_at text found at count within inside),
     )
 
 pub returns : goal.returns
