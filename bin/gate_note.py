@@ -43,11 +43,10 @@ def kit_version():
 
 
 def text_files(crate, top=sources.TOP):
-    """The folders and files of which a crate's text is made, in one order."""
+    """The files of which a crate's text is made, in one order."""
     for part in ("src", "specs", "proofs"):
         for folder, folders, names in os.walk(os.path.join(top, "crates", crate, part)):
             folders.sort()
-            yield folder
             yield from (os.path.join(folder, name) for name in sorted(names))
 
 
@@ -58,21 +57,10 @@ def sums_of_text(top=sources.TOP):
     for crate, line in lines.items():
         made = own[crate] = hashlib.sha256(repr((text_of("HANDLES", top), line)).encode())
         for path in text_files(crate, top):
-            if os.path.isfile(path):
-                with open(path, "rb") as it:
-                    made.update(repr((os.path.relpath(path, top), it.read())).encode())
+            with open(path, "rb") as it:
+                made.update(repr((os.path.relpath(path, top), it.read())).encode())
     own = {crate: it.hexdigest() for crate, it in own.items()}
     return {crate: hashlib.sha256("".join(own[it] for it in sorted(below[crate])).encode()).hexdigest() for crate in lines}
-
-
-def changed_since(moment, top=sources.TOP):
-    """The crates of which a file or a folder is younger than this moment, or one of a crate below it is."""
-    lines, below = crates_below(top)
-    is_young = lambda path: os.stat(path).st_mtime > moment
-    if is_young(os.path.join(top, "crates.txt")) or is_young(os.path.join(top, "HANDLES")):
-        return sorted(lines)
-    young = {crate for crate in lines if any(map(is_young, text_files(crate, top)))}
-    return sorted(crate for crate in lines if young & below[crate])
 
 
 def programs_of(top=sources.TOP):
@@ -86,16 +74,16 @@ def programs_of(top=sources.TOP):
     return found
 
 
-def note_passed(seconds, top=sources.TOP):
-    """Notes that the gate passed, which ran for so many seconds. Gives the crates that were changed meanwhile, of which
-    nothing is noted."""
-    changed = changed_since(time.time() - seconds, top)
-    texts = {crate: it for crate, it in sums_of_text(top).items() if crate not in changed}
+def note_passed(before, top=sources.TOP):
+    """Notes that the gate passed, before which the crates' texts had these sums. Gives the crates whose text is another
+    one now, it or that of a crate below, of which nothing is noted."""
+    now = sums_of_text(top)
+    texts = {crate: it for crate, it in now.items() if it == before.get(crate)}
     programs = {name: sum_of_file(file) for name, (crate, file) in programs_of(top).items() if crate in texts}
     os.makedirs(os.path.join(top, os.path.dirname(NOTE)), exist_ok=True)
     with open(os.path.join(top, NOTE), "w", encoding="utf-8") as it:
         json.dump({"date": time.strftime("%Y-%m-%d"), "kit": kit_version(), "texts": texts, "programs": programs}, it, indent=1)
-    return changed
+    return sorted(now.keys() - texts)
 
 
 class Gate:

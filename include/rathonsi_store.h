@@ -19,15 +19,14 @@
  *
  * More is proved of a caller that keeps what it owes, over all lives with a store of several routes
  * and slots. A life lasts from one power-up to the next. This holds wherever within a write the
- * power goes. The caller may open, send, accept, take answers, reserve, advance, load, finish and
- * drop with the calls below. A route may have any key, window, reserve and boot, in this life and
+ * power goes. The caller may open, send, accept, take answers, rejoin, reserve, advance, load, finish
+ * and drop with the calls below. A route may have any key, window, reserve and boot, in this life and
  * the next.
- *   - The freshness sent under a Data ID strictly rises. So does the freshness accepted. Both stay
- *     at most the bound on the device. This holds over software updates that add routes, and over
- *     roll-backs, at any moment and in any order.
- *   - Of a unit in which one receiver rejoins after a reset, what that receiver accepts strictly
- *     rises, under two conditions: see rathonsi_sync_rejoin. The other points speak of units that
- *     don't rejoin.
+ *   - The freshness sent under a Data ID strictly rises. So does the freshness accepted by a route
+ *     that doesn't rejoin. Both stay at most the bound on the device. This holds over software
+ *     updates that add routes, and over roll-backs, at any moment and in any order.
+ *   - What a route accepts that rejoins after a reset strictly rises over all lives of one software,
+ *     under two conditions: see rathonsi_sync_rejoin.
  *   - After a receiver took an answer of its sender, it accepts what the sender sends after the
  *     answer, within its window. An answer that somebody made without the key moves no counter.
  *   - An update that was confirmed stays in its slot, and the same reply confirms it. This lasts
@@ -44,11 +43,12 @@
  *   D-7 Only the functions below change the image, the plan and the counters of routes. One
  *     exception: the caller zeroes a plan as this list says.
  *   D-8 rathonsi_store_make and rathonsi_route_make change the image only before the first power-up.
- *   D-9 A store has one image and one plan. Several stores share nothing: each has its own. A call
- *     that only reads the image may run at the same time as another one, each on a route of its own,
- *     also while the writes of a plan are made: sending, receiving, opening, answers, states, MACs.
- *     Of the calls that write the plan, one runs at a time. While rathonsi_store_done,
- *     rathonsi_store_make or rathonsi_route_make runs, no other call on the store does.
+ *   D-9 A store has one image, and one plan at a time, or several as D-13 says. Several stores share
+ *     nothing: each has its own. A call that only reads the image may run at the same time as another
+ *     one, each on a route of its own, also while the writes of a plan are made: sending, receiving,
+ *     opening, answers, states, MACs. Of the calls that write the plan, one runs at a time. While
+ *     rathonsi_store_done, rathonsi_store_make or rathonsi_route_make runs, no other call on the
+ *     store does.
  *   D-10 A Data ID in one direction has one cell and one route. No other route uses the cell.
  *     rathonsi_routes_open sees to it, if one call gets all routes of the store. rathonsi_route_make
  *     and rathonsi_store_grow refuse a second cell, and rathonsi_store_look names one.
@@ -57,6 +57,10 @@
  *   D-12 A route has the same Data ID, direction and cell in every life. Slot, window, reserve and
  *     booted may change. The caller zeroes opened at power-up, and never sets it.
  *   D-13 While a plan is pending, routes send and receive as before. A new plan answers RATHONSI_BUSY.
+ *     One exception: calls that reserve may plan for several routes over one image, each into a plan
+ *     of its own, before a write of any is begun. They are done together: all first writes, then all
+ *     second ones, then all third ones, each step durable before the next begins. Then the caller
+ *     calls rathonsi_store_done for each, in any order, before it plans anything else.
  *   D-14 A nonce is drawn by the caller, and none is used twice. One for rathonsi_sync_rejoin is drawn
  *     since the route was opened, and nobody could foretell it. See both calls. A unit answers only
  *     questions whose answerer is its own name, and asks under its own alone: the library can't know it.
@@ -79,6 +83,7 @@
  *
  *   Writes
  *   D-20 The caller does the writes of a plan in their order, each durable before the next begins.
+ *     Within a step of several plans (D-13) the order is free, and a cut may tear several writes.
  *   D-21 A write that is durable stays. If the power goes within a write, that write may leave
  *     anything in its own bytes, and changes no other byte. Some memory rewrites whole words, pages
  *     or sectors: memory with error correction over words, NOR flash, many EEPROMs, eMMC. Such
@@ -637,9 +642,10 @@ RathonsiVerdict rathonsi_sync_take(RathonsiRoute *route, const uint8_t *image, s
 /* Back at once after a reset. A route that is opened begins at its bound, so a receiver refuses what
  * its sender sends up to there: with a reserve of 128 up to 127 PDUs. This call moves its counter down
  * to the sender's, if no call moved it since rathonsi_route_open. The bound stays, so the first PDU
- * needs no plan (a nonce of rathonsi_sync_nonce needs one at each power-up). Ask after the route was
- * opened, by a nonce that nobody can foretell: see rathonsi_sync_nonce. Whoever foretells it asks the
- * sender early, and lowers the counter later.
+ * needs no plan, unless the sender is beyond the bound: RATHONSI_RESERVE. (A nonce of
+ * rathonsi_sync_nonce needs one at each power-up.) Ask after the route was opened, by a nonce that
+ * nobody can foretell: see rathonsi_sync_nonce. Whoever foretells it asks the sender early, and lowers
+ * the counter later.
  * What is accepted strictly rises over all lives, if each accepted PDU is one that this sender sent and
  * each answer was made since the route was opened. Without that it rises from an opening to the next.
  * So never rejoin under a key that another unit sent with before, or this one with a store that was made

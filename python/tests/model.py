@@ -16,12 +16,14 @@ class Refusal(Exception):
 
 
 def encrypt(key: bytes, text: bytes, iv: bytes | None = None) -> bytes:
-    turned = Cipher(algorithms.AES(key), modes.ECB() if iv is None else modes.CBC(iv)).encryptor()
+    mode: modes.ECB | modes.CBC = modes.ECB() if iv is None else modes.CBC(iv)
+    turned = Cipher(algorithms.AES(key), mode).encryptor()
     return turned.update(text) + turned.finalize()
 
 
 def decrypt(key: bytes, text: bytes, iv: bytes | None = None) -> bytes:
-    turned = Cipher(algorithms.AES(key), modes.ECB() if iv is None else modes.CBC(iv)).decryptor()
+    mode: modes.ECB | modes.CBC = modes.ECB() if iv is None else modes.CBC(iv)
+    turned = Cipher(algorithms.AES(key), mode).decryptor()
     return turned.update(text) + turned.finalize()
 
 

@@ -121,7 +121,7 @@ room-number n top x y old plan r p after =
       ),
     )
 
-room-cell : (route : RathonsiRoute) (bound n top : ℕ) (x y : List ℕ) (old plan : Plan) → route.cell < top → StoreWithRoom n top x → PlansCell route bound x old plan → (y ≡ applied plan x) ⊎ CutWithin plan x y → Room n top y
+room-cell : (route : RathonsiRoute) (bound n top : ℕ) (x y : List ℕ) (old plan : Plan) → (route.cell < 270 → route.cell < top) → StoreWithRoom n top x → PlansCell route bound x old plan → (y ≡ applied plan x) ⊎ CutWithin plan x y → Room n top y
 room-cell route bound n top x y old plan few r p after =
     let same : p.count ≡ n = says-once x p.count n p.told.says r.told.says in
     let c : List ℕ = bound_cell route.data_id p.direction bound in
@@ -135,7 +135,7 @@ room-cell route bound n top x y old plan few r p after =
             let here : Head n x = subst (λ m. Head m x) same head in
             let next : MayGrow x n = subst (λ m. MayGrow x m) same may in
             let plans : PlansGrowth plan n c = subst (λ m. PlansGrowth plan m c) same grows in
-            by-grow n top x y r plan c sized (omega arith) here next plans (cut-or-none plan x y (growth-done n c sized x (let l = next.after.room in omega arith) plan plans) after)
+            by-grow n top x y r plan c sized (let f = few (omega arith) in omega arith) here next plans (cut-or-none plan x y (growth-done n c sized x (let l = next.after.room in omega arith) plan plans) after)
         | inr (below, own) ↦ elim own [
           | inl (spare, put) ↦
               let cut = cut-or-none plan x y (put-done plan x route.cell c put) after in
@@ -146,12 +146,12 @@ room-cell route bound n top x y old plan few r p after =
       ]
     ]
 
-pub room-steps : (table : Table) (steps n top : ℕ) (x y : List ℕ) → StoreWithRoom n top x → ((k : ℕ) → (table.route k).cell < top) → GrowthSteps table steps x y → Room n top y
+pub room-steps : (table : Table) (steps n top : ℕ) (x y : List ℕ) → StoreWithRoom n top x → ((k : ℕ) → (table.route k).cell < 270 → (table.route k).cell < top) → GrowthSteps table steps x y → Room n top y
 room-steps table zero n top x y r few e = (n, (subst (λ (z : List ℕ). StoreWithRoom n top z) (sym e) r, omega arith))
 room-steps table (suc steps) n top x y r few (z, (s, rest)) =
     let one : Room n top z = elim s.planned [
       | inl number ↦ room-number n top x z s.old s.plan r number s.after
-      | inr g ↦ room-cell g.filled (table.first g.which) n top x z s.old s.plan (let f = few g.which in let e = g.same.cell in omega arith) r g.cell s.after
+      | inr g ↦ room-cell g.filled (table.first g.which) n top x z s.old s.plan (λ below. let e = g.same.cell in let f = few g.which (omega arith) in omega arith) r g.cell s.after
     ] in
     let more = room-steps table steps one.0 top z y one.1.0 few rest in
     (more.0, (more.1.0, (let a = one.1.1 in let b = more.1.1 in omega arith)))

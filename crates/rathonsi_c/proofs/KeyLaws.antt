@@ -17,7 +17,7 @@ use Rattle.store_plan.proofs.CallerLemmas.{applied-cell, applied-others, applied
 use Rattle.freshness_routes.specs.Changes.{bound_ahead}
 use Rattle.rathonsi_c.specs.Images.{ImageSlot}
 use Rattle.rathonsi_c.specs.Slots.{ConfirmsSlot}
-use Rattle.rathonsi_c.specs.Lives.{Memory, Deed, sends, accepts, takes, opens, sets, reserves, loads, drops, finishes, powers_up, PlansBound, Lives, DoesDeed, PoweredUp, NoUpdatePlanned, PlannedAs, planned_behind, planned_after, BeginsNone, NoneBegun, UpdateDone, SlotFilled}
+use Rattle.rathonsi_c.specs.Lives.{Memory, Deed, sends, accepts, takes, rejoins, opens, sets, reserves, loads, drops, finishes, powers_up, PlansBound, Lives, DoesDeed, PoweredUp, NoUpdatePlanned, PlannedAs, planned_behind, planned_after, BeginsNone, NoneBegun, UpdateDone, SlotFilled}
 use Rattle.rathonsi_c.proofs.ImageLaws.{moved_slot}
 
 -- a plan that is done, or cut, leaves a slot that it isn't for
@@ -84,6 +84,7 @@ planned-does : (n place : ℕ) (deed : Deed) (a b : Memory) → place < 14 → F
 planned-does n place (sends k freshness) a b few p d = planned-same place a b d.changes.image d.changes.plan p
 planned-does n place (accepts k freshness) a b few p d = planned-same place a b d.changes.image d.changes.plan p
 planned-does n place (takes k counter) a b few p d = planned-same place a b d.1.changes.image d.1.changes.plan p
+planned-does n place (rejoins k counter) a b few p d = planned-same place a b d.changes.image d.changes.plan p
 planned-does n place (opens k) a b few p d = planned-same place a b d.changes.image d.changes.plan p
 planned-does n place (sets k) a b few p d = planned-same place a b d.changes.image d.changes.plan p
 planned-does n place (reserves k) a b few p d = inl (bound-none n k place a b few d)
@@ -103,6 +104,7 @@ none-does : (n place : ℕ) (planned : Bool) (deed : Deed) (a b : Memory) → pl
 none-does n place planned (sends k freshness) a b few none d not = none-same place a b d.changes.image d.changes.plan (none not)
 none-does n place planned (accepts k freshness) a b few none d not = none-same place a b d.changes.image d.changes.plan (none not)
 none-does n place planned (takes k counter) a b few none d not = none-same place a b d.1.changes.image d.1.changes.plan (none not)
+none-does n place planned (rejoins k counter) a b few none d not = none-same place a b d.changes.image d.changes.plan (none not)
 none-does n place planned (opens k) a b few none d not = none-same place a b d.changes.image d.changes.plan (none not)
 none-does n place planned (sets k) a b few none d not = none-same place a b d.changes.image d.changes.plan (none not)
 none-does n place planned (reserves k) a b few none d not = bound-none n k place a b few d
@@ -127,6 +129,7 @@ held-does : (n place : ℕ) (slot : Slot) (planned : Bool) (deed : Deed) (a b : 
 held-does n place slot planned (sends k freshness) a b free none held d = held-same place slot a b d.changes.image held
 held-does n place slot planned (accepts k freshness) a b free none held d = held-same place slot a b d.changes.image held
 held-does n place slot planned (takes k counter) a b free none held d = held-same place slot a b d.1.changes.image held
+held-does n place slot planned (rejoins k counter) a b free none held d = held-same place slot a b d.changes.image held
 held-does n place slot planned (opens k) a b free none held d = held-same place slot a b d.changes.image held
 held-does n place slot planned (sets k) a b free none held d = held-same place slot a b d.changes.image held
 held-does n place slot planned (reserves k) a b free none held d = held-same place slot a b d.image held
@@ -229,6 +232,7 @@ filled-does : (n place : ℕ) (deed : Deed) (a b : Memory) → StaysFilled place
 filled-does n place (sends k freshness) a b h d = filled-same place a b d.changes.image h.filled
 filled-does n place (accepts k freshness) a b h d = filled-same place a b d.changes.image h.filled
 filled-does n place (takes k counter) a b h d = filled-same place a b d.1.changes.image h.filled
+filled-does n place (rejoins k counter) a b h d = filled-same place a b d.changes.image h.filled
 filled-does n place (opens k) a b h d = filled-same place a b d.changes.image h.filled
 filled-does n place (sets k) a b h d = filled-same place a b d.changes.image h.filled
 filled-does n place (reserves k) a b h d = filled-same place a b d.image h.filled

@@ -2,6 +2,7 @@ pub mod Chunks
 pub mod ImageLaws
 pub mod AnswerLaws
 pub mod LivesLaws
+pub mod RouteKept
 pub mod KeyLaws
 pub mod WholeLaws
 pub mod ReservedLaws
@@ -9,7 +10,10 @@ pub mod DiskLaws
 pub mod SyncLaws
 pub mod SyncSteps
 pub mod RejoinLaws
+pub mod RejoinSteps
 pub mod PairLaws
+pub mod TogetherLaws
+pub mod TogetherLives
 pub mod NonceLaws
 pub mod PieceLaws
 pub mod StepLaws

@@ -1,8 +1,9 @@
 -- Freshness rises over all lives.
 use Rattle.std.proofs.Common.{◌≡◌, ◌≢◌, ℕ, ◌^◌, ◌<◌, ◌≤◌, ◌==◌, ◌⊎◌, inl, inr, true, false, if◌then◌else◌, List, [], ◌∷◌, refl, sym, ap, subst, ◌∙◌, arith}
-use Rattle.std.proofs.lemmas.Bool.{cases_lt, cases_eq, eq-eqb, ne_eqb}
+use Rattle.std.proofs.lemmas.Bool.{cases_lt, cases_eq, eq-eqb, ne_eqb, false≢true}
 use Rattle.freshness_routes.specs.Changes.{bound_ahead}
 use Rattle.freshness_routes.specs.declared.routes.Direction.{Direction}
+use Rattle.freshness_routes.specs.declared.routes.Direction.TheVariants.{Receives}
 use Rattle.freshness_store.specs.Bound.{bound_cell}
 use Rattle.store_plan.specs.declared.planning.Plan.{Plan}
 use Rattle.store_plan.specs.Plans.{PlansPut, IsEmptyPlan, applied}
@@ -11,7 +12,7 @@ use Rattle.store_plan.proofs.CallerLemmas.{applied-cell, applied-others, applied
 use Rattle.rathonsi_c.specs.declared.route.RathonsiRoute.{RathonsiRoute}
 use Rattle.rathonsi_c.specs.Images.{ImageBound}
 use Rattle.rathonsi_c.specs.Routes.{InRanges, BoundCovers, at_counter, opened_at, Opens, RouteAdvances, Reserves}
-use Rattle.rathonsi_c.specs.Lives.{Memory, Deed, sends, accepts, takes, opens, sets, reserves, loads, drops, finishes, powers_up, SameRoute, OpensFilled, ChangesRoute, GivesOut, OpensRoute, SetsFields, PlansBound, PlansUpdate, DropsPlan, FinishesPlan, PowerBack, SameRoutes, DoesDeed, Lives, PoweredUp, given_out, RisesTo, CounterCovered}
+use Rattle.rathonsi_c.specs.Lives.{Memory, Deed, sends, accepts, takes, rejoins, opens, sets, reserves, loads, drops, finishes, powers_up, SameRoute, OpensFilled, ChangesRoute, GivesOut, RejoinsRoute, OpensRoute, SetsFields, PlansBound, PlansUpdate, DropsPlan, FinishesPlan, PowerBack, SameRoutes, DoesDeed, Lives, PoweredUp, given_out, rejoins_it, NeverRejoins, RisesTo, CounterCovered}
 use Rattle.rathonsi_c.proofs.ImageLaws.{bound_once, same_direction, one_direction, moved_bound, renewed_bound}
 
 -- what is planned: a higher bound of this route, or another cell
@@ -267,22 +268,31 @@ pub record Sound (n : ℕ) (a : Memory) : Type 0 where
   pub apart : (j k : ℕ) → j < n → k < n → j ≢ k → (a.routes j).cell ≢ (a.routes k).cell
   pub holds : (k : ℕ) → k < n → Holds a.image a.plan (a.routes k)
 
--- a deed keeps it, no counter falls, and no cell changes
-pub record Moves (n : ℕ) (a b : Memory) : Type 0 where
-  pub goes : (k : ℕ) → k < n → Goes b.image b.plan (a.routes k) (b.routes k)
+-- a deed keeps it, and no cell changes; no counter falls but that of a route that rejoins
+pub record Moves (n : ℕ) (deed : Deed) (a b : Memory) : Type 0 where
+  pub holds : (k : ℕ) → k < n → Holds b.image b.plan (b.routes k)
+  pub later : (k : ℕ) → k < n → rejoins_it k deed ≡ false → (a.routes k).counter ≤ (b.routes k).counter
   pub cells : (k : ℕ) → k < n → (b.routes k).cell ≡ (a.routes k).cell
 
-pub sound-then : (n : ℕ) (a b : Memory) → Sound n a → Moves n a b → Sound n b
-sound-then n a b s m = record {
+pub sound-then : (n : ℕ) (deed : Deed) (a b : Memory) → Sound n a → Moves n deed a b → Sound n b
+sound-then n deed a b s m = record {
   apart = λ j k x y ne e. s.apart j k x y ne (sym (m.cells j x) ∙ (e ∙ m.cells k y));
-  holds = λ k x. (m.goes k x).holds;
+  holds = m.holds;
 }
+
+-- no counter falls
+record Climbs (n : ℕ) (a b : Memory) : Type 0 where
+  goes : (k : ℕ) → k < n → Goes b.image b.plan (a.routes k) (b.routes k)
+  cells : (k : ℕ) → k < n → (b.routes k).cell ≡ (a.routes k).cell
+
+climbs : (n : ℕ) (deed : Deed) (a b : Memory) → Climbs n a b → Moves n deed a b
+climbs n deed a b c = record { holds = λ k x. (c.goes k x).holds; later = λ k x not. (c.goes k x).later; cells = c.cells }
 
 cell_same : (r s : RathonsiRoute) → s ≡ r → s.cell ≡ r.cell
 cell_same r s e = ap (λ (t : RathonsiRoute). t.cell) e
 
 -- a deed on route k alone
-one_route : (n k : ℕ) (a b : Memory) → Sound n a → ChangesRoute n k a b → Goes a.image a.plan (a.routes k) (b.routes k) → (b.routes k).cell ≡ (a.routes k).cell → Moves n a b
+one_route : (n k : ℕ) (a b : Memory) → Sound n a → ChangesRoute n k a b → Goes a.image a.plan (a.routes k) (b.routes k) → (b.routes k).cell ≡ (a.routes k).cell → Climbs n a b
 one_route n k a b s g goes cell = record {
   goes = λ j x. elim (cases_eq j k) [
     | inl here ↦ subst (λ i. Goes b.image b.plan (a.routes i) (b.routes i)) (sym here) (record {
@@ -297,7 +307,7 @@ one_route n k a b s g goes cell = record {
   ];
 }
 
-gives : (d : Direction) (n k freshness : ℕ) (a b : Memory) → Sound n a → GivesOut d n k freshness a b → Moves n a b
+gives : (d : Direction) (n k freshness : ℕ) (a b : Memory) → Sound n a → GivesOut d n k freshness a b → Climbs n a b
 gives d n k freshness a b s g = one_route n k a b s g.changes (record {
   holds = advanced d a.image a.plan (a.routes k) (b.routes k) freshness (s.holds k g.changes.which) g.advances;
   later = (let u = g.advances.above in let c : (b.routes k).counter ≡ freshness = ap (λ (t : RathonsiRoute). t.counter) g.advances.now in omega arith);
@@ -306,10 +316,10 @@ gives d n k freshness a b s g = one_route n k a b s g.changes (record {
 pub opened_cell : (r s : RathonsiRoute) (image : List ℕ) → OpensFilled r image s → s.cell ≡ r.cell
 opened_cell r s image o = ap (λ (t : RathonsiRoute). t.cell) o.is_opened.now ∙ o.same.cell
 
-opens_route : (n k : ℕ) (a b : Memory) → Sound n a → OpensRoute n k a b → Moves n a b
+opens_route : (n k : ℕ) (a b : Memory) → Sound n a → OpensRoute n k a b → Climbs n a b
 opens_route n k a b s o = one_route n k a b s o.changes (opened_anew a.image a.plan (a.routes k) (b.routes k) o.opened (s.holds k o.changes.which)) (opened_cell (a.routes k) (b.routes k) a.image o.opened)
 
-sets_fields : (n k : ℕ) (a b : Memory) → Sound n a → SetsFields n k a b → Moves n a b
+sets_fields : (n k : ℕ) (a b : Memory) → Sound n a → SetsFields n k a b → Climbs n a b
 sets_fields n k a b s p =
     let h = s.holds k p.changes.which in
     one_route n k a b s p.changes (record {
@@ -318,56 +328,78 @@ sets_fields n k a b s p =
     }) p.same.cell
 
 -- a deed that leaves image and routes, and plans
-plans_only : (n : ℕ) (a b : Memory) → b.image ≡ a.image → SameRoutes a b → ((k : ℕ) → k < n → Holds a.image b.plan (a.routes k)) → Moves n a b
+plans_only : (n : ℕ) (a b : Memory) → b.image ≡ a.image → SameRoutes a b → ((k : ℕ) → k < n → Holds a.image b.plan (a.routes k)) → Climbs n a b
 plans_only n a b image routes holds = record {
   goes = λ k x. goes-same a.image b.image b.plan b.plan (a.routes k) (b.routes k) image refl (routes k) (holds k x);
   cells = λ k x. cell_same (a.routes k) (b.routes k) (routes k);
 }
 
-plans_bound : (n k : ℕ) (a b : Memory) → Sound n a → PlansBound n k a b → Moves n a b
+plans_bound : (n k : ℕ) (a b : Memory) → Sound n a → PlansBound n k a b → Climbs n a b
 plans_bound n k a b s p = plans_only n a b p.image p.routes (λ j x. elim (cases_eq j k) [
   | inl here ↦ subst (λ i. Holds a.image b.plan (a.routes i)) (sym here) (reserved_here a.image a.plan b.plan (a.routes k) p.freshness (s.holds k p.which) p.reserved)
   | inr there ↦ reserved_there a.image a.plan b.plan (a.routes k) (a.routes j) p.freshness (s.apart k j p.which x (λ e. there (sym e))) p.reserved (s.holds j x)
 ])
 
-plans_update : (n slot : ℕ) (a b : Memory) → Sound n a → PlansUpdate slot a b → Moves n a b
+plans_update : (n slot : ℕ) (a b : Memory) → Sound n a → PlansUpdate slot a b → Climbs n a b
 plans_update n slot a b s p = plans_only n a b p.image p.routes (λ j x.
     let h = s.holds j x in
     let least = h.ranges.cell_least in
     planned_elsewhere a.image a.plan b.plan (a.routes j) p.loaded.update.id _ (λ e. let few = p.loaded.allowed.1.padded.is_update.id_fits in omega arith) p.loaded.plans h)
 
-drops_plan : (n : ℕ) (a b : Memory) → Sound n a → DropsPlan a b → Moves n a b
+drops_plan : (n : ℕ) (a b : Memory) → Sound n a → DropsPlan a b → Climbs n a b
 drops_plan n a b s p = plans_only n a b p.image p.routes (λ j x. planned_nothing a.image a.plan b.plan (a.routes j) p.empty (s.holds j x))
 
-finishes_plan : (n : ℕ) (a b : Memory) → Sound n a → FinishesPlan a b → Moves n a b
+finishes_plan : (n : ℕ) (a b : Memory) → Sound n a → FinishesPlan a b → Climbs n a b
 finishes_plan n a b s p = record {
   goes = λ j x. goes-same b.image b.image b.plan b.plan (a.routes j) (b.routes j) refl refl (p.routes j) (finished a.image b.image a.plan b.plan (a.routes j) p.done.image_is p.done.empty (s.holds j x));
   cells = λ j x. cell_same (a.routes j) (b.routes j) (p.routes j);
 }
 
-power_back : (n : ℕ) (a b : Memory) → Sound n a → PowerBack n a b → Moves n a b
+power_back : (n : ℕ) (a b : Memory) → Sound n a → PowerBack n a b → Climbs n a b
 power_back n a b s p = record {
   goes = λ j x. opened_anew b.image b.plan (a.routes j) (b.routes j) (p.opened j x) (cut_back a.image b.image a.plan b.plan (a.routes j) p.left p.empty (s.holds j x));
   cells = λ j x. opened_cell (a.routes j) (b.routes j) b.image (p.opened j x);
 }
 
-pub moves : (n : ℕ) (deed : Deed) (a b : Memory) → Sound n a → DoesDeed n deed a b → Moves n a b
-moves n (sends k freshness) a b s d = gives _ n k freshness a b s d
-moves n (accepts k freshness) a b s d = gives _ n k freshness a b s d
-moves n (takes k counter) a b s d = gives d.0 n k counter a b s d.1
-moves n (opens k) a b s d = opens_route n k a b s d
-moves n (sets k) a b s d = sets_fields n k a b s d
-moves n (reserves k) a b s d = plans_bound n k a b s d
-moves n (loads slot) a b s d = plans_update n slot a b s d
-moves n drops a b s d = drops_plan n a b s d
-moves n finishes a b s d = finishes_plan n a b s d
-moves n powers_up a b s d = power_back n a b s d
+-- a route rejoins
+rejoins_route : (n k counter : ℕ) (a b : Memory) → Sound n a → RejoinsRoute n k counter a b → Moves n (rejoins k counter) a b
+rejoins_route n k counter a b s d = record {
+  holds = λ j x. elim (cases_eq j k) [
+    | inl here ↦ subst (λ i. Holds b.image b.plan (b.routes i)) (sym here)
+        (holds-same a.image b.image a.plan b.plan (b.routes k) (b.routes k) d.changes.image d.changes.plan refl
+        (counted_to Receives a.image a.plan (a.routes k) (b.routes k) counter (s.holds k d.changes.which) d.rejoined.ranges d.rejoined.covered d.rejoined.now))
+    | inr there ↦ holds-same a.image b.image a.plan b.plan (a.routes j) (b.routes j) d.changes.image d.changes.plan (d.changes.others j there) (s.holds j x)
+  ];
+  later = λ j x not. elim (cases_eq k j) [
+    | inl here ↦ absurd (false≢true (sym not ∙ eq-eqb k j here))
+    | inr there ↦
+        let same : (b.routes j).counter ≡ (a.routes j).counter = ap (λ (t : RathonsiRoute). t.counter) (d.changes.others j (λ e. there (sym e))) in
+        omega arith
+  ];
+  cells = λ j x. elim (cases_eq j k) [
+    | inl here ↦ subst (λ i. (b.routes i).cell ≡ (a.routes i).cell) (sym here) (ap (λ (t : RathonsiRoute). t.cell) d.rejoined.now)
+    | inr there ↦ cell_same (a.routes j) (b.routes j) (d.changes.others j there)
+  ];
+}
+
+pub moves : (n : ℕ) (deed : Deed) (a b : Memory) → Sound n a → DoesDeed n deed a b → Moves n deed a b
+moves n (sends k freshness) a b s d = climbs n (sends k freshness) a b (gives _ n k freshness a b s d)
+moves n (accepts k freshness) a b s d = climbs n (accepts k freshness) a b (gives _ n k freshness a b s d)
+moves n (takes k counter) a b s d = climbs n (takes k counter) a b (gives d.0 n k counter a b s d.1)
+moves n (rejoins k counter) a b s d = rejoins_route n k counter a b s d
+moves n (opens k) a b s d = climbs n (opens k) a b (opens_route n k a b s d)
+moves n (sets k) a b s d = climbs n (sets k) a b (sets_fields n k a b s d)
+moves n (reserves k) a b s d = climbs n (reserves k) a b (plans_bound n k a b s d)
+moves n (loads slot) a b s d = climbs n (loads slot) a b (plans_update n slot a b s d)
+moves n drops a b s d = climbs n drops a b (drops_plan n a b s d)
+moves n finishes a b s d = climbs n finishes a b (finishes_plan n a b s d)
+moves n powers_up a b s d = climbs n powers_up a b (power_back n a b s d)
 
 -- ---- over all deeds
 
 pub lives-sound : (n : ℕ) (deeds : List Deed) (a c : Memory) → Sound n a → Lives n deeds a c → Sound n c
 lives-sound n [] a c s lives = subst (λ (m : Memory). Sound n m) (sym lives) s
-lives-sound n (deed ∷ deeds) a c s (b, (d, rest)) = lives-sound n deeds b c (sound-then n a b s (moves n deed a b s d)) rest
+lives-sound n (deed ∷ deeds) a c s (b, (d, rest)) = lives-sound n deeds b c (sound-then n deed a b s (moves n deed a b s d)) rest
 
 -- a number that is lower will do
 pub rises_from : (low high end : ℕ) (xs : List ℕ) → low ≤ high → RisesTo high xs end → RisesTo low xs end
@@ -390,28 +422,37 @@ given_rises n j k freshness end d deeds a b x s g rest = elim (cases_eq j k) [
       (rises_from _ _ end (given_out k deeds) ((gives d n j freshness a b s g).goes k x).later rest)
 ]
 
-pub rises : (n k : ℕ) (deeds : List Deed) (a c : Memory) → k < n → Sound n a → Lives n deeds a c → RisesTo (a.routes k).counter (given_out k deeds) (c.routes k).counter
-rises n k [] a c x s lives = (let e : (c.routes k).counter ≡ (a.routes k).counter = ap (λ (m : Memory). (m.routes k).counter) lives in omega arith)
-rises n k (sends j freshness ∷ deeds) a c x s (b, (d, rest)) =
-    given_rises n j k freshness (c.routes k).counter _ deeds a b x s d (rises n k deeds b c x (sound-then n a b s (moves n (sends j freshness) a b s d)) rest)
-rises n k (accepts j freshness ∷ deeds) a c x s (b, (d, rest)) =
-    given_rises n j k freshness (c.routes k).counter _ deeds a b x s d (rises n k deeds b c x (sound-then n a b s (moves n (accepts j freshness) a b s d)) rest)
-rises n k (takes j counter ∷ deeds) a c x s (b, (d, rest)) =
-    let m = moves n (takes j counter) a b s d in rises_from _ _ _ (given_out k deeds) (m.goes k x).later (rises n k deeds b c x (sound-then n a b s m) rest)
-rises n k (opens j ∷ deeds) a c x s (b, (d, rest)) =
-    let m = moves n (opens j) a b s d in rises_from _ _ _ (given_out k deeds) (m.goes k x).later (rises n k deeds b c x (sound-then n a b s m) rest)
-rises n k (sets j ∷ deeds) a c x s (b, (d, rest)) =
-    let m = moves n (sets j) a b s d in rises_from _ _ _ (given_out k deeds) (m.goes k x).later (rises n k deeds b c x (sound-then n a b s m) rest)
-rises n k (reserves j ∷ deeds) a c x s (b, (d, rest)) =
-    let m = moves n (reserves j) a b s d in rises_from _ _ _ (given_out k deeds) (m.goes k x).later (rises n k deeds b c x (sound-then n a b s m) rest)
-rises n k (loads slot ∷ deeds) a c x s (b, (d, rest)) =
-    let m = moves n (loads slot) a b s d in rises_from _ _ _ (given_out k deeds) (m.goes k x).later (rises n k deeds b c x (sound-then n a b s m) rest)
-rises n k (drops ∷ deeds) a c x s (b, (d, rest)) =
-    let m = moves n drops a b s d in rises_from _ _ _ (given_out k deeds) (m.goes k x).later (rises n k deeds b c x (sound-then n a b s m) rest)
-rises n k (finishes ∷ deeds) a c x s (b, (d, rest)) =
-    let m = moves n finishes a b s d in rises_from _ _ _ (given_out k deeds) (m.goes k x).later (rises n k deeds b c x (sound-then n a b s m) rest)
-rises n k (powers_up ∷ deeds) a c x s (b, (d, rest)) =
-    let m = moves n powers_up a b s d in rises_from _ _ _ (given_out k deeds) (m.goes k x).later (rises n k deeds b c x (sound-then n a b s m) rest)
+-- no other deed lets its counter fall
+kept_on : (n k : ℕ) (deed : Deed) (deeds : List Deed) (a b : Memory) (end : ℕ) → k < n → rejoins_it k deed ≡ false → Sound n a → DoesDeed n deed a b → RisesTo (b.routes k).counter (given_out k deeds) end → RisesTo (a.routes k).counter (given_out k deeds) end
+kept_on n k deed deeds a b end x not s d rest = rises_from (a.routes k).counter (b.routes k).counter end (given_out k deeds) ((moves n deed a b s d).later k x not) rest
+
+pub sound_on : (n : ℕ) (deed : Deed) (a b : Memory) → Sound n a → DoesDeed n deed a b → Sound n b
+sound_on n deed a b s d = sound-then n deed a b s (moves n deed a b s d)
+
+pub rises : (n k : ℕ) (deeds : List Deed) (a c : Memory) → k < n → NeverRejoins k deeds → Sound n a → Lives n deeds a c → RisesTo (a.routes k).counter (given_out k deeds) (c.routes k).counter
+rises n k [] a c x never s lives = (let e : (c.routes k).counter ≡ (a.routes k).counter = ap (λ (m : Memory). (m.routes k).counter) lives in omega arith)
+rises n k (sends j freshness ∷ deeds) a c x never s (b, (d, rest)) =
+    given_rises n j k freshness (c.routes k).counter _ deeds a b x s d (rises n k deeds b c x never.1 (sound_on n (sends j freshness) a b s d) rest)
+rises n k (accepts j freshness ∷ deeds) a c x never s (b, (d, rest)) =
+    given_rises n j k freshness (c.routes k).counter _ deeds a b x s d (rises n k deeds b c x never.1 (sound_on n (accepts j freshness) a b s d) rest)
+rises n k (takes j counter ∷ deeds) a c x never s (b, (d, rest)) =
+    kept_on n k (takes j counter) deeds a b (c.routes k).counter x never.0 s d (rises n k deeds b c x never.1 (sound_on n (takes j counter) a b s d) rest)
+rises n k (rejoins j counter ∷ deeds) a c x never s (b, (d, rest)) =
+    kept_on n k (rejoins j counter) deeds a b (c.routes k).counter x never.0 s d (rises n k deeds b c x never.1 (sound_on n (rejoins j counter) a b s d) rest)
+rises n k (opens j ∷ deeds) a c x never s (b, (d, rest)) =
+    kept_on n k (opens j) deeds a b (c.routes k).counter x never.0 s d (rises n k deeds b c x never.1 (sound_on n (opens j) a b s d) rest)
+rises n k (sets j ∷ deeds) a c x never s (b, (d, rest)) =
+    kept_on n k (sets j) deeds a b (c.routes k).counter x never.0 s d (rises n k deeds b c x never.1 (sound_on n (sets j) a b s d) rest)
+rises n k (reserves j ∷ deeds) a c x never s (b, (d, rest)) =
+    kept_on n k (reserves j) deeds a b (c.routes k).counter x never.0 s d (rises n k deeds b c x never.1 (sound_on n (reserves j) a b s d) rest)
+rises n k (loads slot ∷ deeds) a c x never s (b, (d, rest)) =
+    kept_on n k (loads slot) deeds a b (c.routes k).counter x never.0 s d (rises n k deeds b c x never.1 (sound_on n (loads slot) a b s d) rest)
+rises n k (drops ∷ deeds) a c x never s (b, (d, rest)) =
+    kept_on n k drops deeds a b (c.routes k).counter x never.0 s d (rises n k deeds b c x never.1 (sound_on n drops a b s d) rest)
+rises n k (finishes ∷ deeds) a c x never s (b, (d, rest)) =
+    kept_on n k finishes deeds a b (c.routes k).counter x never.0 s d (rises n k deeds b c x never.1 (sound_on n finishes a b s d) rest)
+rises n k (powers_up ∷ deeds) a c x never s (b, (d, rest)) =
+    kept_on n k powers_up deeds a b (c.routes k).counter x never.0 s d (rises n k deeds b c x never.1 (sound_on n powers_up a b s d) rest)
 
 -- a route that was opened for the first time, if nothing is planned
 pub holds_opened : (image : List ℕ) (plan : Plan) (f r : RathonsiRoute) → IsEmptyPlan plan → Opens f image r → Holds image plan r
@@ -432,8 +473,8 @@ first_sound n a p = record {
   holds = λ k x. let o = p.opened k x in holds_opened a.image a.plan o.0 (a.routes k) p.empty o.1;
 }
 
-pub rises_over_lives : (n : ℕ) (deeds : List Deed) (a c : Memory) → PoweredUp n a → Lives n deeds a c → (k : ℕ) → k < n → RisesTo (a.routes k).counter (given_out k deeds) (c.routes k).counter
-rises_over_lives n deeds a c p lives k x = rises n k deeds a c x (first_sound n a p) lives
+pub rises_over_lives : (n : ℕ) (deeds : List Deed) (a c : Memory) → PoweredUp n a → Lives n deeds a c → (k : ℕ) → k < n → NeverRejoins k deeds → RisesTo (a.routes k).counter (given_out k deeds) (c.routes k).counter
+rises_over_lives n deeds a c p lives k x never = rises n k deeds a c x never (first_sound n a p) lives
 
 pub covered_over_lives : (n : ℕ) (deeds : List Deed) (a c : Memory) → PoweredUp n a → Lives n deeds a c → (k : ℕ) → k < n → (y : List ℕ) → LeavesPut c.plan c.image y → CounterCovered (c.routes k) y
 covered_over_lives n deeds a c p lives k x y cut =

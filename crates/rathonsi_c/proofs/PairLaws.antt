@@ -1,17 +1,16 @@
 -- A sender and its receiver over all their lives: what is accepted rises, though the receiver rejoins.
-use Rattle.std.proofs.Common.{◌≡◌, ℕ, ◌<◌, ◌≤◌, inl, inr, false, ◌==◌, if◌then◌else◌, List, [], ◌∷◌, ◌++◌, Contains, refl, sym, ap, subst, ◌∙◌, arith}
-use Rattle.std.proofs.lemmas.Bool.{cases_Bool, cases_eq, eq-eqb, ne_eqb, false≢true}
+use Rattle.std.proofs.Common.{◌≡◌, ℕ, ◌<◌, ◌≤◌, inl, inr, true, false, ◌==◌, if◌then◌else◌, List, [], ◌∷◌, ◌++◌, Contains, refl, sym, ap, subst, ◌∙◌, arith}
+use Rattle.std.proofs.lemmas.Bool.{cases_Bool, cases_eq, eq-eqb, ne_eqb, eqb-true, false≢true}
 use Rattle.std.proofs.lemmas.List.Elements.{Contains-append_right, Contains-append_cases, Contains-push_cases}
 use Rattle.rathonsi_c.specs.declared.opened.TheConstants.{FRESH, MOVED}
 use Rattle.rathonsi_c.specs.declared.route.RathonsiRoute.{RathonsiRoute}
 use Rattle.rathonsi_c.specs.declared.sync.RathonsiQuestion.{RathonsiQuestion}
 use Rattle.rathonsi_c.specs.Routes.{IsOpened, at_counter}
-use Rattle.rathonsi_c.specs.Lives.{Memory, Deed, sends, accepts, takes, opens, sets, reserves, loads, drops, finishes, powers_up}
-use Rattle.rathonsi_c.specs.Lives.{DoesDeed, ChangesRoute, PoweredUp, RisesTo, given_out}
-use Rattle.rathonsi_c.specs.Pairs.{Pair, PairDeed, of_sender, of_receiver, answers, rejoins, DoesPair, PairLives, RejoinsAt, StaysOpen}
-use Rattle.rathonsi_c.specs.Pairs.{Seen, IsGenuine, AllGenuine, nothing_seen, seen_next, accepted_of_route, opens_it}
-use Rattle.freshness_routes.specs.declared.routes.Direction.TheVariants.{Receives}
-use Rattle.rathonsi_c.proofs.LivesLaws.{Holds, Sound, first_sound, sound-then, moves, rises, rises_from, counted_to, holds-same}
+use Rattle.rathonsi_c.specs.Lives.{Memory, Deed, sends, accepts, takes, rejoins, opens, sets, reserves, loads, drops, finishes, powers_up}
+use Rattle.rathonsi_c.specs.Lives.{DoesDeed, ChangesRoute, PoweredUp, RisesTo, given_out, rejoins_it}
+use Rattle.rathonsi_c.specs.Pairs.{Pair, PairDeed, of_sender, of_receiver, answers, DoesPair, PairLives, StaysOpen}
+use Rattle.rathonsi_c.specs.Pairs.{Seen, IsHonest, AllGenuine, nothing_seen, seen_next, accepted_of_route, opens_it}
+use Rattle.rathonsi_c.proofs.LivesLaws.{Sound, first_sound, sound_on, moves, rises, rises_from}
 
 -- ---- lists that rise
 
@@ -88,6 +87,8 @@ still_fresh n r (accepts k freshness) a b d e fresh =
     let g = gave_elsewhere n k r freshness a b d.changes d.advances.now fresh in record { fresh = g.0; none = none_given k r freshness g.1 }
 still_fresh n r (takes k counter) a b d e fresh =
     let g = gave_elsewhere n k r counter a b d.1.changes d.1.advances.now fresh in record { fresh = g.0; none = refl }
+still_fresh n r (rejoins k counter) a b d e fresh =
+    let g = gave_elsewhere n k r counter a b d.changes d.rejoined.now fresh in record { fresh = g.0; none = refl }
 still_fresh n r (opens k) a b d e fresh = record {
   fresh = fresh_same (a.routes r) (b.routes r) (d.changes.others r (λ same. false≢true (sym e ∙ eq-eqb k r (sym same)))) fresh;
   none = refl;
@@ -107,34 +108,29 @@ still_fresh n r powers_up a b d e fresh = absurd (false≢true (sym e))
 
 -- ---- one deed
 
--- what a deed does to the counter of a route, and gives out by it
-after_deed : (n r : ℕ) (deed : Deed) (a b : Memory) → r < n → Sound n a → DoesDeed n deed a b → RisesTo (a.routes r).counter (given_out r (deed ∷ [])) (b.routes r).counter
-after_deed n r deed a b x s d = rises n r (deed ∷ []) a b x s (b, (d, refl))
+-- what a deed does to the counter of a route that doesn't rejoin by it, and gives out by it
+after_deed : (n r : ℕ) (deed : Deed) (a b : Memory) → r < n → rejoins_it r deed ≡ false → Sound n a → DoesDeed n deed a b → RisesTo (a.routes r).counter (given_out r (deed ∷ [])) (b.routes r).counter
+after_deed n r deed a b x not s d = rises n r (deed ∷ []) a b x (not, tt) s (b, (d, refl))
 
-not_lower : (n r : ℕ) (deed : Deed) (a b : Memory) → r < n → Sound n a → DoesDeed n deed a b → (a.routes r).counter ≤ (b.routes r).counter
-not_lower n r deed a b x s d = ((moves n deed a b s d).goes r x).later
+not_lower : (n r : ℕ) (deed : Deed) (a b : Memory) → r < n → rejoins_it r deed ≡ false → Sound n a → DoesDeed n deed a b → (a.routes r).counter ≤ (b.routes r).counter
+not_lower n r deed a b x not s d = (moves n deed a b s d).later r x not
 
-sound_next : (n : ℕ) (deed : Deed) (a b : Memory) → Sound n a → DoesDeed n deed a b → Sound n b
-sound_next n deed a b s d = sound-then n a b s (moves n deed a b s d)
+-- the deed is a rejoin of this route, which tells this counter
+of_route : (k r told : ℕ) → (k == r) ≡ true → rejoins k told ≡ rejoins r told
+of_route k r told e = ap (λ i. rejoins i told) (eqb-true k r e)
 
--- all routes are as they were, but one that rejoined
-sound_rejoined : (m n s r told : ℕ) (a b : Pair) → Sound n a.receiver → RejoinsAt n r told a b → Sound n b.receiver
-sound_rejoined m n s r told a b sound j =
-    let changes = j.changes in
-    let now : b.receiver.routes r ≡ at_counter (a.receiver.routes r) told = j.rejoined.now in
-    let cell : (k : ℕ) → (b.receiver.routes k).cell ≡ (a.receiver.routes k).cell = λ k. elim (cases_eq k r) [
-      | inl here ↦ subst (λ i. (b.receiver.routes i).cell ≡ (a.receiver.routes i).cell) (sym here) (ap (λ (t : RathonsiRoute). t.cell) now)
-      | inr there ↦ ap (λ (t : RathonsiRoute). t.cell) (changes.others k there)
-    ] in
-    record {
-      apart = λ i k x y ne e. sound.apart i k x y ne (sym (cell i) ∙ (e ∙ cell k));
-      holds = λ k x. elim (cases_eq k r) [
-        | inl here ↦ subst (λ i. Holds b.receiver.image b.receiver.plan (b.receiver.routes i)) (sym here)
-            (holds-same a.receiver.image b.receiver.image a.receiver.plan b.receiver.plan (b.receiver.routes r) (b.receiver.routes r) changes.image changes.plan refl
-            (counted_to Receives a.receiver.image a.receiver.plan (a.receiver.routes r) (b.receiver.routes r) told (sound.holds r changes.which) j.rejoined.ranges j.rejoined.covered now))
-        | inr there ↦ holds-same a.receiver.image b.receiver.image a.receiver.plan b.receiver.plan (a.receiver.routes k) (b.receiver.routes k) changes.image changes.plan (changes.others k there) (sound.holds k x)
-      ];
-    }
+rejoin_told : (r : ℕ) (deed : Deed) → rejoins_it r deed ≡ true → (told : ℕ) × (deed ≡ rejoins r told)
+rejoin_told r (sends k freshness) is = absurd (false≢true is)
+rejoin_told r (accepts k freshness) is = absurd (false≢true is)
+rejoin_told r (takes k counter) is = absurd (false≢true is)
+rejoin_told r (rejoins k counter) is = (counter, of_route k r counter is)
+rejoin_told r (opens k) is = absurd (false≢true is)
+rejoin_told r (sets k) is = absurd (false≢true is)
+rejoin_told r (reserves k) is = absurd (false≢true is)
+rejoin_told r (loads slot) is = absurd (false≢true is)
+rejoin_told r drops is = absurd (false≢true is)
+rejoin_told r finishes is = absurd (false≢true is)
+rejoin_told r powers_up is = absurd (false≢true is)
 
 -- ---- all lives
 
@@ -148,14 +144,15 @@ record Holding (m n s r : ℕ) (seen : Seen) (low : ℕ) (a : Pair) : Type 0 whe
   floor : low ≤ (a.receiver.routes r).counter
   answered : IsFresh (a.receiver.routes r) → (q : RathonsiQuestion) (told : ℕ) → Contains seen.answered (q, told) → low ≤ told
 
-sender_goes_on : (m n s r : ℕ) (seen : Seen) (low : ℕ) (deed : Deed) (a b : Pair) → s < m → Holding m n s r seen low a → DoesPair m n s r (of_sender deed) a b → Holding m n s r (seen_next s r (of_sender deed) seen) low b
-sender_goes_on m n s r seen low deed a b x h d =
-    let up = not_lower m s deed a.sender b.sender x h.sender d.0 in
+sender_goes_on : (m n s r : ℕ) (seen : Seen) (low : ℕ) (deed : Deed) (a b : Pair) → s < m → rejoins_it s deed ≡ false → Holding m n s r seen low a → DoesPair m n s (of_sender deed) a b
+    → Holding m n s r (seen_next s r (of_sender deed) seen) low b
+sender_goes_on m n s r seen low deed a b x not h d =
+    let up = not_lower m s deed a.sender b.sender x not h.sender d.0 in
     record {
-      sender = sound_next m deed a.sender b.sender h.sender d.0;
+      sender = sound_on m deed a.sender b.sender h.sender d.0;
       receiver = subst (λ (y : Memory). Sound n y) (sym d.1) h.receiver;
       sent = λ y at. elim (Contains-append_cases (given_out s (deed ∷ [])) seen.sent y at) [
-        | inl now ↦ members_below (a.sender.routes s).counter (b.sender.routes s).counter (given_out s (deed ∷ [])) (after_deed m s deed a.sender b.sender x h.sender d.0) y now
+        | inl now ↦ members_below (a.sender.routes s).counter (b.sender.routes s).counter (given_out s (deed ∷ [])) (after_deed m s deed a.sender b.sender x not h.sender d.0) y now
         | inr before ↦ (let l = h.sent y before in omega arith)
       ];
       low_sent = (let l = h.low_sent in omega arith);
@@ -163,29 +160,37 @@ sender_goes_on m n s r seen low deed a b x h d =
       answered = λ fresh q told at. h.answered (subst (λ (y : Memory). IsFresh (y.routes r)) d.1 fresh) q told at;
     }
 
-receiver_goes_on : (m n s r : ℕ) (seen : Seen) (low : ℕ) (deed : Deed) (a b : Pair) → r < n → Holding m n s r seen low a → DoesPair m n s r (of_receiver deed) a b → IsGenuine r (of_receiver deed) seen
-    → Holding m n s r (seen_next s r (of_receiver deed) seen) (last_or low (given_out r (deed ∷ []))) b
-receiver_goes_on m n s r seen low deed a b x h d genuine =
-    let given = given_out r (deed ∷ []) in
-    let rise = rises_from low (a.receiver.routes r).counter (b.receiver.routes r).counter (given_out r (deed ∷ [])) h.floor (after_deed n r deed a.receiver b.receiver x h.receiver d.0) in
+-- what the receiver accepted by a deed rises, and what holds goes on from there
+record Accepting (m n s r : ℕ) (seen : Seen) (low : ℕ) (deed : Deed) (b : Pair) : Type 0 where
+  top : ℕ
+  rise : RisesTo low (given_out r (deed ∷ [])) top
+  holding : Holding m n s r (seen_next s r (of_receiver deed) seen) (last_or low (given_out r (deed ∷ []))) b
+
+receiver_goes_on : (m n s r : ℕ) (seen : Seen) (low : ℕ) (deed : Deed) (a b : Pair) → r < n → rejoins_it r deed ≡ false → Holding m n s r seen low a → DoesPair m n s (of_receiver deed) a b → IsHonest r deed seen → Accepting m n s r seen low deed b
+receiver_goes_on m n s r seen low deed a b x not h d genuine =
+    let rise = rises_from low (a.receiver.routes r).counter (b.receiver.routes r).counter (given_out r (deed ∷ [])) h.floor (after_deed n r deed a.receiver b.receiver x not h.receiver d.0) in
     record {
-      sender = subst (λ (y : Memory). Sound m y) (sym d.1) h.sender;
-      receiver = sound_next n deed a.receiver b.receiver h.receiver d.0;
-      sent = λ y at. subst (λ (z : Memory). y ≤ (z.routes s).counter) (sym d.1) (h.sent y at);
-      low_sent = subst (λ (z : Memory). last_or low (given_out r (deed ∷ [])) ≤ (z.routes s).counter) (sym d.1)
-          (last_most low (a.sender.routes s).counter (given_out r (deed ∷ [])) h.low_sent (λ y at. h.sent y (genuine y at)));
-      floor = last_below low (b.receiver.routes r).counter (given_out r (deed ∷ [])) rise;
-      answered = λ fresh q told at. elim (cases_Bool (opens_it r deed)) [
-        | inl opened ↦ absurd (let none = subst (λ t. Contains (if t then [] else seen.answered) (q, told)) opened at in let lt = none.1 in omega arith)
-        | inr stays ↦
-            let was = still_fresh n r deed a.receiver b.receiver d.0 stays fresh in
-            let same : last_or low (given_out r (deed ∷ [])) ≡ low = ap (last_or low) was.none in
-            let l = h.answered was.fresh q told (subst (λ t. Contains (if t then [] else seen.answered) (q, told)) stays at) in
-            omega arith
-      ];
+      top = (b.receiver.routes r).counter;
+      rise = rise;
+      holding = record {
+        sender = subst (λ (y : Memory). Sound m y) (sym d.1) h.sender;
+        receiver = sound_on n deed a.receiver b.receiver h.receiver d.0;
+        sent = λ y at. subst (λ (z : Memory). y ≤ (z.routes s).counter) (sym d.1) (h.sent y at);
+        low_sent = subst (λ (z : Memory). last_or low (given_out r (deed ∷ [])) ≤ (z.routes s).counter) (sym d.1)
+            (last_most low (a.sender.routes s).counter (given_out r (deed ∷ [])) h.low_sent (λ y at. h.sent y (genuine.sent y at)));
+        floor = last_below low (b.receiver.routes r).counter (given_out r (deed ∷ [])) rise;
+        answered = λ fresh q told at. elim (cases_Bool (opens_it r deed)) [
+          | inl opened ↦ absurd (let none = subst (λ t. Contains (if t then [] else seen.answered) (q, told)) opened at in let lt = none.1 in omega arith)
+          | inr stays ↦
+              let was = still_fresh n r deed a.receiver b.receiver d.0 stays fresh in
+              let same : last_or low (given_out r (deed ∷ [])) ≡ low = ap (last_or low) was.none in
+              let l = h.answered was.fresh q told (subst (λ t. Contains (if t then [] else seen.answered) (q, told)) stays at) in
+              omega arith
+        ];
+      };
     }
 
-answer_goes_on : (m n s r : ℕ) (seen : Seen) (low : ℕ) (q : RathonsiQuestion) (told : ℕ) (a b : Pair) → Holding m n s r seen low a → DoesPair m n s r (answers q told) a b → Holding m n s r (seen_next s r (answers q told) seen) low b
+answer_goes_on : (m n s r : ℕ) (seen : Seen) (low : ℕ) (q : RathonsiQuestion) (told : ℕ) (a b : Pair) → Holding m n s r seen low a → DoesPair m n s (answers q told) a b → Holding m n s r (seen_next s r (answers q told) seen) low b
 answer_goes_on m n s r seen low q told a b h d = subst (λ (y : Pair). Holding m n s r (seen_next s r (answers q told) seen) low y) (sym d.same) (record {
   sender = h.sender;
   receiver = h.receiver;
@@ -201,37 +206,50 @@ answer_goes_on m n s r seen low q told a b h d = subst (λ (y : Pair). Holding m
   ];
 })
 
-rejoin_goes_on : (m n s r : ℕ) (seen : Seen) (low : ℕ) (q : RathonsiQuestion) (told : ℕ) (a b : Pair) → Holding m n s r seen low a → DoesPair m n s r (rejoins q told) a b → IsGenuine r (rejoins q told) seen
-    → Holding m n s r seen low b
-rejoin_goes_on m n s r seen low q told a b h d genuine =
-    let counter : (b.receiver.routes r).counter ≡ told = ap (λ (t : RathonsiRoute). t.counter) d.rejoined.now in
+-- the receiver rejoins by an answer that was made since the route was opened
+rejoin_goes_on : (m n s r : ℕ) (seen : Seen) (low told : ℕ) (a b : Pair) → r < n → Holding m n s r seen low a → DoesPair m n s (of_receiver (rejoins r told)) a b → IsHonest r (rejoins r told) seen → Accepting m n s r seen low (rejoins r told) b
+rejoin_goes_on m n s r seen low told a b x h d genuine =
+    let counter : (b.receiver.routes r).counter ≡ told = ap (λ (t : RathonsiRoute). t.counter) d.0.rejoined.now in
     record {
-      sender = subst (λ (y : Memory). Sound m y) (sym d.sender) h.sender;
-      receiver = sound_rejoined m n s r told a b h.receiver d;
-      sent = λ y at. subst (λ (z : Memory). y ≤ (z.routes s).counter) (sym d.sender) (h.sent y at);
-      low_sent = subst (λ (z : Memory). low ≤ (z.routes s).counter) (sym d.sender) h.low_sent;
-      floor = elim d.rejoined.may [
-        | inl above ↦ (let l = h.floor in omega arith)
-        | inr fresh ↦ (let l = h.answered (record { opened = d.rejoined.opened; mark = fresh }) q told genuine in omega arith)
-      ];
-      answered = λ fresh. absurd (moved_not_fresh (a.receiver.routes r) (b.receiver.routes r) told d.rejoined.now fresh);
+      top = low;
+      rise = omega arith;
+      holding = record {
+        sender = subst (λ (y : Memory). Sound m y) (sym d.1) h.sender;
+        receiver = sound_on n (rejoins r told) a.receiver b.receiver h.receiver d.0;
+        sent = λ y at. subst (λ (z : Memory). y ≤ (z.routes s).counter) (sym d.1) (h.sent y at);
+        low_sent = subst (λ (z : Memory). low ≤ (z.routes s).counter) (sym d.1) h.low_sent;
+        floor = elim d.0.rejoined.may [
+          | inl above ↦ (let l = h.floor in omega arith)
+          | inr fresh ↦
+              let by = genuine.answered told refl in
+              let l = h.answered (record { opened = d.0.rejoined.opened; mark = fresh }) by.0 told by.1 in
+              omega arith
+        ];
+        answered = λ fresh. absurd (moved_not_fresh (a.receiver.routes r) (b.receiver.routes r) told d.0.rejoined.now fresh);
+      };
     }
 
-rises_on : (m n s r : ℕ) (deeds : List PairDeed) (seen : Seen) (low : ℕ) (a c : Pair) → s < m → r < n → Holding m n s r seen low a → PairLives m n s r deeds a c → AllGenuine s r seen deeds
+accepting : (m n s r : ℕ) (seen : Seen) (low : ℕ) (deed : Deed) (a b : Pair) → r < n → Holding m n s r seen low a → DoesPair m n s (of_receiver deed) a b → IsHonest r deed seen → Accepting m n s r seen low deed b
+accepting m n s r seen low deed a b x h d genuine = elim (cases_Bool (rejoins_it r deed)) [
+  | inl is ↦
+      let by = rejoin_told r deed is in
+      subst (λ (q : Deed). DoesPair m n s (of_receiver q) a b → IsHonest r q seen → Accepting m n s r seen low q b) (sym by.1) (rejoin_goes_on m n s r seen low by.0 a b x h) d genuine
+  | inr not ↦ receiver_goes_on m n s r seen low deed a b x not h d genuine
+]
+
+rises_on : (m n s r : ℕ) (deeds : List PairDeed) (seen : Seen) (low : ℕ) (a c : Pair) → s < m → r < n → Holding m n s r seen low a → PairLives m n s deeds a c → AllGenuine s r seen deeds
     → RisesTo low (accepted_of_route r deeds) (c.sender.routes s).counter
 rises_on m n s r [] seen low a c x y h lives genuine = subst (λ (z : Pair). low ≤ (z.sender.routes s).counter) (sym lives) h.low_sent
 rises_on m n s r (of_sender deed ∷ deeds) seen low a c x y h (b, (d, rest)) genuine =
-    rises_on m n s r deeds (seen_next s r (of_sender deed) seen) low b c x y (sender_goes_on m n s r seen low deed a b x h d) rest genuine.1
+    rises_on m n s r deeds (seen_next s r (of_sender deed) seen) low b c x y (sender_goes_on m n s r seen low deed a b x genuine.0 h d) rest genuine.1
 rises_on m n s r (of_receiver deed ∷ deeds) seen low a c x y h (b, (d, rest)) genuine =
-    let rise = rises_from low (a.receiver.routes r).counter (b.receiver.routes r).counter (given_out r (deed ∷ [])) h.floor (after_deed n r deed a.receiver b.receiver y h.receiver d.0) in
-    rises_join low (b.receiver.routes r).counter (c.sender.routes s).counter (given_out r (deed ∷ [])) (accepted_of_route r deeds) rise
-    (rises_on m n s r deeds (seen_next s r (of_receiver deed) seen) (last_or low (given_out r (deed ∷ []))) b c x y (receiver_goes_on m n s r seen low deed a b y h d genuine.0) rest genuine.1)
+    let more = accepting m n s r seen low deed a b y h d genuine.0 in
+    rises_join low more.top (c.sender.routes s).counter (given_out r (deed ∷ [])) (accepted_of_route r deeds) more.rise
+    (rises_on m n s r deeds (seen_next s r (of_receiver deed) seen) (last_or low (given_out r (deed ∷ []))) b c x y more.holding rest genuine.1)
 rises_on m n s r (answers q told ∷ deeds) seen low a c x y h (b, (d, rest)) genuine =
     rises_on m n s r deeds (seen_next s r (answers q told) seen) low b c x y (answer_goes_on m n s r seen low q told a b h d) rest genuine.1
-rises_on m n s r (rejoins q told ∷ deeds) seen low a c x y h (b, (d, rest)) genuine =
-    rises_on m n s r deeds seen low b c x y (rejoin_goes_on m n s r seen low q told a b h d genuine.0) rest genuine.1
 
-pub rises_over_pairs : (m n s r : ℕ) (deeds : List PairDeed) (first last : Pair) → PoweredUp m first.sender → PoweredUp n first.receiver → s < m → r < n → PairLives m n s r deeds first last
+pub rises_over_pairs : (m n s r : ℕ) (deeds : List PairDeed) (first last : Pair) → PoweredUp m first.sender → PoweredUp n first.receiver → s < m → r < n → PairLives m n s deeds first last
     → AllGenuine s r nothing_seen deeds → RisesTo 0 (accepted_of_route r deeds) (last.sender.routes s).counter
 rises_over_pairs m n s r deeds first last powered up x y lives genuine = rises_on m n s r deeds nothing_seen 0 first last x y (record {
   sender = first_sound m first.sender powered;
@@ -250,43 +268,68 @@ record Staying (n r low : ℕ) (a : Memory) : Type 0 where
   floor : low ≤ (a.routes r).counter
   none : IsFresh (a.routes r) → low ≡ 0
 
-stays_on : (m n s r low : ℕ) (deeds : List PairDeed) (a c : Pair) → r < n → Staying n r low a.receiver → PairLives m n s r deeds a c → StaysOpen r deeds → RisesTo low (accepted_of_route r deeds) (c.receiver.routes r).counter
+-- what the receiver accepts by a deed rises, and a route that is fresh accepted nothing
+record StaysOn (n r low : ℕ) (deed : Deed) (b : Memory) : Type 0 where
+  top : ℕ
+  rise : RisesTo low (given_out r (deed ∷ [])) top
+  staying : Staying n r (last_or low (given_out r (deed ∷ []))) b
+
+stays_rejoined : (n r low told : ℕ) (a b : Memory) → Staying n r low a → DoesDeed n (rejoins r told) a b → StaysOn n r low (rejoins r told) b
+stays_rejoined n r low told a b h d =
+    let counter : (b.routes r).counter ≡ told = ap (λ (t : RathonsiRoute). t.counter) d.rejoined.now in
+    record {
+      top = low;
+      rise = omega arith;
+      staying = record {
+        sound = sound_on n (rejoins r told) a b h.sound d;
+        floor = elim d.rejoined.may [
+          | inl above ↦ (let l = h.floor in omega arith)
+          | inr fresh ↦ (let l = h.none (record { opened = d.rejoined.opened; mark = fresh }) in omega arith)
+        ];
+        none = λ fresh. absurd (moved_not_fresh (a.routes r) (b.routes r) told d.rejoined.now fresh);
+      };
+    }
+
+stays_deed : (n r low : ℕ) (deed : Deed) (a b : Memory) → r < n → Staying n r low a → DoesDeed n deed a b → opens_it r deed ≡ false → StaysOn n r low deed b
+stays_deed n r low deed a b x h d stays = elim (cases_Bool (rejoins_it r deed)) [
+  | inl is ↦
+      let by = rejoin_told r deed is in
+      subst (λ (q : Deed). DoesDeed n q a b → StaysOn n r low q b) (sym by.1) (stays_rejoined n r low by.0 a b h) d
+  | inr not ↦
+      let rise = rises_from low (a.routes r).counter (b.routes r).counter (given_out r (deed ∷ [])) h.floor (after_deed n r deed a b x not h.sound d) in
+      record {
+        top = (b.routes r).counter;
+        rise = rise;
+        staying = record {
+          sound = sound_on n deed a b h.sound d;
+          floor = last_below low (b.routes r).counter (given_out r (deed ∷ [])) rise;
+          none = λ fresh. let was = still_fresh n r deed a b d stays fresh in ap (last_or low) was.none ∙ h.none was.fresh;
+        };
+      }
+]
+
+stays_on : (m n s r low : ℕ) (deeds : List PairDeed) (a c : Pair) → r < n → Staying n r low a.receiver → PairLives m n s deeds a c → StaysOpen r deeds → RisesTo low (accepted_of_route r deeds) (c.receiver.routes r).counter
 stays_on m n s r low [] a c y h lives stays = subst (λ (z : Pair). low ≤ (z.receiver.routes r).counter) (sym lives) h.floor
 stays_on m n s r low (of_sender deed ∷ deeds) a c y h (b, (d, rest)) stays =
     stays_on m n s r low deeds b c y (subst (λ (z : Memory). Staying n r low z) (sym d.1) h) rest stays
 stays_on m n s r low (of_receiver deed ∷ deeds) a c y h (b, (d, rest)) stays =
-    let rise = rises_from low (a.receiver.routes r).counter (b.receiver.routes r).counter (given_out r (deed ∷ [])) h.floor (after_deed n r deed a.receiver b.receiver y h.sound d.0) in
-    rises_join low (b.receiver.routes r).counter (c.receiver.routes r).counter (given_out r (deed ∷ [])) (accepted_of_route r deeds) rise
-    (stays_on m n s r (last_or low (given_out r (deed ∷ []))) deeds b c y (record {
-      sound = sound_next n deed a.receiver b.receiver h.sound d.0;
-      floor = last_below low (b.receiver.routes r).counter (given_out r (deed ∷ [])) rise;
-      none = λ fresh. let was = still_fresh n r deed a.receiver b.receiver d.0 stays.0 fresh in ap (last_or low) was.none ∙ h.none was.fresh;
-    }) rest stays.1)
+    let more = stays_deed n r low deed a.receiver b.receiver y h d.0 stays.0 in
+    rises_join low more.top (c.receiver.routes r).counter (given_out r (deed ∷ [])) (accepted_of_route r deeds) more.rise
+    (stays_on m n s r (last_or low (given_out r (deed ∷ []))) deeds b c y more.staying rest stays.1)
 stays_on m n s r low (answers q told ∷ deeds) a c y h (b, (d, rest)) stays =
     stays_on m n s r low deeds b c y (subst (λ (z : Pair). Staying n r low z.receiver) (sym d.same) h) rest stays
-stays_on m n s r low (rejoins q told ∷ deeds) a c y h (b, (d, rest)) stays =
-    let counter : (b.receiver.routes r).counter ≡ told = ap (λ (t : RathonsiRoute). t.counter) d.rejoined.now in
-    stays_on m n s r low deeds b c y (record {
-      sound = sound_rejoined m n s r told a b h.sound d;
-      floor = elim d.rejoined.may [
-        | inl above ↦ (let l = h.floor in omega arith)
-        | inr fresh ↦ (let l = h.none (record { opened = d.rejoined.opened; mark = fresh }) in omega arith)
-      ];
-      none = λ fresh. absurd (moved_not_fresh (a.receiver.routes r) (b.receiver.routes r) told d.rejoined.now fresh);
-    }) rest stays
 
 -- the receiver's routes stay sound
-receiver_sound : (m n s r : ℕ) (deeds : List PairDeed) (a c : Pair) → Sound n a.receiver → PairLives m n s r deeds a c → Sound n c.receiver
-receiver_sound m n s r [] a c h lives = subst (λ (z : Pair). Sound n z.receiver) (sym lives) h
-receiver_sound m n s r (of_sender deed ∷ deeds) a c h (b, (d, rest)) = receiver_sound m n s r deeds b c (subst (λ (z : Memory). Sound n z) (sym d.1) h) rest
-receiver_sound m n s r (of_receiver deed ∷ deeds) a c h (b, (d, rest)) = receiver_sound m n s r deeds b c (sound_next n deed a.receiver b.receiver h d.0) rest
-receiver_sound m n s r (answers q told ∷ deeds) a c h (b, (d, rest)) = receiver_sound m n s r deeds b c (subst (λ (z : Pair). Sound n z.receiver) (sym d.same) h) rest
-receiver_sound m n s r (rejoins q told ∷ deeds) a c h (b, (d, rest)) = receiver_sound m n s r deeds b c (sound_rejoined m n s r told a b h d) rest
+receiver_sound : (m n s : ℕ) (deeds : List PairDeed) (a c : Pair) → Sound n a.receiver → PairLives m n s deeds a c → Sound n c.receiver
+receiver_sound m n s [] a c h lives = subst (λ (z : Pair). Sound n z.receiver) (sym lives) h
+receiver_sound m n s (of_sender deed ∷ deeds) a c h (b, (d, rest)) = receiver_sound m n s deeds b c (subst (λ (z : Memory). Sound n z) (sym d.1) h) rest
+receiver_sound m n s (of_receiver deed ∷ deeds) a c h (b, (d, rest)) = receiver_sound m n s deeds b c (sound_on n deed a.receiver b.receiver h d.0) rest
+receiver_sound m n s (answers q told ∷ deeds) a c h (b, (d, rest)) = receiver_sound m n s deeds b c (subst (λ (z : Pair). Sound n z.receiver) (sym d.same) h) rest
 
-pub rises_in_one_life : (m n s r : ℕ) (before deeds : List PairDeed) (first mid last : Pair) → PoweredUp n first.receiver → r < n → PairLives m n s r before first mid → PairLives m n s r deeds mid last → StaysOpen r deeds
+pub rises_in_one_life : (m n s r : ℕ) (before deeds : List PairDeed) (first mid last : Pair) → PoweredUp n first.receiver → r < n → PairLives m n s before first mid → PairLives m n s deeds mid last → StaysOpen r deeds
     → RisesTo 0 (accepted_of_route r deeds) (last.receiver.routes r).counter
 rises_in_one_life m n s r before deeds first mid last up y lived lives stays = stays_on m n s r 0 deeds mid last y (record {
-  sound = receiver_sound m n s r before first mid (first_sound n first.receiver up) lived;
+  sound = receiver_sound m n s before first mid (first_sound n first.receiver up) lived;
   floor = omega arith;
   none = λ fresh. refl;
 }) lives stays

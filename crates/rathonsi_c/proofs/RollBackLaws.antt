@@ -16,7 +16,7 @@ use Rattle.rathonsi_c.specs.Growing.{SaysSize, TellAnswers, SizeAnswers, GivesSi
 use Rattle.rathonsi_c.specs.Images.{ImageBound}
 use Rattle.rathonsi_c.specs.Lives.{Memory, Deed, Lives, RisesTo, SameRoute}
 use Rattle.rathonsi_c.specs.Routes.{InRanges, OpenAnswers, at_counter}
-use Rattle.rathonsi_c.specs.Softwares.{Table, CellsApart, GrowthSteps, SoftwareComesUp, Software, AllSoftware, given_by_all, KeepsAtLeast}
+use Rattle.rathonsi_c.specs.Softwares.{Table, CellsApart, GrowthSteps, SoftwareComesUp, Software, AllSoftware, given_by_all, NoneRejoins, KeepsAtLeast}
 use Rattle.rathonsi_c.specs.Stores.{IsSize, IsWhole, CheckAnswers}
 use Rattle.rathonsi_c.proofs.AnswerLaws.{damaged_keeps_none, one_size}
 use Rattle.rathonsi_c.proofs.DiskLaws.{front-cell, front-part}
@@ -258,12 +258,12 @@ left-keeps high route direction c left ranges cut h =
       least = (let a = h.least in let b = h.holds.below in let m = l.least in omega arith);
     }
 
-pub covered_over_all : (table : Table) (softwares : List Software) (a c : Memory) (room end : List ℕ) (k low : ℕ) → CellsApart table → IsEmptyPlan a.plan → IsWhole a.image → AllSoftware table softwares a room c end → KeepsAtLeast low (table.route k) a.image
+pub covered_over_all : (table : Table) (softwares : List Software) (a c : Memory) (room end : List ℕ) (k low : ℕ) → CellsApart table → IsEmptyPlan a.plan → IsWhole a.image → AllSoftware table softwares a room c end → NoneRejoins k softwares → KeepsAtLeast low (table.route k) a.image
     → (high : ℕ) × (RisesTo low (given_by_all k softwares) high × ((left : List ℕ) → LeavesPut c.plan c.image left → KeepsAtLeast high (table.route k) left))
-covered_over_all table softwares a c room end k low apart empty whole all kept =
+covered_over_all table softwares a c room end k low apart empty whole all never kept =
     let stays : StaysWhole a = λ left cut. (whole_over 0 [] a a empty whole refl left cut).1 in
     let first = first-keeps low (table.route k) a empty kept in
-    let r = all-rise table apart softwares k low a c room end stays (inr first) all in
+    let r = all-rise table apart softwares k low a c room end never stays (inr first) all in
     let zero_keeps = keeps-all table apart softwares k a c room end stays (record { r = first.r; same = first.same; holds = first.holds; least = omega arith }) all in (
       r.high,
       (

@@ -1,6 +1,6 @@
 -- Freshness rises over all software, and a roll-back at any moment opens.
 use Rattle.std.proofs.Common.{◌≡◌, ◌≢◌, ℕ, ◌+◌, ◌<◌, ◌≤◌, ◌⊎◌, inl, inr, if◌then◌else◌, IsSome, Option, List, [], ◌∷◌, ◌++◌, length, refl, sym, ap, subst, ◌∙◌, arith, length-append}
-use Rattle.std.proofs.lemmas.Bool.{cases_lt, cases_eq, ne_eqb, false≢true}
+use Rattle.std.proofs.lemmas.Bool.{cases_lt, ne_eqb, false≢true}
 use Rattle.cell_store.specs.Twin.{twin_size, cell_at}
 use Rattle.freshness_routes.specs.declared.routes.Direction.{Direction}
 use Rattle.key_slots.specs.declared.memory.Slot.{Slot}
@@ -10,12 +10,13 @@ use Rattle.store_plan.specs.Leaving.{LeavesPut}
 use Rattle.store_plan.specs.Growing.{SaysCells}
 use Rattle.rathonsi_c.specs.declared.route.RathonsiRoute.{RathonsiRoute}
 use Rattle.rathonsi_c.specs.Images.{ImageBound, ImageSlot}
-use Rattle.rathonsi_c.specs.Lives.{Memory, Deed, sends, accepts, takes, opens, sets, reserves, loads, drops, finishes, powers_up, SameRoute, OpensFilled, ChangesRoute, GivesOut, DoesDeed, Lives, given_out, RisesTo, SlotFilled}
+use Rattle.rathonsi_c.specs.Lives.{Memory, Deed, sends, accepts, takes, rejoins, opens, sets, reserves, loads, drops, finishes, powers_up, SameRoute, OpensFilled, DoesDeed, Lives, given_out, NeverRejoins, RisesTo, SlotFilled}
 use Rattle.rathonsi_c.specs.Slots.{ConfirmsSlot}
-use Rattle.rathonsi_c.specs.Softwares.{Table, CellsApart, SoftwareComesUp, Software, AllSoftware, given_by_all}
+use Rattle.rathonsi_c.specs.Softwares.{Table, CellsApart, SoftwareComesUp, Software, AllSoftware, given_by_all, NoneRejoins}
 use Rattle.rathonsi_c.specs.Stores.{IsWhole}
 use Rattle.rathonsi_c.proofs.GrowthLaws.{Follows, follows, cell_within, head_within, rises_join, no_bound_is_zeros}
 use Rattle.rathonsi_c.proofs.LivesLaws.{Holds, Sound, after-cut, cut_back, finished, holds-same, holds_opened, lives-sound, moves, opened_anew, opened_cell, planned_elsewhere, planned_nothing, reserved_there, rises, rises_from, sound-then}
+use Rattle.rathonsi_c.proofs.RouteKept.{same-both, same-opened, same-lives}
 use Rattle.rathonsi_c.proofs.WholeLaws.{whole_over}
 
 -- ---- a route that the software doesn't have
@@ -25,6 +26,7 @@ stays : (n : ℕ) (deed : Deed) (a b : Memory) (r : RathonsiRoute) → ((j : ℕ
 stays n (sends k freshness) a b r apart h d = holds-same a.image b.image a.plan b.plan r r d.changes.image d.changes.plan refl h
 stays n (accepts k freshness) a b r apart h d = holds-same a.image b.image a.plan b.plan r r d.changes.image d.changes.plan refl h
 stays n (takes k counter) a b r apart h d = holds-same a.image b.image a.plan b.plan r r d.1.changes.image d.1.changes.plan refl h
+stays n (rejoins k counter) a b r apart h d = holds-same a.image b.image a.plan b.plan r r d.changes.image d.changes.plan refl h
 stays n (opens k) a b r apart h d = holds-same a.image b.image a.plan b.plan r r d.changes.image d.changes.plan refl h
 stays n (sets k) a b r apart h d = holds-same a.image b.image a.plan b.plan r r d.changes.image d.changes.plan refl h
 stays n (reserves k) a b r apart h d =
@@ -41,7 +43,7 @@ ghost-lives : (n : ℕ) (deeds : List Deed) (a c : Memory) (r : RathonsiRoute) �
 ghost-lives n [] a c r s apart h lives = subst (λ (m : Memory). Holds m.image m.plan r) (sym lives) h
 ghost-lives n (deed ∷ deeds) a c r s apart h (b, (d, rest)) =
     let m = moves n deed a b s d in
-    ghost-lives n deeds b c r (sound-then n a b s m) (λ j x e. apart j x (sym (m.cells j x) ∙ e)) (stays n deed a b r apart h d) rest
+    ghost-lives n deeds b c r (sound-then n deed a b s m) (λ j x e. apart j x (sym (m.cells j x) ∙ e)) (stays n deed a b r apart h d) rest
 
 -- it gives out nothing
 none-given : (n k : ℕ) (deeds : List Deed) (a c : Memory) → n ≤ k → Lives n deeds a c → given_out k deeds ≡ []
@@ -51,6 +53,7 @@ none-given n k (sends j freshness ∷ deeds) a c beyond (b, (d, rest)) =
 none-given n k (accepts j freshness ∷ deeds) a c beyond (b, (d, rest)) =
     ap (λ t. if t then freshness ∷ given_out k deeds else given_out k deeds) (ne_eqb j k (λ e. let w = d.changes.which in omega arith)) ∙ none-given n k deeds b c beyond rest
 none-given n k (takes j counter ∷ deeds) a c beyond (b, (d, rest)) = none-given n k deeds b c beyond rest
+none-given n k (rejoins j counter ∷ deeds) a c beyond (b, (d, rest)) = none-given n k deeds b c beyond rest
 none-given n k (opens j ∷ deeds) a c beyond (b, (d, rest)) = none-given n k deeds b c beyond rest
 none-given n k (sets j ∷ deeds) a c beyond (b, (d, rest)) = none-given n k deeds b c beyond rest
 none-given n k (reserves j ∷ deeds) a c beyond (b, (d, rest)) = none-given n k deeds b c beyond rest
@@ -58,48 +61,6 @@ none-given n k (loads slot ∷ deeds) a c beyond (b, (d, rest)) = none-given n k
 none-given n k (drops ∷ deeds) a c beyond (b, (d, rest)) = none-given n k deeds b c beyond rest
 none-given n k (finishes ∷ deeds) a c beyond (b, (d, rest)) = none-given n k deeds b c beyond rest
 none-given n k (powers_up ∷ deeds) a c beyond (b, (d, rest)) = none-given n k deeds b c beyond rest
-
--- ---- which route it is stays
-
-same-refl : (r : RathonsiRoute) → SameRoute r r
-same-refl r = record { cell = refl; data_id = refl; direction = refl }
-
-same-is : (r s : RathonsiRoute) → s ≡ r → SameRoute r s
-same-is r s e = subst (λ (t : RathonsiRoute). SameRoute r t) (sym e) (same-refl r)
-
-same-both : (r s t : RathonsiRoute) → SameRoute r s → SameRoute s t → SameRoute r t
-same-both r s t a b = record { cell = b.cell ∙ a.cell; data_id = b.data_id ∙ a.data_id; direction = b.direction ∙ a.direction }
-
-same-opened : (r : RathonsiRoute) (image : List ℕ) (s : RathonsiRoute) → OpensFilled r image s → SameRoute r s
-same-opened r image s o =
-    subst (λ (t : RathonsiRoute). SameRoute r t) (sym o.is_opened.now)
-    (record { cell = o.same.cell; data_id = o.same.data_id; direction = o.same.direction })
-
-same-changed : (n j : ℕ) (a b : Memory) → ChangesRoute n j a b → SameRoute (a.routes j) (b.routes j) → (k : ℕ) → SameRoute (a.routes k) (b.routes k)
-same-changed n j a b g same k = elim (cases_eq k j) [
-  | inl here ↦ subst (λ i. SameRoute (a.routes i) (b.routes i)) (sym here) same
-  | inr there ↦ same-is (a.routes k) (b.routes k) (g.others k there)
-]
-
-same-given : (d : Direction) (n j freshness : ℕ) (a b : Memory) → GivesOut d n j freshness a b → (k : ℕ) → SameRoute (a.routes k) (b.routes k)
-same-given d n j freshness a b g = same-changed n j a b g.changes
-    (subst (λ (t : RathonsiRoute). SameRoute (a.routes j) t) (sym g.advances.now) (record { cell = refl; data_id = refl; direction = refl }))
-
-same-deed : (n : ℕ) (deed : Deed) (a b : Memory) (k : ℕ) → k < n → DoesDeed n deed a b → SameRoute (a.routes k) (b.routes k)
-same-deed n (sends j freshness) a b k x d = same-given _ n j freshness a b d k
-same-deed n (accepts j freshness) a b k x d = same-given _ n j freshness a b d k
-same-deed n (takes j counter) a b k x d = same-given d.0 n j counter a b d.1 k
-same-deed n (opens j) a b k x d = same-changed n j a b d.changes (same-opened (a.routes j) a.image (b.routes j) d.opened) k
-same-deed n (sets j) a b k x d = same-changed n j a b d.changes d.same k
-same-deed n (reserves j) a b k x d = same-is (a.routes k) (b.routes k) (d.routes k)
-same-deed n (loads slot) a b k x d = same-is (a.routes k) (b.routes k) (d.routes k)
-same-deed n drops a b k x d = same-is (a.routes k) (b.routes k) (d.routes k)
-same-deed n finishes a b k x d = same-is (a.routes k) (b.routes k) (d.routes k)
-same-deed n powers_up a b k x d = same-opened (a.routes k) b.image (b.routes k) (d.opened k x)
-
-same-lives : (n : ℕ) (deeds : List Deed) (a c : Memory) (k : ℕ) → k < n → Lives n deeds a c → SameRoute (a.routes k) (c.routes k)
-same-lives n [] a c k x lives = same-is (a.routes k) (c.routes k) (ap (λ (m : Memory). m.routes k) lives)
-same-lives n (deed ∷ deeds) a c k x (b, (d, rest)) = same-both (a.routes k) (b.routes k) (c.routes k) (same-deed n deed a b k x d) (same-lives n deeds b c k x rest)
 
 -- ---- software comes up
 
@@ -245,12 +206,12 @@ module _ (table : Table) (apart : CellsApart table) (n : ℕ) (a b d : Memory) (
   Goes low k high = RisesTo low (given_out k deeds) high × Kept high (Route k) d
 
   -- what the software gives out rises
-  goes : IsWhole u.left → (low k : ℕ) → Kept low (Route k) a → (high : ℕ) × Goes low k high
-  goes whole low k kept = elim (cases_lt k n) [
+  goes : IsWhole u.left → (low k : ℕ) → NeverRejoins k deeds → Kept low (Route k) a → (high : ℕ) × Goes low k high
+  goes whole low k never kept = elim (cases_lt k n) [
     | inl x ↦ (
       (d.routes k).counter,
       (
-        rises_from low (b.routes k).counter (d.routes k).counter (given_out k deeds) (opened-above low k x (kept-up whole low k kept)) (rises n k deeds b d x sound lives),
+        rises_from low (b.routes k).counter (d.routes k).counter (given_out k deeds) (opened-above low k x (kept-up whole low k kept)) (rises n k deeds b d x never sound lives),
         inr (counted k x),
       ),
     )
@@ -283,16 +244,16 @@ pub record AllRise (low k : ℕ) (route : RathonsiRoute) (softwares : List Softw
   pub kept : Kept high route c
   pub whole : StaysWhole c
 
-pub all-rise : (table : Table) (apart : CellsApart table) (softwares : List Software) (k low : ℕ) (a c : Memory) (room end : List ℕ) → StaysWhole a → Kept low (table.route k) a → AllSoftware table softwares a room c end → AllRise low k (table.route k) softwares c
-all-rise table apart [] k low a c room end whole kept all = record {
+pub all-rise : (table : Table) (apart : CellsApart table) (softwares : List Software) (k low : ℕ) (a c : Memory) (room end : List ℕ) → NoneRejoins k softwares → StaysWhole a → Kept low (table.route k) a → AllSoftware table softwares a room c end → AllRise low k (table.route k) softwares c
+all-rise table apart [] k low a c room end never whole kept all = record {
   high = low;
   rises = omega arith;
   kept = subst (λ (m : Memory). Kept low (table.route k) m) (sym all.0) kept;
   whole = subst (λ (m : Memory). StaysWhole m) (sym all.0) whole;
 }
-all-rise table apart (s ∷ rest) k low a c room end whole kept (b, (behind, (u, (d, (lives, more))))) =
-    let g = goes table apart s.routes a b d room behind u s.deeds lives (whole u.left u.cut) low k kept in
-    let r = all-rise table apart rest k g.0 d c behind end (stays-whole table apart s.routes a b d room behind u s.deeds lives) g.1.1 more in
+all-rise table apart (s ∷ rest) k low a c room end never whole kept (b, (behind, (u, (d, (lives, more))))) =
+    let g = goes table apart s.routes a b d room behind u s.deeds lives (whole u.left u.cut) low k never.0 kept in
+    let r = all-rise table apart rest k g.0 d c behind end never.1 (stays-whole table apart s.routes a b d room behind u s.deeds lives) g.1.1 more in
     record {
       high = r.high;
       rises = rises_join low g.0 g.0 r.high (given_out k s.deeds) (given_by_all k rest) g.1.0 (omega arith) r.rises;
@@ -300,10 +261,10 @@ all-rise table apart (s ∷ rest) k low a c room end whole kept (b, (behind, (u,
       whole = r.whole;
     }
 
-pub rises_over_all : (table : Table) (softwares : List Software) (a c : Memory) (room end : List ℕ) → CellsApart table → IsEmptyPlan a.plan → IsWhole a.image → AllSoftware table softwares a room c end → (k : ℕ)
+pub rises_over_all : (table : Table) (softwares : List Software) (a c : Memory) (room end : List ℕ) → CellsApart table → IsEmptyPlan a.plan → IsWhole a.image → AllSoftware table softwares a room c end → (k : ℕ) → NoneRejoins k softwares
     → (high : ℕ) × RisesTo 0 (given_by_all k softwares) high
-rises_over_all table softwares a c room end apart empty whole all k =
-    let r = all-rise table apart softwares k 0 a c room end (λ left cut. (whole_over 0 [] a a empty whole refl left cut).1) (inl refl) all in
+rises_over_all table softwares a c room end apart empty whole all k never =
+    let r = all-rise table apart softwares k 0 a c room end never (λ left cut. (whole_over 0 [] a a empty whole refl left cut).1) (inl refl) all in
     (r.high, r.rises)
 
 -- ---- keys

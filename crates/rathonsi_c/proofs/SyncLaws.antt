@@ -21,7 +21,7 @@ use Rattle.counter_answers.proofs.CallerLemmas.{first_is, one_counter_told, one_
 use Rattle.rathonsi_c.specs.declared.TheConstants.{OK, BAD_VALUE, FRESHNESS_FAILURE, VERIFICATION_FAILURE, DAMAGED, RESERVE, WRONG_CELL}
 use Rattle.rathonsi_c.specs.declared.secoc.RathonsiVerdict.{RathonsiVerdict}
 use Rattle.rathonsi_c.specs.declared.route.RathonsiRoute.{RathonsiRoute}
-use Rattle.rathonsi_c.specs.Causes.{erc_status}
+use Rattle.rathonsi_c.specs.Causes.{IfCause, erc_status}
 use Rattle.rathonsi_c.specs.Images.{ImageKey}
 use Rattle.rathonsi_c.specs.Routes.{IsFreshnessOnly, RouteReady, RouteAdvances, is_booted, no_verdict, bounded_answer, JudgesPdu, RouteAnswers, ReceiveAnswers}
 use Rattle.rathonsi_c.specs.declared.refusals.Refusal.{Refusal}
@@ -30,7 +30,7 @@ use Rattle.rathonsi_c.specs.Refused.{route_status, RouteRefused}
 use Rattle.rathonsi_c.specs.Syncing.{AsksAnother, AnsweredBy, TellsCounter, JudgesSync, SyncTakeAnswers, TookAnswer, sync_verdict}
 use Rattle.rathonsi_c.specs.Syncing.{way_of, asked_of, asked_by}
 use Rattle.rathonsi_c.specs.Rejoining.{JudgesRejoin, RejoinAnswers, rejoin_verdict}
-use Rattle.rathonsi_c.specs.Lives.{Memory, Deed, PoweredUp, Lives, RisesTo, given_out}
+use Rattle.rathonsi_c.specs.Lives.{Memory, Deed, PoweredUp, Lives, RisesTo, given_out, NeverRejoins}
 use Rattle.rathonsi_c.proofs.ImageLaws.{bound_once, slot_once}
 use Rattle.rathonsi_c.proofs.AnswerLaws.{other_status, damaged_keeps_none, may-not-refused, ready_route, refused_route}
 use Rattle.rathonsi_c.proofs.LivesLaws.{first_sound, lives-sound, rises}
@@ -107,9 +107,9 @@ alone : (v : RathonsiVerdict) (status s : ℤ) → v ≡ no_verdict status → v
 alone v status s e is = sym (ap (λ (u : RathonsiVerdict). u.status) e) ∙ is
 
 -- the answer was judged
-sync_judged : (r : RathonsiRoute) (image answer : List ℕ) (q : RathonsiQuestion) (v : RathonsiVerdict) (s : ℤ) → (BAD_VALUE ≡ s → ⊥) → (WRONG_CELL ≡ s → ⊥) → (DAMAGED ≡ s → ⊥) → NoRefusal s
-    → SyncTakeAnswers r image q answer v → v.status ≡ s → AsksAnother q × JudgesSync r image q answer v
-sync_judged r image answer q v s bad wrong damaged refused answers is = elim answers [
+judged : (r : RathonsiRoute) (direction : Direction) (image : List ℕ) (q : RathonsiQuestion) (rest : RathonsiVerdict → Type 0) (v : RathonsiVerdict) (s : ℤ) → (BAD_VALUE ≡ s → ⊥) → (WRONG_CELL ≡ s → ⊥) → (DAMAGED ≡ s → ⊥) → NoRefusal s
+    → IfCause (¬ AsksAnother q) (no_verdict BAD_VALUE) (RouteAnswers no_verdict r direction image rest) v → v.status ≡ s → AsksAnother q × rest v
+judged r direction image q rest v s bad wrong damaged refused answers is = elim answers [
   | inl (one, e) ↦ absurd (bad (alone v _ s e is))
   | inr (two, known) ↦ elim known [
     | inl (out, e) ↦ absurd (bad (alone v _ s e is))
@@ -126,24 +126,34 @@ sync_judged r image answer q v s bad wrong damaged refused answers is = elim ans
   ]
 ]
 
+pub judged_done : (r : RathonsiRoute) (direction : Direction) (image : List ℕ) (q : RathonsiQuestion) (rest : RathonsiVerdict → Type 0) (v : RathonsiVerdict)
+    → IfCause (¬ AsksAnother q) (no_verdict BAD_VALUE) (RouteAnswers no_verdict r direction image rest) v → v.status ≡ OK → AsksAnother q × rest v
+judged_done r direction image q rest v answers is =
+    judged r direction image q rest v OK (other_status BAD_VALUE OK (λ x. omega arith)) (other_status WRONG_CELL OK (λ x. omega arith)) (other_status DAMAGED OK (λ x. omega arith)) refused_not_done answers is
+
+pub judged_reserved : (r : RathonsiRoute) (direction : Direction) (image : List ℕ) (q : RathonsiQuestion) (rest : RathonsiVerdict → Type 0) (v : RathonsiVerdict)
+    → IfCause (¬ AsksAnother q) (no_verdict BAD_VALUE) (RouteAnswers no_verdict r direction image rest) v → v.status ≡ RESERVE → AsksAnother q × rest v
+judged_reserved r direction image q rest v answers is =
+    judged r direction image q rest v RESERVE (other_status BAD_VALUE RESERVE (λ x. omega arith)) (other_status WRONG_CELL RESERVE (λ x. omega arith)) (other_status DAMAGED RESERVE (λ x. omega arith)) refused_not_reserved answers is
+
 -- what such a verdict tells: a counter above the route's
-record Told (counter bound : ℕ) (told : Option ℕ) : Type 0 where
-  number : ℕ
-  is : told ≡ Some number
-  above : counter < number
-  freshness_is : (sync_verdict counter bound told).freshness ≡ number
+pub record Told (counter bound : ℕ) (told : Option ℕ) : Type 0 where
+  pub number : ℕ
+  pub is : told ≡ Some number
+  pub above : counter < number
+  pub freshness_is : (sync_verdict counter bound told).freshness ≡ number
 
 abbrev sync_verdict_above : ℕ → ℕ → RathonsiVerdict
 sync_verdict_above bound number =
     if nat_lt bound number then record { status = RESERVE; payload_length = 0; freshness = number } else record { status = OK; payload_length = 0; freshness = number }
 
-told_freshness : (bound number : ℕ) → (sync_verdict_above bound number).freshness ≡ number
+pub told_freshness : (bound number : ℕ) → (sync_verdict_above bound number).freshness ≡ number
 told_freshness bound number = elim (cases_Bool (nat_lt bound number)) [
   | inl above ↦ ap (λ (u : RathonsiVerdict). u.freshness) (cond-true _ _ _ above)
   | inr below ↦ ap (λ (u : RathonsiVerdict). u.freshness) (cond-false _ _ _ below)
 ]
 
-told_above : (counter bound : ℕ) (told : Option ℕ) (s : ℤ) → (VERIFICATION_FAILURE ≡ s → ⊥) → (FRESHNESS_FAILURE ≡ s → ⊥) → (sync_verdict counter bound told).status ≡ s → Told counter bound told
+pub told_above : (counter bound : ℕ) (told : Option ℕ) (s : ℤ) → (VERIFICATION_FAILURE ≡ s → ⊥) → (FRESHNESS_FAILURE ≡ s → ⊥) → (sync_verdict counter bound told).status ≡ s → Told counter bound told
 told_above counter bound None s unverified stale e = absurd (unverified e)
 told_above counter bound (Some number) s unverified stale e = elim (cases_Bool (nat_lt counter number)) [
   | inl above ↦ record {
@@ -168,12 +178,12 @@ took_answer r image answer q v asks j t =
 
 pub moved_by_key : (r : RathonsiRoute) (image answer : List ℕ) (q : RathonsiQuestion) (v : RathonsiVerdict) → SyncTakeAnswers r image q answer v → v.status ≡ OK → TookAnswer r image q answer v.freshness
 moved_by_key r image answer q v answers is =
-    let (asks, j) = sync_judged r image answer q v OK (other_status BAD_VALUE OK (λ x. omega arith)) (other_status WRONG_CELL OK (λ x. omega arith)) (other_status DAMAGED OK (λ x. omega arith)) refused_not_done answers is in
+    let (asks, j) = judged_done r (way_of r) image q (JudgesSync r image q answer) v answers is in
     took_answer r image answer q v asks j (told_above r.counter j.bound j.told OK (other_status VERIFICATION_FAILURE OK (λ x. omega arith)) (other_status FRESHNESS_FAILURE OK (λ x. omega arith)) (sym (ap (λ (u : RathonsiVerdict). u.status) j.is) ∙ is))
 
 pub reserved_by_key : (r : RathonsiRoute) (image answer : List ℕ) (q : RathonsiQuestion) (v : RathonsiVerdict) → SyncTakeAnswers r image q answer v → v.status ≡ RESERVE → TookAnswer r image q answer v.freshness
 reserved_by_key r image answer q v answers is =
-    let (asks, j) = sync_judged r image answer q v RESERVE (other_status BAD_VALUE RESERVE (λ x. omega arith)) (other_status WRONG_CELL RESERVE (λ x. omega arith)) (other_status DAMAGED RESERVE (λ x. omega arith)) refused_not_reserved answers is in
+    let (asks, j) = judged_reserved r (way_of r) image q (JudgesSync r image q answer) v answers is in
     took_answer r image answer q v asks j (told_above r.counter j.bound j.told RESERVE (other_status VERIFICATION_FAILURE RESERVE (λ x. omega arith)) (other_status FRESHNESS_FAILURE RESERVE (λ x. omega arith)) (sym (ap (λ (u : RathonsiVerdict). u.status) j.is) ∙ is))
 
 -- ---- whose answer is taken
@@ -246,10 +256,10 @@ after_answer s r taken sent image later answer q p v told answers is advances ke
     j.is ∙ (ap (λ b. bounded_answer b j.outcome) same_bound ∙ ap (λ (o : Outcome). bounded_answer bound o) same_outcome)
 
 -- the freshness that a route gives out from the middle of its lives on
-pub rises_after : (n k : ℕ) (before after : List Deed) (first mid last : Memory) → PoweredUp n first → Lives n before first mid → Lives n after mid last → k < n
+pub rises_after : (n k : ℕ) (before after : List Deed) (first mid last : Memory) → PoweredUp n first → Lives n before first mid → Lives n after mid last → k < n → NeverRejoins k after
     → (q : RathonsiQuestion) (answer : List ℕ) → AnsweredBy (mid.routes k) mid.image q answer → (mac : List ℕ) (told : ℕ) → TellsWith mac told answer
     → RisesTo told (given_out k after) (last.routes k).counter
-rises_after n k before after first mid last powered lived lives x q answer a mac told t =
+rises_after n k before after first mid last powered lived lives x never q answer a mac told t =
     let same : told ≡ (mid.routes k).counter = one_counter_told mac (cmac a.key (answer_input (asked_of (mid.routes k) q) (mid.routes k).counter)) told (mid.routes k).counter answer t a.told in
     subst (λ low. RisesTo low (given_out k after) (last.routes k).counter) (sym same)
-    (rises n k after mid last x (lives-sound n before first mid (first_sound n first powered) lived) lives)
+    (rises n k after mid last x never (lives-sound n before first mid (first_sound n first powered) lived) lives)

@@ -30,7 +30,7 @@ answered_in_steps r image key answer q input fits keyed is made = record {
 }
 
 -- a route whose bound is at hand answers as the rest says
-bound_rest : (r : RathonsiRoute) (direction : Direction) (image : List ℕ) (bound : ℕ) (rest : RathonsiVerdict → Type 0) (v : RathonsiVerdict) → InUse r direction → ImageBound image r.cell r.data_id direction bound
+pub bound_rest : (r : RathonsiRoute) (direction : Direction) (image : List ℕ) (bound : ℕ) (rest : RathonsiVerdict → Type 0) (v : RathonsiVerdict) → InUse r direction → ImageBound image r.cell r.data_id direction bound
     → BoundAnswers no_verdict r direction image rest v → rest v
 bound_rest r direction image bound rest v used kept answers = elim answers [
   | inl (out, e) ↦ absurd (out used)
@@ -44,7 +44,7 @@ bound_rest r direction image bound rest v used kept answers = elim answers [
 ]
 
 -- what an answer tells by the MAC of its input, it tells under the key
-told_under_key : (key mac answer : List ℕ) (q : CounterQuestion) (told : Option ℕ) → mac ≡ cmac key (answer_input q (number_of (take 8 answer))) → TellsCounterWith mac answer told → TellsCounter key q answer told
+pub told_under_key : (key mac answer : List ℕ) (q : CounterQuestion) (told : Option ℕ) → mac ≡ cmac key (answer_input q (number_of (take 8 answer))) → TellsCounterWith mac answer told → TellsCounter key q answer told
 told_under_key key mac answer q (Some counter) e tells =
     let made : mac ≡ cmac key (answer_input q counter) = e ∙ ap (λ (n : ℕ). cmac key (answer_input q n)) (first_is mac counter answer tells) in
     subst (λ (m : List ℕ). TellsWith m counter answer) made tells
@@ -53,7 +53,7 @@ told_under_key key mac answer q None e tells = λ counter t.
     tells counter (subst (λ (m : List ℕ). TellsWith m counter answer) (sym made) t)
 
 -- an answer tells one counter, or none
-one_told : (key answer : List ℕ) (q : CounterQuestion) (told other : Option ℕ) → TellsCounter key q answer told → TellsCounter key q answer other → told ≡ other
+pub one_told : (key answer : List ℕ) (q : CounterQuestion) (told other : Option ℕ) → TellsCounter key q answer told → TellsCounter key q answer other → told ≡ other
 one_told key answer q (Some counter) (Some last) x y = ap Some (one_counter_told (cmac key (answer_input q counter)) (cmac key (answer_input q last)) counter last answer x y)
 one_told key answer q (Some counter) None x y = absurd (y counter x)
 one_told key answer q None (Some last) x y = absurd (x last y)

@@ -12,10 +12,10 @@ use Rattle.store_plan.specs.Leaving.{LeavesPut}
 use Rattle.store_plan.proofs.CallerLemmas.{applied-cell, applied-others, applied-length, applied-head, applied-none}
 use Rattle.freshness_routes.specs.Changes.{bound_ahead}
 use Rattle.rathonsi_c.specs.Stores.{IsWhole}
-use Rattle.rathonsi_c.specs.Lives.{Memory, Deed, sends, accepts, takes, opens, sets, reserves, loads, drops, finishes, powers_up, Lives, DoesDeed}
+use Rattle.rathonsi_c.specs.Lives.{Memory, Deed, sends, accepts, takes, rejoins, opens, sets, reserves, loads, drops, finishes, powers_up, Lives, DoesDeed}
 
 -- another image with the same header, and a copy that counts in each cell
-moved_whole : (x y : List ℕ) → length y ≡ length x → part 0 32 y ≡ part 0 32 x → ((i : ℕ) → IsSome (cell_at x i) → IsSome (cell_at y i)) → IsWhole x → IsWhole y
+pub moved_whole : (x y : List ℕ) → length y ≡ length x → part 0 32 y ≡ part 0 32 x → ((i : ℕ) → IsSome (cell_at x i) → IsSome (cell_at y i)) → IsWhole x → IsWhole y
 moved_whole x y l head cells h = record {
   count = h.count;
   size = record { least = h.size.least; most = h.size.most; is = l ∙ h.size.is };
@@ -72,6 +72,7 @@ whole-does : (n : ℕ) (deed : Deed) (a b : Memory) → StaysWhole a → DoesDee
 whole-does n (sends k freshness) a b h d = whole-same a b d.changes.image d.changes.plan h
 whole-does n (accepts k freshness) a b h d = whole-same a b d.changes.image d.changes.plan h
 whole-does n (takes k counter) a b h d = whole-same a b d.1.changes.image d.1.changes.plan h
+whole-does n (rejoins k counter) a b h d = whole-same a b d.changes.image d.changes.plan h
 whole-does n (opens k) a b h d = whole-same a b d.changes.image d.changes.plan h
 whole-does n (sets k) a b h d = whole-same a b d.changes.image d.changes.plan h
 whole-does n (reserves k) a b h d = record {
@@ -106,6 +107,7 @@ long-does : (n : ℕ) (deed : Deed) (a b : Memory) → StaysWhole a → DoesDeed
 long-does n (sends k freshness) a b h d = ap length d.changes.image
 long-does n (accepts k freshness) a b h d = ap length d.changes.image
 long-does n (takes k counter) a b h d = ap length d.1.changes.image
+long-does n (rejoins k counter) a b h d = ap length d.changes.image
 long-does n (opens k) a b h d = ap length d.changes.image
 long-does n (sets k) a b h d = ap length d.changes.image
 long-does n (reserves k) a b h d = ap length d.image

@@ -1,6 +1,6 @@
 -- What candidates make a device write, over all lives.
-use Rattle.std.proofs.Common.{◌≡◌, ◌⊎◌, ℕ, zero, suc, ◌+◌, ◌*◌, ◌<◌, ◌≤◌, ◌-◌, inl, inr, List, [], ◌∷◌, refl, sym, ap, subst, ◌∙◌, arith}
-use Rattle.std.proofs.lemmas.Bool.{cases_lt, cases_eq}
+use Rattle.std.proofs.Common.{◌≡◌, ◌⊎◌, ℕ, zero, suc, ◌+◌, ◌*◌, ◌<◌, ◌≤◌, ◌-◌, inl, inr, false, List, [], ◌∷◌, refl, sym, subst, ◌∙◌, arith}
+use Rattle.std.proofs.lemmas.Bool.{cases_lt}
 use Rattle.freshness_routes.specs.Changes.{bound_ahead}
 use Rattle.freshness_routes.specs.declared.routes.Direction.{Direction}
 use Rattle.freshness_routes.specs.declared.routes.Direction.TheVariants.{Receives}
@@ -8,58 +8,15 @@ use Rattle.freshness_store.specs.Bound.{direction_number}
 use Rattle.store_plan.specs.declared.planning.Plan.{Plan}
 use Rattle.rathonsi_c.specs.declared.route.RathonsiRoute.{RathonsiRoute}
 use Rattle.rathonsi_c.specs.Images.{ImageBound}
-use Rattle.rathonsi_c.specs.Routes.{InRanges, RouteAdvances}
-use Rattle.rathonsi_c.specs.Lives.{Memory, Deed, sends, accepts, takes, opens, sets, reserves, loads, drops, finishes, powers_up, SameRoute, OpensFilled, ChangesRoute, PlanDone, DoesDeed, Lives, PoweredUp}
+use Rattle.rathonsi_c.specs.Routes.{InRanges}
+use Rattle.rathonsi_c.specs.Lives.{Memory, Deed, sends, accepts, takes, rejoins, opens, sets, reserves, loads, drops, finishes, powers_up, SameRoute, PlanDone, DoesDeed, Lives, PoweredUp, rejoins_it, NeverRejoins}
 use Rattle.rathonsi_c.specs.Freshness.{WritesWhenAsked, AskedWrites}
 use Rattle.rathonsi_c.proofs.ImageLaws.{bound_once, same_direction}
 use Rattle.rathonsi_c.proofs.LivesLaws.{AtLeast, Holds, Sound, after-finish, after-cut, bound_moves, moves, sound-then, first_sound}
+use Rattle.rathonsi_c.proofs.RouteKept.{same-refl, same-both, same-deed}
 use Rattle.rathonsi_c.proofs.CandidateLaws.{reserved_bound}
 
--- ---- a deed leaves which route it is
-
-same_struct : (r s : RathonsiRoute) → s ≡ r → SameRoute r s
-same_struct r s e = record {
-  cell = ap (λ (t : RathonsiRoute). t.cell) e;
-  data_id = ap (λ (t : RathonsiRoute). t.data_id) e;
-  direction = ap (λ (t : RathonsiRoute). t.direction) e;
-}
-
-same_then : (r s t : RathonsiRoute) → SameRoute r s → SameRoute s t → SameRoute r t
-same_then r s t x y = record { cell = y.cell ∙ x.cell; data_id = y.data_id ∙ x.data_id; direction = y.direction ∙ x.direction }
-
-one_same : (n j k : ℕ) (a b : Memory) → ChangesRoute n j a b → SameRoute (a.routes j) (b.routes j) → SameRoute (a.routes k) (b.routes k)
-one_same n j k a b g same = elim (cases_eq k j) [
-  | inl here ↦ subst (λ i. SameRoute (a.routes i) (b.routes i)) (sym here) same
-  | inr there ↦ same_struct (a.routes k) (b.routes k) (g.others k there)
-]
-
-advanced_same : (d : Direction) (r s : RathonsiRoute) (image : List ℕ) (freshness : ℕ) → RouteAdvances d r image freshness s → SameRoute r s
-advanced_same d r s image freshness a = record {
-  cell = ap (λ (t : RathonsiRoute). t.cell) a.now;
-  data_id = ap (λ (t : RathonsiRoute). t.data_id) a.now;
-  direction = ap (λ (t : RathonsiRoute). t.direction) a.now;
-}
-
-opened_same : (r s : RathonsiRoute) (image : List ℕ) → OpensFilled r image s → SameRoute r s
-opened_same r s image o = same_then r o.filled s o.same (record {
-  cell = ap (λ (t : RathonsiRoute). t.cell) o.is_opened.now;
-  data_id = ap (λ (t : RathonsiRoute). t.data_id) o.is_opened.now;
-  direction = ap (λ (t : RathonsiRoute). t.direction) o.is_opened.now;
-})
-
-deed_same : (n k : ℕ) (deed : Deed) (a b : Memory) → k < n → DoesDeed n deed a b → SameRoute (a.routes k) (b.routes k)
-deed_same n k (sends j freshness) a b x d = one_same n j k a b d.changes (advanced_same _ (a.routes j) (b.routes j) a.image freshness d.advances)
-deed_same n k (accepts j freshness) a b x d = one_same n j k a b d.changes (advanced_same _ (a.routes j) (b.routes j) a.image freshness d.advances)
-deed_same n k (takes j counter) a b x d = one_same n j k a b d.1.changes (advanced_same _ (a.routes j) (b.routes j) a.image counter d.1.advances)
-deed_same n k (opens j) a b x d = one_same n j k a b d.changes (opened_same (a.routes j) (b.routes j) a.image d.opened)
-deed_same n k (sets j) a b x d = one_same n j k a b d.changes d.same
-deed_same n k (reserves j) a b x d = same_struct (a.routes k) (b.routes k) (d.routes k)
-deed_same n k (loads slot) a b x d = same_struct (a.routes k) (b.routes k) (d.routes k)
-deed_same n k drops a b x d = same_struct (a.routes k) (b.routes k) (d.routes k)
-deed_same n k finishes a b x d = same_struct (a.routes k) (b.routes k) (d.routes k)
-deed_same n k powers_up a b x d = opened_same (a.routes k) (b.routes k) b.image (d.opened k x)
-
--- ---- and lowers no bound
+-- ---- a deed lowers no bound
 
 image_same : (image y : List ℕ) (plan : Plan) (r : RathonsiRoute) → y ≡ image → (h : Holds image plan r) → AtLeast h.bound y r h.direction
 image_same image y plan r e h = record {
@@ -72,6 +29,7 @@ image_rises : (n k : ℕ) (deed : Deed) (a b : Memory) → DoesDeed n deed a b �
 image_rises n k (sends j freshness) a b d h = image_same a.image b.image a.plan (a.routes k) d.changes.image h
 image_rises n k (accepts j freshness) a b d h = image_same a.image b.image a.plan (a.routes k) d.changes.image h
 image_rises n k (takes j counter) a b d h = image_same a.image b.image a.plan (a.routes k) d.1.changes.image h
+image_rises n k (rejoins j counter) a b d h = image_same a.image b.image a.plan (a.routes k) d.changes.image h
 image_rises n k (opens j) a b d h = image_same a.image b.image a.plan (a.routes k) d.changes.image h
 image_rises n k (sets j) a b d h = image_same a.image b.image a.plan (a.routes k) d.changes.image h
 image_rises n k (reserves j) a b d h = image_same a.image b.image a.plan (a.routes k) d.image h
@@ -87,19 +45,19 @@ record Onward (n k : ℕ) (d : Direction) (bound : ℕ) (a c : Memory) : Type 0 
   later : (a.routes k).counter ≤ (c.routes k).counter
   reached : AtLeast bound c.image (c.routes k) d
 
-one_onward : (n k : ℕ) (d : Direction) (bound : ℕ) (deed : Deed) (a b : Memory) → k < n → Sound n a → (a.routes k).direction ≡ direction_number d → ImageBound a.image (a.routes k).cell (a.routes k).data_id d bound → DoesDeed n deed a b → Onward n k d bound a b
-one_onward n k d bound deed a b x s is kept does =
+one_onward : (n k : ℕ) (d : Direction) (bound : ℕ) (deed : Deed) (a b : Memory) → k < n → rejoins_it k deed ≡ false → Sound n a → (a.routes k).direction ≡ direction_number d → ImageBound a.image (a.routes k).cell (a.routes k).data_id d bound → DoesDeed n deed a b → Onward n k d bound a b
+one_onward n k d bound deed a b x not s is kept does =
     let h = s.holds k x in
     let m = moves n deed a b s does in
-    let same = deed_same n k deed a b x does in
+    let same = same-deed n deed a b k x does in
     let e : h.direction ≡ d = same_direction h.direction d (sym h.ranges.direction_is ∙ is) in
     let here : h.bound ≡ bound = bound_once a.image (a.routes k).cell (a.routes k).data_id d h.bound bound (subst (λ (q : Direction). ImageBound a.image (a.routes k).cell (a.routes k).data_id q h.bound) e h.kept) kept in
     let up = image_rises n k deed a b does h in
     let least = up.least in
     record {
-      sound = sound-then n a b s m;
+      sound = sound-then n deed a b s m;
       same = same;
-      later = (m.goes k x).later;
+      later = m.later k x not;
       reached = record {
         bound = up.bound;
         kept = bound_moves b.image (a.routes k) (b.routes k) d up.bound same (subst (λ (q : Direction). ImageBound b.image (a.routes k).cell (a.routes k).data_id q up.bound) e up.kept);
@@ -115,21 +73,21 @@ onward_then n k d bound a b c o p =
     let high = p.reached.least in
     record {
       sound = p.sound;
-      same = same_then (a.routes k) (b.routes k) (c.routes k) o.same p.same;
+      same = same-both (a.routes k) (b.routes k) (c.routes k) o.same p.same;
       later = omega (arith, first, second);
       reached = record { bound = p.reached.bound; kept = p.reached.kept; least = omega (arith, low, high) };
     }
 
-lives_onward : (n k : ℕ) (d : Direction) (bound : ℕ) (deeds : List Deed) (a c : Memory) → k < n → Sound n a → (a.routes k).direction ≡ direction_number d → ImageBound a.image (a.routes k).cell (a.routes k).data_id d bound → Lives n deeds a c → Onward n k d bound a c
-lives_onward n k d bound [] a c x s is kept lives = subst (λ (m : Memory). Onward n k d bound a m) (sym lives) (record {
+lives_onward : (n k : ℕ) (d : Direction) (bound : ℕ) (deeds : List Deed) (a c : Memory) → k < n → NeverRejoins k deeds → Sound n a → (a.routes k).direction ≡ direction_number d → ImageBound a.image (a.routes k).cell (a.routes k).data_id d bound → Lives n deeds a c → Onward n k d bound a c
+lives_onward n k d bound [] a c x never s is kept lives = subst (λ (m : Memory). Onward n k d bound a m) (sym lives) (record {
   sound = s;
-  same = same_struct (a.routes k) (a.routes k) refl;
+  same = same-refl (a.routes k);
   later = omega arith;
   reached = record { bound = bound; kept = kept; least = omega arith };
 })
-lives_onward n k d bound (deed ∷ deeds) a c x s is kept (b, (does, rest)) =
-    let o = one_onward n k d bound deed a b x s is kept does in
-    onward_then n k d bound a b c o (lives_onward n k d o.reached.bound deeds b c x o.sound (o.same.direction ∙ is) o.reached.kept rest)
+lives_onward n k d bound (deed ∷ deeds) a c x never s is kept (b, (does, rest)) =
+    let o = one_onward n k d bound deed a b x never.0 s is kept does in
+    onward_then n k d bound a b c o (lives_onward n k d o.reached.bound deeds b c x never.1 o.sound (o.same.direction ∙ is) o.reached.kept rest)
 
 -- ---- writes
 
@@ -143,10 +101,10 @@ record Written (n k reserve window bound : ℕ) (a c : Memory) : Type 0 where
 written : (n k reserve window bound : ℕ) (a c : Memory) → k < n → Sound n a → (a.routes k).direction ≡ direction_number Receives → ImageBound a.image (a.routes k).cell (a.routes k).data_id Receives bound → WritesWhenAsked n k reserve window a c → Written n k reserve window bound a c
 written n k reserve window bound a c x s is kept w =
     let r = w.planning.routes k in
-    let o = lives_onward n k Receives bound w.waits.0 a w.planning x s is kept w.waits.1 in
-    let p = one_onward n k Receives o.reached.bound (reserves k) w.planning w.planned x o.sound (o.same.direction ∙ is) o.reached.kept w.plans in
-    let q = lives_onward n k Receives p.reached.bound w.writes.0 w.planned w.finishing x p.sound (p.same.direction ∙ (o.same.direction ∙ is)) p.reached.kept w.writes.1 in
-    let f = one_onward n k Receives q.reached.bound finishes w.finishing c x q.sound (q.same.direction ∙ (p.same.direction ∙ (o.same.direction ∙ is))) q.reached.kept w.done in
+    let o = lives_onward n k Receives bound w.waits.0 a w.planning x w.waits.1.1 s is kept w.waits.1.0 in
+    let p = one_onward n k Receives o.reached.bound (reserves k) w.planning w.planned x refl o.sound (o.same.direction ∙ is) o.reached.kept w.plans in
+    let q = lives_onward n k Receives p.reached.bound w.writes.0 w.planned w.finishing x w.writes.1.1 p.sound (p.same.direction ∙ (o.same.direction ∙ is)) p.reached.kept w.writes.1.0 in
+    let f = one_onward n k Receives q.reached.bound finishes w.finishing c x refl q.sound (q.same.direction ∙ (p.same.direction ∙ (o.same.direction ∙ is))) q.reached.kept w.done in
     let to_end = onward_then n k Receives o.reached.bound w.planning w.planned c p (onward_then n k Receives p.reached.bound w.planned w.finishing c q f) in
     let here : w.uncovered.bound ≡ o.reached.bound = bound_once w.planning.image r.cell r.data_id Receives w.uncovered.bound o.reached.bound w.uncovered.kept o.reached.kept in
     let below = w.uncovered.below in
@@ -177,11 +135,11 @@ written n k reserve window bound a c x s is kept w =
 few_asked : (m x base n k reserve window bound : ℕ) (a c : Memory) → k < n → Sound n a → (a.routes k).direction ≡ direction_number Receives → ImageBound a.image (a.routes k).cell (a.routes k).data_id Receives bound
     → (x + base ≤ bound) ⊎ (18446744073709551615 ≤ bound) → x + base < (a.routes k).counter + window + reserve → AskedWrites m n k reserve window a c → x + base + m * reserve < (c.routes k).counter + window + reserve
 few_asked zero x base n k reserve window bound a c lt s is kept room small goes =
-    let o = lives_onward n k Receives bound goes.0 a c lt s is kept goes.1 in
+    let o = lives_onward n k Receives bound goes.0 a c lt goes.1.1 s is kept goes.1.0 in
     let later = o.later in
     omega (arith, small, later)
 few_asked (suc m) x base n k reserve window bound a c lt s is kept room small (asked, (goes, (next, (w, rest)))) =
-    let o = lives_onward n k Receives bound goes.0 a asked lt s is kept goes.1 in
+    let o = lives_onward n k Receives bound goes.0 a asked lt goes.1.1 s is kept goes.1.0 in
     let first = o.reached.least in
     let up = written n k reserve window o.reached.bound asked next lt o.sound (o.same.direction ∙ is) o.reached.kept w in
     let near = up.room in

@@ -10,7 +10,7 @@ use Rattle.rathonsi_c.specs.Causes.{IfCause, IsDone}
 use Rattle.rathonsi_c.specs.Images.{ImageBound}
 use Rattle.rathonsi_c.specs.Routes.{IsFreshnessOnly, BoundBelow, BoundCovers, Reserves, status_alone}
 use Rattle.rathonsi_c.specs.Steps.{BoundAnswers, NextFreshness}
-use Rattle.rathonsi_c.specs.Lives.{PlanDone, Memory, Deed, Lives, PlansBound, FinishesPlan}
+use Rattle.rathonsi_c.specs.Lives.{PlanDone, Memory, Deed, Lives, PlansBound, FinishesPlan, NeverRejoins}
 
 -- the freshness is one to the window above the counter
 pub record WithinWindow (counter window freshness : ℕ) : Type 0 where
@@ -73,9 +73,9 @@ CandidateWrites (suc n) r image =
 
 -- ---- over all lives
 
--- what a caller with n routes may do in between: any deeds of any lives
-abbrev pub LivesBetween : ℕ → Memory → Memory → Type 0
-LivesBetween n a c = (deeds : List Deed) × Lives n deeds a c
+-- what a caller with n routes may do in between: any deeds of any lives in which route k doesn't rejoin
+abbrev pub LivesBetween : (n k : ℕ) → Memory → Memory → Type 0
+LivesBetween n k a c = (deeds : List Deed) × (Lives n deeds a c × NeverRejoins k deeds)
 
 -- Route k is asked for a candidate. Its freshness, which no bound covers when the plan is made, is reserved, and the
 -- plan is done. The window is at most this when it is asked, and the reserve at least this when it is planned.
@@ -86,20 +86,20 @@ pub record WritesWhenAsked (n k reserve window : ℕ) (asked next : Memory) : Ty
   pub truncated : ℕ
   pub bits : ℕ
   pub window_most : (asked.routes k).window ≤ window
-  pub waits : LivesBetween n asked planning
+  pub waits : LivesBetween n k asked planning
   pub reserve_least : reserve ≤ (planning.routes k).reserve
   pub plans : PlansBound n k planning planned
   pub candidate : AheadWithBits (asked.routes k).counter (asked.routes k).window bits truncated plans.freshness
   pub uncovered : BoundBelow (planning.routes k) planning.image Receives plans.freshness
-  pub writes : LivesBetween n planned finishing
+  pub writes : LivesBetween n k planned finishing
   pub image_stays : finishing.image ≡ planned.image
   pub plan_stays : finishing.plan ≡ planned.plan
   pub done : FinishesPlan finishing next
 
 -- so many times, one after the other; whatever else is done before each, and after the last
 abbrev pub AskedWrites : ℕ → ℕ → ℕ → ℕ → ℕ → Memory → Memory → Type 0
-AskedWrites zero n k reserve window a c = LivesBetween n a c
+AskedWrites zero n k reserve window a c = LivesBetween n k a c
 AskedWrites (suc m) n k reserve window a c =
-    (asked : Memory) × (LivesBetween n a asked
+    (asked : Memory) × (LivesBetween n k a asked
     × ((next : Memory) × (WritesWhenAsked n k reserve window asked next
     × AskedWrites m n k reserve window next c)))

@@ -15,6 +15,7 @@ pub mod Steps
 pub mod Syncing
 pub mod Rejoining
 pub mod Pairs
+pub mod Together
 pub mod Nonces
 pub mod Growing
 pub mod Softwares

@@ -16,6 +16,7 @@ use Rattle.rathonsi_c.specs.declared.route.RathonsiRoute.{RathonsiRoute}
 use Rattle.rathonsi_c.specs.Images.{ImageBound, ImageSlot}
 use Rattle.rathonsi_c.specs.Routes.{InRanges, IsOpened, Opens, RouteAdvances, Reserves}
 use Rattle.rathonsi_c.specs.Slots.{LoadsSlot}
+use Rattle.rathonsi_c.specs.Rejoining.{Rejoins}
 
 -- what the caller holds: the image, the plan, and its routes by their numbers
 pub record Memory : Type 0 where
@@ -27,11 +28,13 @@ pub record Memory : Type 0 where
 -- or accepted from it, or becomes a nonce; an answer of the other side that tells this counter is taken by a route; a
 -- route is opened again; a field of it that doesn't say which route it is, nor its counter, nor opens it, is set; a bound
 -- is planned for a route, or an update for a slot; a plan is dropped before a write of it was begun; a plan is done, and
--- the caller says so; the power comes back, whenever it went. A rejoin lowers a counter: `Pairs` speaks of it.
+-- the caller says so; the power comes back, whenever it went. A receiver's route rejoins: its counter becomes this one,
+-- also a lower one.
 pub data Deed : Type 0 where
   sends : (route : ℕ) → (freshness : ℕ) → Deed
   accepts : (route : ℕ) → (freshness : ℕ) → Deed
   takes : (route : ℕ) → (counter : ℕ) → Deed
+  rejoins : (route : ℕ) → (counter : ℕ) → Deed
   opens : (route : ℕ) → Deed
   sets : (route : ℕ) → Deed
   reserves : (route : ℕ) → Deed
@@ -67,6 +70,11 @@ pub record OpensFilled (r : RathonsiRoute) (image : List ℕ) (opened : Rathonsi
 pub record GivesOut (direction : Direction) (n k freshness : ℕ) (a b : Memory) : Type 0 where
   pub changes : ChangesRoute n k a b
   pub advances : RouteAdvances direction (a.routes k) a.image freshness (b.routes k)
+
+-- `rathonsi_sync_rejoin` on route k, in one step or in two
+pub record RejoinsRoute (n k counter : ℕ) (a b : Memory) : Type 0 where
+  pub changes : ChangesRoute n k a b
+  pub rejoined : Rejoins (a.routes k) a.image counter (b.routes k)
 
 -- `rathonsi_route_open` of route k, within a life
 pub record OpensRoute (n k : ℕ) (a b : Memory) : Type 0 where
@@ -127,6 +135,7 @@ abbrev pub DoesDeed : ℕ → Deed → Memory → Memory → Type 0
 DoesDeed n (sends k freshness) a b = GivesOut Sends n k freshness a b
 DoesDeed n (accepts k freshness) a b = GivesOut Receives n k freshness a b
 DoesDeed n (takes k counter) a b = (direction : Direction) × GivesOut direction n k counter a b
+DoesDeed n (rejoins k counter) a b = RejoinsRoute n k counter a b
 DoesDeed n (opens k) a b = OpensRoute n k a b
 DoesDeed n (sets k) a b = SetsFields n k a b
 DoesDeed n (reserves k) a b = PlansBound n k a b
@@ -158,6 +167,7 @@ given_out k [] = []
 given_out k (sends j freshness ∷ deeds) = if j == k then freshness ∷ given_out k deeds else given_out k deeds
 given_out k (accepts j freshness ∷ deeds) = if j == k then freshness ∷ given_out k deeds else given_out k deeds
 given_out k (takes j counter ∷ deeds) = given_out k deeds
+given_out k (rejoins j counter ∷ deeds) = given_out k deeds
 given_out k (opens j ∷ deeds) = given_out k deeds
 given_out k (sets j ∷ deeds) = given_out k deeds
 given_out k (reserves j ∷ deeds) = given_out k deeds
@@ -165,6 +175,25 @@ given_out k (loads slot ∷ deeds) = given_out k deeds
 given_out k (drops ∷ deeds) = given_out k deeds
 given_out k (finishes ∷ deeds) = given_out k deeds
 given_out k (powers_up ∷ deeds) = given_out k deeds
+
+-- the deed is a rejoin of this route
+abbrev pub rejoins_it : ℕ → Deed → Bool
+rejoins_it k (sends j freshness) = false
+rejoins_it k (accepts j freshness) = false
+rejoins_it k (takes j counter) = false
+rejoins_it k (rejoins j counter) = j == k
+rejoins_it k (opens j) = false
+rejoins_it k (sets j) = false
+rejoins_it k (reserves j) = false
+rejoins_it k (loads slot) = false
+rejoins_it k drops = false
+rejoins_it k finishes = false
+rejoins_it k powers_up = false
+
+-- the route doesn't rejoin
+abbrev pub NeverRejoins : ℕ → List Deed → Type 0
+NeverRejoins k [] = Unit {0}
+NeverRejoins k (deed ∷ deeds) = (rejoins_it k deed ≡ false) × NeverRejoins k deeds
 
 -- each number is above the one before it, the first above `low`, and none is above `high`
 abbrev pub RisesTo : ℕ → List ℕ → ℕ → Type 0
@@ -205,6 +234,7 @@ abbrev pub planned_behind : ℕ → Bool → Deed → Bool
 planned_behind slot planned (sends k freshness) = planned
 planned_behind slot planned (accepts k freshness) = planned
 planned_behind slot planned (takes k counter) = planned
+planned_behind slot planned (rejoins k counter) = planned
 planned_behind slot planned (opens k) = planned
 planned_behind slot planned (sets k) = planned
 planned_behind slot planned (reserves k) = planned
@@ -222,6 +252,7 @@ abbrev pub BeginsNone : Bool → Deed → Type 0
 BeginsNone planned (sends k freshness) = Unit {0}
 BeginsNone planned (accepts k freshness) = Unit {0}
 BeginsNone planned (takes k counter) = Unit {0}
+BeginsNone planned (rejoins k counter) = Unit {0}
 BeginsNone planned (opens k) = Unit {0}
 BeginsNone planned (sets k) = Unit {0}
 BeginsNone planned (reserves k) = Unit {0}

@@ -49,13 +49,15 @@ pub record Rejoins (r : RathonsiRoute) (image : List ℕ) (told : ℕ) (next : R
   pub covered : BoundCovers r image Receives told
   pub now : next ≡ at_counter r told
 
--- the answer tells this counter, to whoever asks this, under the key of the route's slot
+-- the answer tells this counter, to whoever asks this, under the key of the route's slot; it is above the route's, or no
+-- call moved that since the route was opened
 pub record RejoinedBy (r : RathonsiRoute) (image : List ℕ) (q : RathonsiQuestion) (answer : List ℕ) (told : ℕ)
     : Type 0 where
   pub asks : AsksAnother q
   pub key : List ℕ
   pub keyed : ImageKey image r.slot (is_booted r) key
   pub told_so : AnswersWith key (asked_by r q) told answer
+  pub may : (r.counter < told) ⊎ (r.opened ≡ FRESH)
 
 -- the verdict by this MAC, of which the caller says that it is that of the input
 pub record JudgesRejoinBy (r : RathonsiRoute) (image answer mac : List ℕ) (verdict : RathonsiVerdict) : Type 0 where

@@ -14,7 +14,7 @@ use Rattle.store_plan.specs.Leaving.{LeavesPut}
 use Rattle.rathonsi_c.specs.declared.route.RathonsiRoute.{RathonsiRoute}
 use Rattle.rathonsi_c.specs.Growing.{SaysSize, PlansNumber, PlansCell, IsSpare}
 use Rattle.rathonsi_c.specs.Images.{ImageBound}
-use Rattle.rathonsi_c.specs.Lives.{Memory, Deed, Lives, SameRoute, OpensFilled, given_out}
+use Rattle.rathonsi_c.specs.Lives.{Memory, Deed, Lives, SameRoute, OpensFilled, given_out, NeverRejoins}
 use Rattle.rathonsi_c.specs.Routes.{InRanges}
 use Rattle.rathonsi_c.specs.Stores.{RouteIdIsHeld}
 
@@ -79,6 +79,11 @@ AllSoftware table (s ∷ rest) a room c end =
 abbrev pub given_by_all : ℕ → List Software → List ℕ
 given_by_all k [] = []
 given_by_all k (s ∷ rest) = given_out k s.deeds ++ given_by_all k rest
+
+-- the route rejoins in no software
+abbrev pub NoneRejoins : ℕ → List Software → Type 0
+NoneRejoins k [] = Unit {0}
+NoneRejoins k (s ∷ rest) = NeverRejoins k s.deeds × NoneRejoins k rest
 
 -- the image keeps a bound of the route that is at least this
 pub record KeepsAtLeast (low : ℕ) (r : RathonsiRoute) (image : List ℕ) : Type 0 where

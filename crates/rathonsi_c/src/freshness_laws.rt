@@ -52,8 +52,9 @@ pub fn a_reserved_freshness_is_covered()
 
 /// While the counter of a route stays, candidates make a caller do at most (`window` + `reserve` - 1) / `reserve` plans,
 /// rounded down, whoever sends them (`alone`). Over all lives with any other deeds, more plans are paid by the counter:
-/// it rises by more than `reserve` times the plans, less `window` and `reserve` (`over_all_lives`). Power-ups, PDUs that
-/// are accepted and answers that are taken make it rise. A plan that is cut or dropped isn't counted.
+/// it rises by more than `reserve` times the plans, less `window` and `reserve` (`over_all_lives`), if the route doesn't
+/// rejoin. Power-ups, PDUs that are accepted and answers that are taken make it rise. A plan that is cut or dropped isn't
+/// counted.
 pub fn candidates_make_few_writes()
     ensures alone { (n : ℕ) (r : RathonsiRoute) (image : List ℕ) (bound : ℕ) → InUse r Receives
         → ImageBound image r.cell r.data_id Receives bound → r.counter ≤ bound → CandidateWrites n r image

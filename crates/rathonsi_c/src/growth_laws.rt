@@ -19,20 +19,20 @@ ghost use Rattle.rathonsi_c.specs.Lives.{Memory, Deed, Lives, SameRoute, RisesTo
 ghost use Rattle.rathonsi_c.specs.Routes.{InRanges, OpenAnswers};
 ghost use Rattle.rathonsi_c.specs.Slots.{ConfirmsSlot};
 ghost use Rattle.rathonsi_c.specs.Softwares.{Table, CellsApart, GrowthSteps, SoftwareComesUp, Software, AllSoftware};
-ghost use Rattle.rathonsi_c.specs.Softwares.{given_by_all, KeepsAtLeast, StoreWithRoom, HasOwnCell, HasFirstBound};
+ghost use Rattle.rathonsi_c.specs.Softwares.{given_by_all, NoneRejoins, KeepsAtLeast, StoreWithRoom, HasOwnCell, HasFirstBound};
 ghost use Rattle.rathonsi_c.specs.Stores.{IsWhole, CheckAnswers};
 
 /// A unit gets new software with more routes, over whatever cuts, goes back to older software, and forward again, as
-/// often as one likes. The freshness of each route rises over all of it (`rises`). If the image keeps a bound of the
-/// route at first, all freshness is above what that covers, and what the power leaves in the end keeps a bound that is
-/// at least all that the route gave out (`covered`).
+/// often as one likes. The freshness of each route that doesn't rejoin rises over all of it (`rises`). If the image keeps
+/// a bound of the route at first, all freshness is above what that covers, and what the power leaves in the end keeps a
+/// bound that is at least all that the route gave out (`covered`).
 pub fn freshness_rises_over_all_software()
     ensures rises { (table : Table) (softwares : List Software) (a c : Memory) (room end : List ℕ) → CellsApart table
         → IsEmptyPlan a.plan → IsWhole a.image → AllSoftware table softwares a room c end → (k : ℕ)
-        → (high : ℕ) × RisesTo 0 (given_by_all k softwares) high }
+        → NoneRejoins k softwares → (high : ℕ) × RisesTo 0 (given_by_all k softwares) high }
     ensures covered { (table : Table) (softwares : List Software) (a c : Memory) (room end : List ℕ) (k low : ℕ)
         → CellsApart table → IsEmptyPlan a.plan → IsWhole a.image → AllSoftware table softwares a room c end
-        → KeepsAtLeast low (table.route k) a.image
+        → NoneRejoins k softwares → KeepsAtLeast low (table.route k) a.image
         → (high : ℕ) × (RisesTo low (given_by_all k softwares) high
         × ((left : List ℕ) → LeavesPut c.plan c.image left → KeepsAtLeast high (table.route k) left)) }
 {}
@@ -73,13 +73,13 @@ pub fn a_roll_back_opens()
         → InRanges filled direction → OpenAnswers filled (take size y) status → status ≡ OK }
 {}
 
-/// The line erased the room up to cell `top`. Then each call of a growth is answered OK, whatever calls of whichever
-/// software came before it, and wherever in their plans the power went: for a cell that the store has, and for the
-/// next one (`each_is_ok`). No cell is lost (`goes_on`). Each is as it was, or holds the first bound of its route, if
-/// it was nobody's (`cells`, `kept`).
+/// The line erased the room up to cell `top`, above each cell of the table that a store can have. Then each call of a
+/// growth is answered OK, whatever calls of whichever software came before it, and wherever in their plans the power
+/// went: for a cell that the store has, and for the next one (`each_is_ok`). No cell is lost (`goes_on`). Each is as it
+/// was, or holds the first bound of its route, if it was nobody's (`cells`, `kept`).
 pub fn a_store_gets_all_its_cells()
     ensures goes_on { (table : Table) (steps n top : ℕ) (x y : List ℕ) → StoreWithRoom n top x
-        → ((k : ℕ) → (table.route k).cell < top) → GrowthSteps table steps x y
+        → ((k : ℕ) → (table.route k).cell < 270 → (table.route k).cell < top) → GrowthSteps table steps x y
         → (m : ℕ) × (StoreWithRoom m top y × (n ≤ m)) }
     ensures cells { (table : Table) (steps j : ℕ) (x y : List ℕ) → GrowthSteps table steps x y
         → (cell_at y j ≡ cell_at x j) ⊎ HasFirstBound table y j }

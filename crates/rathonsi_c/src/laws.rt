@@ -5,6 +5,8 @@ ghost use Rattle.cell_store.specs.declared.kinds.Version.TheVariants.{One};
 ghost use Rattle.cell_store.specs.Layout.{twin_layout};
 ghost use Rattle.cell_store.specs.Store.{Stands};
 ghost use Rattle.cell_store.specs.Twin.{twin_size, cell_at};
+ghost use Rattle.freshness_routes.specs.declared.routes.Direction.TheVariants.{Sends};
+ghost use Rattle.freshness_store.specs.Bound.{direction_number};
 ghost use Rattle.memory_update.specs.Loading.{slot_of};
 ghost use Rattle.memory_update.specs.declared.messages.Reply.{Reply};
 ghost use Rattle.store_plan.specs.declared.planning.Plan.{Plan};
@@ -21,7 +23,7 @@ ghost use Rattle.rathonsi_c.specs.Slots.{ConfirmsSlot};
 ghost use Rattle.rathonsi_c.specs.Stores.{IsWhole};
 ghost use Rattle.rathonsi_c.specs.Lives.{Memory, Deed, PoweredUp, Lives, OpensFilled, PowerBack, PlanDone, RisesTo};
 ghost use Rattle.rathonsi_c.specs.Lives.{FinishesPlan};
-ghost use Rattle.rathonsi_c.specs.Lives.{given_out, CounterCovered};
+ghost use Rattle.rathonsi_c.specs.Lives.{given_out, NeverRejoins, CounterCovered};
 ghost use Rattle.rathonsi_c.specs.Lives.{NoUpdatePlanned, PlannedAs, NoneBegun, planned_after, UpdateDone, SlotFilled};
 ghost use Rattle.rathonsi_c.specs.declared.TheConstants.{OK, RESERVE};
 ghost use Rattle.rathonsi_c.specs.declared.route.RathonsiRoute.{RathonsiRoute};
@@ -52,13 +54,18 @@ pub fn the_power_comes_back_on_a_flash()
         → PlansPut a.plan a.image i new → FinishesPlan a b → IsImageOf b.image d.cells }
 {}
 
-/// The freshness that a route sends, or accepts, strictly rises over all its lives, whenever the power goes. The caller
-/// keeps its duties, and else does with a store of several routes and slots what it likes. Key, window, reserve and
-/// boot may change. Freshness stays at most the counter, and whatever the power leaves keeps a bound that covers the
-/// counter. A route is a Data ID in one direction: no two routes have both.
+/// The freshness that a route sends, or accepts, strictly rises over all its lives, whenever the power goes, unless it
+/// rejoins ([`crate::rejoin_laws`] speaks of it then); what the other routes do plays no part. A route that sends never
+/// rejoins (`senders`). The caller keeps its duties, and else does with a store of several routes and slots what it
+/// likes. Key, window, reserve and boot may change. Freshness stays at most the counter, and whatever the power leaves
+/// keeps a bound that covers the counter, also if the route rejoins. A route is a Data ID in one direction: no two
+/// routes have both.
 pub fn freshness_rises_over_all_lives()
     ensures rises { (n : ℕ) (deeds : List Deed) (first last : Memory) → PoweredUp n first → Lives n deeds first last
-        → (k : ℕ) → k < n → RisesTo (first.routes k).counter (given_out k deeds) (last.routes k).counter }
+        → (k : ℕ) → k < n → NeverRejoins k deeds
+        → RisesTo (first.routes k).counter (given_out k deeds) (last.routes k).counter }
+    ensures senders { (n : ℕ) (deeds : List Deed) (first last : Memory) → Lives n deeds first last → (k : ℕ) → k < n
+        → (first.routes k).direction ≡ direction_number Sends → NeverRejoins k deeds }
     ensures covered { (n : ℕ) (deeds : List Deed) (first last : Memory) → PoweredUp n first → Lives n deeds first last
         → (k : ℕ) → k < n → (image : List ℕ) → LeavesPut last.plan last.image image
         → CounterCovered (last.routes k) image }

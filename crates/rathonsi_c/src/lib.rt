@@ -40,6 +40,7 @@ mod steps;
 mod store;
 mod sync;
 pub mod sync_laws;
+pub mod together_laws;
 
 pub use aes::{
     rathonsi_aes128_cbc_decrypt, rathonsi_aes128_cbc_encrypt, rathonsi_aes128_decrypt,

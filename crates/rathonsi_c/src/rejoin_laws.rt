@@ -2,23 +2,53 @@
 //! law, and its body is empty.
 ghost use Rattle.std.specs.Prelude.{◌≡◌, ◌≢◌, ◌⊎◌, ◌+◌, ◌^◌, ◌<◌, ◌∷◌, ℕ, List, length};
 ghost use Rattle.counter_answers.specs.Answering.{SharesMac};
+ghost use Rattle.freshness_routes.specs.declared.routes.Direction.TheVariants.{Receives};
+ghost use Rattle.she_cmac.specs.Cmac.{cmac};
 ghost use Rattle.rathonsi_c.specs.Nonces.{MakesNonce, nonce_input};
+ghost use Rattle.rathonsi_c.specs.Rejoining.{RejoinAnswers, RejoinMacAnswers, RejoinedBy};
+ghost use Rattle.rathonsi_c.specs.Routes.{RouteReady};
+ghost use Rattle.rathonsi_c.specs.Syncing.{input_of_answer};
+ghost use Rattle.rathonsi_c.specs.declared.TheConstants.{OK, RESERVE};
 ghost use Rattle.rathonsi_c.specs.declared.route.RathonsiRoute.{RathonsiRoute};
+ghost use Rattle.rathonsi_c.specs.declared.secoc.RathonsiVerdict.{RathonsiVerdict};
+ghost use Rattle.rathonsi_c.specs.declared.sync.RathonsiAnswerInput.{RathonsiAnswerInput};
+ghost use Rattle.rathonsi_c.specs.declared.sync.RathonsiQuestion.{RathonsiQuestion};
 ghost use Rattle.rathonsi_c.specs.Lives.{PoweredUp, RisesTo};
 ghost use Rattle.rathonsi_c.specs.Pairs.{Pair, PairDeed, PairLives, StaysOpen, AllGenuine, nothing_seen, accepted_of_route};
 
-/// What a receiver accepts strictly rises over all lives of both units, whenever the power of either goes, though it
-/// rejoins; and the sender's counter is at least that (`all_lives`). This holds if each PDU that it accepted is one that
-/// its sender sent, and each answer that it rejoined by is one that the sender made since the route was opened. Without
-/// these two, it rises from an opening of the route to the next (`one_life`).
+/// What a receiver's route accepts strictly rises over all lives of both units, whenever the power of either goes, though
+/// it rejoins, and other routes of the unit do; and the sender's counter is at least that (`all_lives`). This holds if
+/// each PDU that it accepted is one that its sender sent, and each answer that it rejoined by is one that the sender
+/// made since the route was opened. Without these two, it rises from an opening of the route to the next (`one_life`).
 pub fn freshness_rises_though_a_receiver_rejoins()
     ensures all_lives { (m n s r : ℕ) (deeds : List PairDeed) (first last : Pair) → PoweredUp m first.sender
-        → PoweredUp n first.receiver → s < m → r < n → PairLives m n s r deeds first last
+        → PoweredUp n first.receiver → s < m → r < n → PairLives m n s deeds first last
         → AllGenuine s r nothing_seen deeds → RisesTo 0 (accepted_of_route r deeds) (last.sender.routes s).counter }
     ensures one_life { (m n s r : ℕ) (before deeds : List PairDeed) (first mid last : Pair)
-        → PoweredUp n first.receiver → r < n → PairLives m n s r before first mid
-        → PairLives m n s r deeds mid last → StaysOpen r deeds
+        → PoweredUp n first.receiver → r < n → PairLives m n s before first mid
+        → PairLives m n s deeds mid last → StaysOpen r deeds
         → RisesTo 0 (accepted_of_route r deeds) (last.receiver.routes r).counter }
+{}
+
+/// A rejoin moves a counter, or asks for a reserve, only to the counter that the answer tells, and only if the MAC of it
+/// is that of the question and of this counter under the key of the route's slot. A counter goes down only if no call
+/// moved it since the route was opened.
+pub fn a_counter_goes_down_by_its_key_alone()
+    ensures moved { (r : RathonsiRoute) (image answer : List ℕ) (q : RathonsiQuestion) (verdict : RathonsiVerdict)
+        → RejoinAnswers r image q answer verdict → verdict.status ≡ OK
+        → RejoinedBy r image q answer verdict.freshness }
+    ensures reserved { (r : RathonsiRoute) (image answer : List ℕ) (q : RathonsiQuestion) (verdict : RathonsiVerdict)
+        → RejoinAnswers r image q answer verdict → verdict.status ≡ RESERVE
+        → RejoinedBy r image q answer verdict.freshness }
+{}
+
+/// A rejoin in one step is one in two steps with the CMAC of the input under the key of the slot: both give the same
+/// verdict.
+pub fn a_rejoin_is_two_steps()
+    ensures { (r : RathonsiRoute) (image key answer : List ℕ) (q : RathonsiQuestion) (bound : ℕ)
+        (input : RathonsiAnswerInput) (one two : RathonsiVerdict) → RouteReady r Receives image key bound
+        → input ≡ input_of_answer r q answer → RejoinAnswers r image q answer one
+        → RejoinMacAnswers r image q answer input (cmac key input.bytes) two → one ≡ two }
 {}
 
 /// Two nonces of one key are the same only if two messages have one CMAC under it, or both are made of one count of one

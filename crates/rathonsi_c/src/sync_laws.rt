@@ -10,18 +10,19 @@ ghost use Rattle.rathonsi_c.specs.Routes.{IsFreshnessOnly, RouteReady, RouteAdva
 ghost use Rattle.rathonsi_c.specs.Routes.{is_booted};
 ghost use Rattle.rathonsi_c.specs.Syncing.{AnsweredBy, SyncTakeAnswers, TookAnswer, TakeMacAnswers, asked_of, asked_by};
 ghost use Rattle.rathonsi_c.specs.Syncing.{way_of, input_with, input_of_answer};
+ghost use Rattle.rathonsi_c.specs.Rejoining.{RejoinedBy};
 ghost use Rattle.rathonsi_c.specs.declared.sync.RathonsiAnswerInput.{RathonsiAnswerInput};
 ghost use Rattle.rathonsi_c.specs.declared.sync.RathonsiQuestion.{RathonsiQuestion};
-ghost use Rattle.rathonsi_c.specs.Lives.{Memory, Deed, PoweredUp, Lives, RisesTo, given_out};
+ghost use Rattle.rathonsi_c.specs.Lives.{Memory, Deed, PoweredUp, Lives, RisesTo, given_out, NeverRejoins};
 ghost use Rattle.rathonsi_c.specs.declared.TheConstants.{OK, RESERVE};
 ghost use Rattle.rathonsi_c.specs.declared.route.RathonsiRoute.{RathonsiRoute};
 ghost use Rattle.rathonsi_c.specs.declared.secoc.RathonsiVerdict.{RathonsiVerdict};
 
-/// All freshness that a route sends after its answer, in this life and in every later one, is above the counter that
-/// the answer tells.
+/// All freshness that a route gives out after its answer, in this life and in every later one, is above the counter that
+/// the answer tells, unless the route rejoins.
 pub fn freshness_after_an_answer_is_above_it()
     ensures { (n : ℕ) (before after : List Deed) (first mid last : Memory) (k : ℕ) → PoweredUp n first
-        → Lives n before first mid → Lives n after mid last → k < n
+        → Lives n before first mid → Lives n after mid last → k < n → NeverRejoins k after
         → (q : RathonsiQuestion) (answer : List ℕ) → AnsweredBy (mid.routes k) mid.image q answer
         → (mac : List ℕ) (told : ℕ) → TellsWith mac told answer
         → RisesTo told (given_out k after) (last.routes k).counter }
@@ -41,7 +42,7 @@ pub fn a_counter_is_moved_by_its_key_alone()
 
 /// What is taken is the answer to this question: to its nonce, by the unit that was asked, for the route of the other
 /// direction. Else two messages have one CMAC under the key (`asked`). So a unit that answers and asks under its own
-/// name takes no answer of its own (`own`).
+/// name takes no answer of its own (`own`). So does one that rejoins (`rejoined`, `own_rejoined`).
 pub fn an_answer_of_its_own_is_not_taken()
     ensures asked { (s r : RathonsiRoute) (sent image answer : List ℕ) (q p : RathonsiQuestion) (told : ℕ)
         (a : AnsweredBy s sent q answer) (t : TookAnswer r image p answer told) → IsQuestion (asked_of s q)
@@ -49,6 +50,14 @@ pub fn an_answer_of_its_own_is_not_taken()
         → SharesMac a.key (answer_input (asked_of s q) s.counter) (answer_input (asked_by r p) told) }
     ensures own { (s r : RathonsiRoute) (sent image answer : List ℕ) (q p : RathonsiQuestion) (told : ℕ)
         (a : AnsweredBy s sent q answer) (t : TookAnswer r image p answer told) → IsQuestion (asked_of s q)
+        → IsQuestion (asked_by r p) → a.key ≡ t.key → q.answerer ≡ p.asker
+        → SharesMac a.key (answer_input (asked_of s q) s.counter) (answer_input (asked_by r p) told) }
+    ensures rejoined { (s r : RathonsiRoute) (sent image answer : List ℕ) (q p : RathonsiQuestion) (told : ℕ)
+        (a : AnsweredBy s sent q answer) (t : RejoinedBy r image p answer told) → IsQuestion (asked_of s q)
+        → IsQuestion (asked_by r p) → a.key ≡ t.key → asked_of s q ≢ asked_by r p
+        → SharesMac a.key (answer_input (asked_of s q) s.counter) (answer_input (asked_by r p) told) }
+    ensures own_rejoined { (s r : RathonsiRoute) (sent image answer : List ℕ) (q p : RathonsiQuestion) (told : ℕ)
+        (a : AnsweredBy s sent q answer) (t : RejoinedBy r image p answer told) → IsQuestion (asked_of s q)
         → IsQuestion (asked_by r p) → a.key ≡ t.key → q.answerer ≡ p.asker
         → SharesMac a.key (answer_input (asked_of s q) s.counter) (answer_input (asked_by r p) told) }
 {}
