@@ -77,8 +77,8 @@ uint16 FvM_GetFaultCell(void);
 void FvM_VerificationStatus(SecOC_VerificationStatusType status);
 
 /* A receiver that is more than its window behind accepts nothing, until it takes an answer of its sender. It makes a question
- * by FvM_MakeQuestion, and sends the nonce with its name, FVM_NAME. The other unit calls FvM_MakeAnswer with them, and sends
- * the 24 bytes back. The receiver calls FvM_TakeAnswer with them. A sender that was put in place of another one asks its
+ * by FvM_MakeQuestion, and sends the nonce with its name, FVM_NAME, and that of the unit that it asks. This one calls
+ * FvM_MakeAnswer, and sends the 24 bytes back. The receiver calls FvM_TakeAnswer with them. A sender that was put in place of another one asks its
  * receiver in the same way. A unit answers under its own name alone, so it takes no answer of its own. Nonce and answer may
  * travel in plain PDUs. The direction is that of this unit's route: RATHONSI_SENDS or _RECEIVES.
  * A route has one question, its last one. It ends with its answer, after FVM_QUESTION_CYCLES of FvM_MainFunction, with the
@@ -94,14 +94,16 @@ boolean FvM_IsBehind(uint16 freshnessId);
  * source: FVM_NONCE_ID or FVM_NONCE_JOB. The question of before stays then. */
 Std_ReturnType FvM_MakeQuestion(uint16 freshnessId, uint8 direction, uint32 answerer, uint8 nonce[16]);
 
-/* E_BUSY: the store is being read, or the crypto stack is busy. E_NOT_OK: no route has this ID and direction, the asker
+/* Answers a question that names this unit, FVM_NAME. Drop one that names another unit: the call can't see it.
+ * E_BUSY: the store is being read, or the crypto stack is busy. E_NOT_OK: no route has this ID and direction, the asker
  * has the name of this unit, or there is no key. */
 Std_ReturnType FvM_MakeAnswer(uint16 freshnessId, uint8 direction, uint32 asker, const uint8 nonce[16],
                               uint8 answer[24]);
 
 /* E_OK: PDUs that were sent after the answer are accepted, within the window. The first of them waits for no bound.
  * E_BUSY: a bound is being written, the store is being read, the crypto stack is busy, or SecOC verifies a PDU of this ID;
- * call again with the same bytes. E_NOT_OK: it is no answer to the question of this route, there is no question, the route
+ * call again with the same bytes. Once they were found right and wait for a bound alone, they aren't looked at again.
+ * E_NOT_OK: it is no answer to the question of this route, there is no question, the route
  * isn't behind, or there is no key. */
 Std_ReturnType FvM_TakeAnswer(uint16 freshnessId, uint8 direction, const uint8 answer[24]);
 
