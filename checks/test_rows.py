@@ -250,9 +250,9 @@ class Row:
     def run_step(self, step, folder, room):
         """Runs a command; raises AssertionError if anything differs."""
         given, wanted = self.wanted_of(step)
-        # a command changes no file but those that its arguments name, and not those of `unchanged`
+        # a command changes no file but those that its arguments name, with SQLite's logs, and not those of `unchanged`
         there, words = set(os.listdir(folder)), self.words(step)
-        stay = there.difference(words, map(os.path.basename, words))
+        stay = {name for name in there if not {name, name.removesuffix("-wal")} & {*words, *map(os.path.basename, words)}}
         stay.update(map(self.names.filled, step.get("unchanged", [])))
         before = {name: read(folder / name) for name in stay}
         run = Run(self, step, folder, room, given)
@@ -301,7 +301,9 @@ class Row:
         if {name.removesuffix("-wal") for name in made} != ({self.names.filled(step["makes"])} if "makes" in step else set()):
             yield f"files that were made: {sorted(made)}"
         for name, it in made.items():
-            if (it.st_mode, it.st_nlink) != (0o100600, 1):
+            # SQLite's log has the mode of its database
+            mode = os.lstat(folder / name.removesuffix("-wal")).st_mode if name.endswith("-wal") else 0o100600
+            if (it.st_mode, it.st_nlink) != (mode, 1):
                 yield f"{name}: mode {it.st_mode:o}, {it.st_nlink} links"
 
     def commands(self):

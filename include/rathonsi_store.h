@@ -66,8 +66,8 @@
  *     questions whose answerer is its own name, and asks under its own alone: the library can't know it.
  *
  *   Power-up
- *   D-15 The caller zeroes the plan as each power-up begins, and whenever all begins again as at
- *     power-up. It does so whatever was planned before, also if the plan's memory outlives a reset.
+ *   D-15 The caller zeroes each plan as each power-up begins, and whenever all begins again as at
+ *     power-up. It does so whatever was planned before, also if a plan's memory outlives a reset.
  *   D-16 Software of a unit that may get an update calls rathonsi_store_mend at each power-up, the
  *     first software, too. Then it calls rathonsi_store_grow for each route that the production line
  *     didn't make, as said there. Then it asks rathonsi_store_size.
@@ -89,7 +89,7 @@
  *     or sectors: memory with error correction over words, NOR flash, many EEPROMs, eMMC. Such
  *     memory keeps this only under an emulation that does.
  *   D-22 A plan that was begun is done, or all begins again as at power-up.
- *   D-23 If a write of a plan fails, the caller makes no further write of the plan and no other call
+ *   D-23 If a write of a plan fails, the caller makes no further write of any plan and no other call
  *     of this header. All begins again as at power-up.
  *   D-24 The caller may drop (zero) a plan if no write of it was begun.
  *

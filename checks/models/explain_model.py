@@ -130,7 +130,7 @@ class Search:
         # every 256th freshness has the low byte that the frame carries
         low = data[own.size] if own.size < len(data) else 0
         for steps in range((own.counter - low) % 256, min(FAR, own.counter + 1), 256):
-            text = f"{steps} behind the last freshness, and not seen in the log"
+            text = f"{steps} behind the last freshness"
             self.fits(text, own.key, own.data_id, own.size, data, own.counter - steps)
         beyond = own.window + 1
         for steps in range(beyond + (low - own.counter - beyond) % 256, beyond + FAR, 256):

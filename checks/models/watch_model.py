@@ -14,6 +14,7 @@ CLASSIC = re.compile(rb"([0-9A-Fa-f]{3}|[0-9A-Fa-f]{8})#(([0-9A-Fa-f]{2}){0,8}|#
 REMOTE = re.compile(rb"([0-9A-Fa-f]{3}|[0-9A-Fa-f]{8})#R[^#]*|[0-9A-Fa-f]{5}#.*")
 TOTAL = re.compile(r"line (\d+) (\S+) (\S+) accepted (\d+) failed (\d+) missed (\d+) last (\S+)")
 COUNT = re.compile(r"(accepted|failed|unmapped|other frames|malformed) (\d+)")
+SILENT = re.compile(r"silent line (\d+) (\S+) (\S+) from (\S+) to (\S+) limit (\S+)")
 OVER = re.compile(r"over (?:line (\d+) (\S+) (\S+) )?(\S+) (\d+) limit (\d+)")
 ANSWER = re.compile(rb'(\{"kind":"frame",)?(?:"frame":)?(\d+)[ ,]')
 
@@ -50,17 +51,35 @@ def kind(words):
     return "other frames" if len(frame[1]) == 8 and identifier < 0x40000000 else "malformed"
 
 
+def micros(word):
+    """A time of seconds in microseconds; None if it is none."""
+    time = re.fullmatch(rb"([0-9]{1,12})(?:\.([0-9]*))?", word)
+    return time and int(time[1]) * 10**6 + int(((time[2] or b"") + b"000000")[:6])
+
+
+def seconds(time):
+    return f"{time // 10**6}.{time % 10**6:06d}"
+
+
+def longest(moments):
+    """The first of the longest times between two moments in a row."""
+    return max(zip(moments, moments[1:]), key=lambda it: it[1] - it[0], default=(0, 0))
+
+
 def limits_of(options):
     """What each of these words of a command line allows at most; None if it is no limit."""
-    given = {"missed": None, "missed-share": None, "malformed": None, "unmapped": None}
+    given = {"missed": None, "missed-share": None, "malformed": None, "unmapped": None, "silent": None}
     for at, word in enumerate(options):
         if word == "--unmapped":
             given["unmapped"] = 0
+        elif word == "--silent":
+            given["silent"] = micros(options[at + 1].encode())
         elif word[2:] in given:
             given[word[2:]] = int(options[at + 1])
     if "--strict" in options:
         for name in ("malformed", "unmapped", *(["missed"] if given["missed-share"] is None else [])):
             given[name] = given[name] or 0
+        given["silent"] = given["silent"] or 5 * 10**6
     return given
 
 
@@ -80,8 +99,13 @@ def totals(map_text, log_text, answers, options=()):
     accepted, failed = [0] * len(mapping), [0] * len(mapping)
     last = [int(words[3], 16) for _, words, _, _ in mapping]
     others = {"unmapped": 0, "other frames": 0, "malformed": 0}
+    moments, heard = [], [[] for _ in mapping]
     for number, line in enumerate(log_text.split(b"\n"), 1):
         words = words_of(line)
+        known = number in answered or words and not words[0].startswith(b"#") and kind(words) != "malformed"
+        time = micros(words[0][1:-1]) if known and len(line) <= 4096 else None
+        if time is not None:
+            moments.append(max([time, *moments[-1:]]))
         if len(line) > 4096:
             others["malformed"] += 1
         elif not words or words[0].startswith(b"#"):
@@ -96,6 +120,7 @@ def totals(map_text, log_text, answers, options=()):
             if answer[2] == b"VERIFICATIONSUCCESS":
                 accepted[place] += 1
                 last[place] = int(answer[3], 16)
+                heard[place] += moments[-1:] if time is not None else []
             else:
                 failed[place] += 1
         else:
@@ -107,6 +132,9 @@ def totals(map_text, log_text, answers, options=()):
         share = -(-100 * missed // values) if values else 0
         what = f"line {number} {head.decode()} {words[1].decode().lower()} "
         over += over_lines(limits, {"missed": missed, "missed-share": share}, what)
+        begin, end = longest([moments[0], *heard[place], moments[-1]]) if moments else (0, 2**64 - 1)
+        if limits["silent"] is not None and not mapping[place][2] and end - begin >= limits["silent"]:
+            over += f"silent {what}from {seconds(begin)} to {seconds(end)} limit {seconds(limits['silent'])}\n"
         text += f"line {number} {head.decode()} {words[1].decode().lower()} accepted {accepted[place]}"
         text += f" failed {failed[place]} missed {missed} last {last[place]:016x}\n"
     text += f"accepted {sum(accepted)}\nfailed {sum(failed)}\n"
@@ -129,6 +157,11 @@ def object_of(line, identifiers):
         number, name, data_id, what, count, limit = over.groups()
         head = {"line": int(number), "name": name, "can": identifiers[int(number)], "id": data_id} if number else {}
         return {"kind": "over", **head, "what": what, "number": int(count), "limit": int(limit)}
+    silent = SILENT.fullmatch(line)
+    if silent:
+        number, name, data_id, begin, end, limit = silent.groups()
+        head = {"line": int(number), "name": name, "can": identifiers[int(number)], "id": data_id}
+        return {"kind": "silent", **head, "from": begin, "to": end, "limit": limit}
     number, name, verdict, *accepted = line.split()
     values = dict(zip(("freshness", "payload"), accepted))
     return {"kind": "frame", "frame": int(number), "name": name, "verdict": verdict, **values}

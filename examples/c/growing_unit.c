@@ -1,9 +1,9 @@
 /*
  * Two control units, of which one sends what the other receives, under one to eight Data IDs: new software adds routes, and the store
  * grows, or a spare cell becomes a route's. Power goes at any byte of any write, and between writes. Older software may start in between,
- * within a growth that was cut, or come back later. The receiver sleeps, falls behind and takes an answer of the sender. An attacker
- * repeats PDUs and answers, and alters answers. No freshness may come twice, no key may be lost, no receiver may stay locked out, and no
- * unit may stay down.
+ * within a growth that was cut, or come back later. The receiver sleeps, falls behind and takes an answer of the sender, or rejoins by
+ * it. An attacker repeats PDUs and answers, and alters answers. No freshness may come twice, no key may be lost, no receiver may stay
+ * locked out, and no unit may stay down.
  *
  *     growing_unit EVENTS [DUTY]
  *
@@ -51,7 +51,8 @@ static uint8_t old_pdus[MOST][KEPT][PDU];
 static uint8_t old_answers[MOST][RATHONSI_ANSWER];
 static unsigned asleep; /* for so many PDUs */
 static int is_lost; /* a unit never comes up again */
-static long units, lost, sent, accepted, refused, replays, cuts, grown, claimed, mended, answers, taken, rolled_back, stopped;
+static long units, lost, sent, accepted, refused, replays, cuts, grown, claimed, mended, answers, taken, rolled_back, stopped,
+    went_down;
 static const char *harm;
 static uint32_t random_state = 2463534242u;
 
@@ -351,28 +352,37 @@ static int send_one(unsigned which, uint8_t *pdu) {
     return 1;
 }
 
+/* What the receiver makes of an answer: it takes it, or rejoins by it. */
+static RathonsiVerdict judge(int is_rejoin, unsigned which, const RathonsiQuestion *question, const uint8_t *answer) {
+    RathonsiRoute *route = &receiver.routes[which];
+    return is_rejoin ? rathonsi_sync_rejoin(route, receiver.image, receiver.size, question, answer)
+                     : rathonsi_sync_take(route, receiver.image, receiver.size, question, answer);
+}
+
 /* The receiver asks the sender for its counter. The attacker comes first, with an old answer and an altered one. */
 static void ask(unsigned which) {
+    int is_rejoin = draw(2) == 0;
     uint8_t answer[RATHONSI_ANSWER], altered[RATHONSI_ANSWER], pdu[PDU];
     RathonsiQuestion question = {2, 1, {0}}; /* the receiver, which is unit 2, asks unit 1 */
     RathonsiRoute *route = &receiver.routes[which];
     RathonsiVerdict verdict;
     fill(question.nonce, sizeof question.nonce);
-    verdict = rathonsi_sync_take(route, receiver.image, receiver.size, &question, old_answers[which]);
+    verdict = judge(is_rejoin, which, &question, old_answers[which]);
     expect(verdict.status == RATHONSI_VERIFICATION_FAILURE, "an old answer is taken");
     expect(rathonsi_sync_answer(&sender.routes[which], sender.image, sender.size, &question, answer) == RATHONSI_OK, "no answer is made");
     memcpy(old_answers[which], answer, sizeof answer);
     memcpy(altered, answer, sizeof answer);
     altered[draw(RATHONSI_ANSWER)] ^= (uint8_t)(1u << draw(8));
-    verdict = rathonsi_sync_take(route, receiver.image, receiver.size, &question, altered);
+    verdict = judge(is_rejoin, which, &question, altered);
     expect(verdict.status == RATHONSI_VERIFICATION_FAILURE, "an altered answer is taken");
     answers++;
-    verdict = rathonsi_sync_take(route, receiver.image, receiver.size, &question, answer);
+    uint64_t before_it = route->counter;
+    verdict = judge(is_rejoin, which, &question, answer);
     if (verdict.status == RATHONSI_RESERVE) {
         expect(verdict.freshness == sender.routes[which].counter, "another counter is to be reserved");
         if (!reserve(&receiver, which, verdict.freshness, 1))
             return;
-        verdict = rathonsi_sync_take(route, receiver.image, receiver.size, &question, answer);
+        verdict = judge(is_rejoin, which, &question, answer);
     }
     if (verdict.status == RATHONSI_FRESHNESS_FAILURE) { /* it isn't behind: it refuses what it reserved before a cut */
         expect(route->counter >= sender.routes[which].counter, "a receiver that is behind is told that it isn't");
@@ -380,6 +390,7 @@ static void ask(unsigned which) {
     }
     expect(verdict.status == RATHONSI_OK && route->counter == sender.routes[which].counter, "an answer isn't taken");
     taken++;
+    went_down += route->counter < before_it;
     long before = cuts;
     if (send_one(which, pdu))
         expect(arrive(which, pdu) || cuts != before, "a PDU after an answer isn't accepted");
@@ -455,10 +466,10 @@ int main(int count, char **words) {
         }
     }
     printf("%ld pairs of units: sent %ld, accepted %ld, refused %ld, repeated %ld, power cuts %ld, cells grown %ld and claimed %ld, numbers "
-           "mended %ld, older software up %ld and stopped %ld, answers %ld, taken %ld\n", units, sent, accepted, refused, replays, cuts,
-           grown, claimed, mended, rolled_back, stopped, answers, taken);
+           "mended %ld, older software up %ld and stopped %ld, answers %ld, taken %ld, of which %ld moved a counter down\n", units, sent, accepted, refused, replays, cuts,
+           grown, claimed, mended, rolled_back, stopped, answers, taken, went_down);
     printf("%s%s%s, units lost %ld\n", duty_names[broken], broken == KEEPS_ALL ? "" : ": ", harm != NULL ? harm : "no harm", lost);
     if (broken != KEEPS_ALL)
         return harm == NULL && lost > 0 ? 0 : 1;
-    return harm == NULL && lost == 0 && grown > 0 && claimed > 0 && mended > 0 && taken > 0 && rolled_back > 0 && stopped == 0 ? 0 : 1;
+    return harm == NULL && lost == 0 && grown > 0 && claimed > 0 && mended > 0 && taken > 0 && went_down > 0 && rolled_back > 0 && stopped == 0 ? 0 : 1;
 }

@@ -2,7 +2,7 @@
 """junit.py MAP [EXPLAINED] <watch.jsonl >junit.xml: what `watch --quiet --json` printed, as a JUnit report for a CI's page.
 
 Each line of the map is a test case, and so is the whole log. A case fails if a frame of its line failed, if it accepted
-none although it isn't optional, or if a limit is exceeded. EXPLAINED is what `explain` printed over the same map and log:
+none although it isn't optional, if it was silent too long, or if a limit is exceeded. EXPLAINED is what `explain` printed over the same map and log:
 its reasons stand with the frames. The status is 0 if no case fails, else 1; 2 if the totals of `watch` aren't there.
 """
 import json
@@ -24,13 +24,15 @@ def optional_in(path):
 
 
 def over_text(it):
-    return f"{it['what']} {it['number']}, limit {it['limit']}"
+    if it["kind"] == "silent":
+        return f"silent from {it['from']} to {it['to']}, limit {it['limit']}"
+    return f"over its limit: {it['what']} {it['number']}, limit {it['limit']}"
 
 
 def report(objects, optional, reasons):
     """The report's element, and how many cases fail."""
     frames = [it for it in objects if it["kind"] == "frame" and it["verdict"] != "VERIFICATIONSUCCESS"]
-    over = [it for it in objects if it["kind"] == "over"]
+    over = [it for it in objects if it["kind"] in ("over", "silent")]
     suite = tree.Element("testsuite", name="rathonsi.watch")
     failures = 0
     for it in objects:
@@ -40,7 +42,7 @@ def report(objects, optional, reasons):
         name = f"{it['name']} ({it['can']}, Data ID {it['id']})" if is_line else "the whole log"
         case = tree.SubElement(suite, "testcase", classname="rathonsi.watch", name=name)
         own = [at for at in over if at.get("line") == it.get("line")]
-        wrong = [f"over its limit: {over_text(at)}" for at in own]
+        wrong = [over_text(at) for at in own]
         if is_line and it["failed"]:
             wrong.insert(0, f"{it['failed']} frames failed")
         if is_line and not it["accepted"] and it["line"] not in optional:

@@ -20,5 +20,8 @@ pub mod Headlines
 pub mod OneRun
 pub mod Doing
 pub mod Summed
+pub mod KeptRun
+pub mod KeptTable
 pub mod OfWords
 pub mod NodeEnds
+pub mod KeptWordsAsked

@@ -1,10 +1,10 @@
 -- How `node` ends: before its disk is opened, as its inputs are refused or memory is out; or over its disk
-use Rattle.std.specs.Prelude.{◌≡◌, ℕ, ◌≤◌, List, [], Vec, Ok, Err}
+use Rattle.std.specs.Prelude.{◌≡◌, ℕ, ◌≤◌, List, [], ◌∷◌, ◌++◌, map, Vec, Ok, Err}
 use Rattle.std.specs.declared.alloc.Global.{Global}
 use Rattle.std.proofs.Common.{refl, subst, sym, ◌∙◌, arith, inl, inr}
 use Rattle.bus_port.specs.Source.{SourceState}
 use Rattle.cut_disk.specs.State.{DiskState}
-use Rattle.file_disk.specs.NamedDisks.{OpenedByWords}
+use Rattle.file_disk.specs.NamedDisks.{IsOpenedBy, OpenedByWords}
 use Rattle.program_edge.specs.declared.input.InputFault.TheVariants as input
 use Rattle.program_edge.specs.Rows.{Row, memory_row}
 use Rattle.program_edge.specs.Endings.{Ending, EndsInRow}
@@ -32,12 +32,14 @@ use Rattle.bus_commands.specs.Rows.{ComesOfInputs, no_form, no_config, config_re
 use Rattle.bus_commands.specs.Rows.{done, without_disks, in_row}
 use Rattle.bus_commands.specs.Steps.{Prepares, AnswersWorld, AnswersReplay, refused_replay, first_done}
 use Rattle.bus_commands.specs.Steps.{DoesNamed, over_disk, no_disk}
-use Rattle.bus_commands.specs.Named.{NamesSources, RunsNamed, ran_over_disk, refused_node}
+use Rattle.bus_commands.specs.Named.{NamesSources, RunsNamed, RefusesNode, ran_over_disk, refused_node}
+use Rattle.bus_commands.specs.Keeping.{DoesKept, kept_over_disk, kept_no_disk, TellsKeptNode, RunsKept, kept_over_opened, refused_unopened}
 use Rattle.bus_commands.proofs.Asking.{apart, asks_one}
 use Rattle.bus_commands.proofs.AskedWords.{names_node}
 use Rattle.bus_commands.proofs.Doing.{ends_world}
 use Rattle.bus_commands.proofs.OneRun.{runs_bus}
-use Rattle.bus_commands.proofs.OfWords.{EndsStarted, runs_opened}
+use Rattle.bus_commands.proofs.OfWords.{EndsStarted, runs_opened, kept_node_run}
+use Rattle.bus_commands.proofs.KeptTable.{tells_kept}
 
 -- ---- before its disk is opened
 
@@ -136,11 +138,11 @@ module _ {D : Type 0} (state : D → DiskState) (opens : List ℕ → SourceStat
     };
   }
 
-  pub node_refused : (name : List ℕ) → NamesDisk words name → o.disks_after ≡ o.disks_before → left.items ≡ []
-      → OverSources (λ i. EndsInRow (ComesOfInputs i) e) → RunsNamed state opens opens_disk o back left words e
-  node_refused name names none empty had =
+  pub refuses_node : (name : List ℕ) → NamesDisk words name → o.disks_after ≡ o.disks_before → left.items ≡ []
+      → OverSources (λ i. EndsInRow (ComesOfInputs i) e) → RefusesNode state opens o back left words e
+  refuses_node name names none empty had =
       let asks = names_node words name names in
-      refused_node (record {
+      record {
         asks = asks;
         not_opened = none;
         no_disks = empty;
@@ -148,7 +150,45 @@ module _ {D : Type 0} (state : D → DiskState) (opens : List ℕ → SourceStat
             (in_row (EndsInRow-more (λ row comes. without_disks row comes refl) had.over.has)));
         in_row = had.over.has;
         statuses = refused_ends (inputs_had had) e asks had.over.has;
-      })
+      }
+
+  pub node_refused : (name : List ℕ) → NamesDisk words name → o.disks_after ≡ o.disks_before → left.items ≡ []
+      → OverSources (λ i. EndsInRow (ComesOfInputs i) e) → RunsNamed state opens opens_disk o back left words e
+  node_refused name names none empty had = refused_node (refuses_node name names none empty had)
+
+  -- ---- of `node --keep`, whose plain arguments these are
+
+  pub kept_refused : (name : List ℕ) → NamesDisk words name → o.disks_after ≡ o.disks_before → left.items ≡ []
+      → OverSources (λ i. EndsInRow (ComesOfInputs i) e) → RunsKept state opens opens_disk o back left words e
+  kept_refused name names none empty had = refused_unopened (refuses_node name names none empty had)
+
+  kept_opened : (name : List ℕ) (disks : Vec D Global) → NamesDisk words name → (opened : IsOpenedBy opens_disk name (map state disks.items))
+      → o.disks_after ≡ o.disks_before ++ name ∷ []
+      → OverSources (λ i. TellsKeptNode (left ≡ disks) i (record { before = map state disks.items; after = map state left.items }) e)
+      → RunsKept state opens opens_disk o back left words e
+  kept_opened name disks names opened once over = kept_over_opened (record {
+    name = name;
+    disk_named = names;
+    disks = disks;
+    opened = opened;
+    opened_once = once;
+    over = over;
+    one_run = λ result did. kept_node_run (inputs_had over) _ e result opened.disk opened.one opened.tells did;
+  })
+
+  pub node_kept : (name : List ℕ) → NamesDisk words name → (j : WorldJob)
+      → OverSources (λ i. Prepares i (Ok (job.World j)))
+      → DoesKept state opens_disk o.disks_before o.disks_after name j left e
+      → RunsKept state opens opens_disk o back left words e
+  node_kept name names j had (kept_over_disk disks opened once does) =
+      let i = inputs_had had in
+      let (is, set) = node_job i name names j had.over.has in
+      kept_opened name disks names opened once
+      (had_more had (tells_kept (left ≡ disks) i (record { before = map state disks.items; after = map state left.items }) e j.bus j.events.items set had.over.has.0.0 does))
+  node_kept name names j had (kept_no_disk none empty seven unwritten) =
+      let i = inputs_had had in
+      let (is, set) = node_job i name names j had.over.has in
+      kept_refused name names none empty (had_more had (valid_memory i e j.bus j.events.items set seven unwritten))
 
   pub node_done : (name : List ℕ) → NamesDisk words name → (j : WorldJob)
       → OverSources (λ i. Prepares i (Ok (job.World j)))

@@ -30,6 +30,8 @@ use Rattle.bus_commands.specs.Inputs.{start_of, OverWorld, OverReplayOf, SetsWor
 use Rattle.bus_commands.specs.StartRows.{disks_between}
 use Rattle.bus_commands.specs.Rows.{DoneReplay, ReplaysScript}
 use Rattle.bus_commands.specs.Commands.{TellFirm}
+use Rattle.bus_commands.specs.Keeping.{KeptEvents}
+use Rattle.kept_starts.proofs.CallerLemmas.{room_before}
 use Rattle.bus_commands.specs.Named.{RunsOver, AreGiven, RunsGiven, NodeIsRun, RunsOpened}
 use Rattle.bus_commands.specs.Named.{RunsNamed, ran_in_memory, ran_over_disk, refused_node, wanted_disks}
 use Rattle.bus_commands.proofs.Asking.{asks_one, same_start}
@@ -103,6 +105,13 @@ module _ (i : BusInputs) (d : DiskStates) (e : Ending) (result : Result (Unit {0
   node_run asks (how, bus, events, set, done) =
       let same = asks_one i.words (World (Replay how)) (World (Replay Attach)) set.asks asks in
       done_run how bus events (same_start how Attach same) set done
+
+  -- and of `node --keep`
+  pub kept_node_run : KeptEvents i d e result → NodeIsRun i d e result
+  kept_node_run (bus, events, set, done) =
+      let enough = room_before bus d.before done.looked done.look done.ran.started.room in
+      let over = done.one_run (opened_tell bus d.before disk one tells enough.enough) in
+      (bus, events, set, (over.first, over.begins, written_run over.first bus d events e result over.replayed))
 
 -- the statuses of a bus that is started, or isn't for want of a store
 abbrev pub EndsStarted : ℕ → Type 0

@@ -28,7 +28,7 @@ seen_more [] last = refl
 seen_more (m ∷ ms) last = ap (λ (xs : Moments). seen (m ∷ []) ++ xs) (seen_more ms last)
 
 -- the same texts were written
-written_as : (text : ℕ → Line → List ℕ) (ms : List (Moment Event Line BusState)) (events : List Event) (before after : SinkState) (result : Result (Unit {0}) Unwritten)
+pub written_as : (text : ℕ → Line → List ℕ) (ms : List (Moment Event Line BusState)) (events : List Event) (before after : SinkState) (result : Result (Unit {0}) Unwritten)
     → Written text before after events result ms → Written text before after events result (seen ms)
 written_as text ms events before after (Ok done) written =
     (same_length ms ∙ written.0, rw (same_lines ms) written.1)

@@ -14,4 +14,5 @@ pub mod Table
 pub mod Commands
 pub mod SharedRuns
 pub mod Named
+pub mod Keeping
 pub mod Steps

@@ -19,7 +19,7 @@ use Rattle.bus_commands.specs.Tasks.{Task, frame, judge, check, replay}
 
 -- the usage line that is printed if the arguments are malformed
 abbrev pub usage : List ℕ
-usage = line (codes "usage: frame F, judge F, check B F, replay B F, trial B N SEED, node B F DISK")
+usage = line (codes "usage: frame F, judge F, check B F, replay B F, trial B N SEED, node [--keep] B F DISK")
 
 -- a line of `frame` is answered by the digits of the frame that is its Secured I-PDU
 abbrev pub TellsFrame : FrameLine → List ℕ → Type 0

@@ -5,12 +5,14 @@
 //! is the headline: what a replay, `node` or a trial did is one run of the machine, with all of `HeadlineRun`. It
 //! speaks of disks that tell their bytes, for `node` without a loose one. [`start::bus_words`] judges the arguments
 //! once, by [`words::command_line`]. It opens the sources that they name, and then the disk, or makes disks in memory,
-//! and promises both records. Inputs that are refused open no disk.
+//! and promises both records. Inputs that are refused open no disk. [`keeping::replay_words`] is the program: it looks
+//! at the whole disk of `node --keep` before the start, which has a table of its own (specs/Keeping.antt).
 #![tactic(auto)]
 
 mod events;
 mod inputs;
 mod job;
+pub mod keeping;
 pub mod laws;
 mod lines;
 mod questions;

@@ -104,7 +104,7 @@ pub(crate) fn run_asked<S: Source, T: Source, K: Sink, D: CutDisk>(
 }
 
 const USAGE: &str =
-    "usage: frame F, judge F, check B F, replay B F, trial B N SEED, node B F DISK\n";
+    "usage: frame F, judge F, check B F, replay B F, trial B N SEED, node [--keep] B F DISK\n";
 
 /// The first phase: the inputs of the command. It ends in a job, or in the first refusal that applies.
 fn prepare<S: Source, T: Source>(

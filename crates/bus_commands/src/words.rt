@@ -3,6 +3,7 @@ ghost use Rattle.std.specs.Prelude.{◌≡◌, ◌↔◌, ◌∷◌, [], None, �
 ghost use Rattle.std.specs.Prelude.{IsTrue, IfSome, IfNone};
 ghost use Rattle.bus_commands.specs.Words.{NamesCommand, NamesBusCommand, NamesCommandOfFour, AreInput};
 ghost use Rattle.bus_commands.specs.Words.{Asks, IsAsked};
+ghost use Rattle.bus_commands.specs.Keeping.{KeepsAs, AsksToKeep};
 ghost use Rattle.bus_commands.specs.declared.words.Command.{Command};
 ghost use Rattle.bus_commands.specs.declared.words.Command.TheVariants.{World};
 ghost use Rattle.bus_commands.specs.declared.words.WorldCommand.TheVariants.{Replay, Trial};
@@ -54,6 +55,62 @@ pub struct CommandLine<'a> {
     /// The argument that names the file of the disk on which a bus goes on: `-` is a file of that name, too. None for
     /// other arguments.
     pub disk: Option<&'a str>,
+}
+
+/// What `node --keep` names.
+#[derive(Drop)]
+pub struct KeptWords<'a> {
+    /// The argument that names the bus file.
+    pub bus: &'a str,
+    /// The argument that names the script.
+    pub file: &'a str,
+    /// The argument that names the file of the disk.
+    pub disk: &'a str,
+}
+
+/// What the arguments `node --keep B F DISK` name; none of other arguments.
+pub(crate) fn kept_words(words: &[String]) -> Option<KeptWords<'_>>
+    ensures some { IfSome result (λ kept. KeepsAs (map string_bytes words.now)
+        (codes "node" ∷ kept.bus.now ∷ kept.file.now ∷ kept.disk.now ∷ [])) }
+    ensures none { IfNone result (¬ AsksToKeep (map string_bytes words.now)) }
+{
+    match words {
+        [name, keep, bus, file, disk] => kept_of_five(
+            name.as_str(),
+            keep.as_str(),
+            bus.as_str(),
+            file.as_str(),
+            disk.as_str(),
+        ),
+        _ => None,
+    }
+}
+
+/// The same of five arguments.
+fn kept_of_five<'a>(
+    name: &str,
+    keep: &str,
+    bus: &'a str,
+    file: &'a str,
+    disk: &'a str,
+) -> Option<KeptWords<'a>>
+    ensures some { IfSome result (λ kept. KeepsAs (name.now ∷ keep.now ∷ bus.now ∷ file.now ∷ disk.now ∷ [])
+        (codes "node" ∷ kept.bus.now ∷ kept.file.now ∷ kept.disk.now ∷ [])) }
+    ensures none { IfNone result
+        (¬ AsksToKeep (name.now ∷ keep.now ∷ bus.now ∷ file.now ∷ disk.now ∷ [])) }
+{
+    if is_node(name) && is_keep(keep) {
+        Some(KeptWords { bus, file, disk })
+    } else {
+        None
+    }
+}
+
+/// Whether this argument asks for a look at the whole disk.
+fn is_keep(option: &str) -> bool
+    ensures { IsTrue result ↔ (option.now ≡ codes "--keep") }
+{
+    option == "--keep"
 }
 
 /// What the arguments ask for, the program's name left out. `B` and `F` may be any text.
@@ -163,7 +220,12 @@ fn with_world<'a>(
 }
 
 /// What they ask for if a bus goes on over its disk.
-fn with_disk<'a>(start: Start, bus: &'a str, file: &'a str, disk: &'a str) -> CommandLine<'a>
+pub(crate) fn with_disk<'a>(
+    start: Start,
+    bus: &'a str,
+    file: &'a str,
+    disk: &'a str,
+) -> CommandLine<'a>
     ensures { (name : List ℕ) → Asks (name ∷ bus.now ∷ file.now ∷ disk.now ∷ []) (World (Replay start))
         → IsAsked (name ∷ bus.now ∷ file.now ∷ disk.now ∷ []) result.command (option_map (λ w. w.now) result.config)
         (option_map (λ w. w.now) result.script) (option_map (λ w. w.now) result.disk) }

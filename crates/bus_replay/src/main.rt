@@ -1,11 +1,11 @@
 //! `bus_replay`: Secured I-PDUs and verdicts (AUTOSAR SecOC, profile 1) from lines of text, and scripts of a
 //! bus.
 //!
-//! [`bus_commands::start::bus_words`] is the program, with all that is promised of it. Here it gets the arguments, the
+//! [`bus_commands::keeping::replay_words`] is the program, with all that is promised of it. Here it gets the arguments, the
 //! files and the disk that they name, standard input and standard output.
 #![tactic(auto)]
 
-use bus_commands::start::bus_words;
+use bus_commands::keeping::replay_words;
 use file_disk::DiskPaths;
 use program_edge::{NO_MEMORY, Paths, StdSink, StdSource, arguments};
 use std::process::ExitCode;
@@ -18,7 +18,7 @@ fn main(rt: HostRuntime) -> ExitCode {
     let Ok(words) = arguments(&rt) else {
         return ExitCode::from(NO_MEMORY);
     };
-    let (status, _config, _script, _disks) = bus_words(
+    let (status, _config, _script, _disks) = replay_words(
         rt.alloc(),
         &mut opener,
         &mut disk_opener,

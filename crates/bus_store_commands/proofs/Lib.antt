@@ -1,4 +1,3 @@
-pub mod StandingTexts
 pub mod CheckTells
 pub mod CheckPromises
 pub mod CheckPhases

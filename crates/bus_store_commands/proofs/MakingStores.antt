@@ -1,11 +1,9 @@
 -- A node's store that is made or found on a disk, from what looks, formats and attaching ensure
-use Rattle.std.specs.Prelude.{◌≡◌, ◌↔◌, ℕ, ◌+◌, ◌-◌, ◌≤◌, Bool, true, false, IsTrue, Option, Some, List, length, take, replicate, Result, Ok, Err, IfErr}
+use Rattle.std.specs.Prelude.{◌≡◌, ◌↔◌, ℕ, ◌+◌, ◌≤◌, Bool, true, false, IsTrue, Option, Some, List, length, Result, Ok, Err, IfErr}
 use Rattle.std.proofs.Common.{refl, sym, ap, ◌∙◌, subst, arith, inl, inr}
 use Rattle.cut_disk.specs.State.{DiskState, Told}
 use Rattle.std.proofs.lemmas.Bool.{false≢true}
-use Rattle.std.proofs.lemmas.List.{take_all}
-use Rattle.cut_disk.specs.Calls.{Rose, IsQuiet, IsDisk, AsBefore}
-use Rattle.cut_disk.specs.Images.{ReadsAs}
+use Rattle.cut_disk.specs.Calls.{Rose, IsQuiet, AsBefore}
 use Rattle.cut_disk.proofs.CallerLemmas.{quiet_never_rose}
 use Rattle.cell_store.specs.declared.kinds.Kind.{Kind}
 use Rattle.cell_store.specs.declared.kinds.Version.{Version}
@@ -33,7 +31,10 @@ use Rattle.bus_world.specs.TakingUp.{cells_in, new_cells}
 use Rattle.bus_world.proofs.CallerLemmas.{standing_not_blank, standing_not_older, standing_not_foreign}
 use Rattle.bus_store_commands.specs.declared.making.MakeFault.{MakeFault}
 use Rattle.bus_store_commands.specs.declared.making.MakeFault.TheVariants as fault
-use Rattle.bus_store_commands.specs.NodeStores.{made, stood, StoreMade, StoreUnmade, FailedToMake, LeftAsItWas, IsNotTaken, fault_of_cells, AllZeros, IsUnused, ZerosUnread, NamesOther}
+use Rattle.bus_store_commands.specs.NodeStores.{made, stood, StoreMade, StoreUnmade, FailedToMake, LeftAsItWas, IsNotTaken, fault_of_cells, fault_of_look, IsUnused, NamesOther}
+use Rattle.disk_looks.specs.declared.looks.LookFault.{LookFault}
+use Rattle.disk_looks.specs.declared.looks.LookFault.TheVariants as look
+use Rattle.disk_looks.specs.Looks.{AllZeros, FailsLook}
 
 -- ---- what a look finds
 
@@ -184,8 +185,9 @@ module _ (kind : Kind) (version : Version) (config : Config) where
         → NamesOther mid after f → StoreUnmade kind version config before after f
     other_named after f not_taken h = grind (arith, left_after, failed_after)
 
-  pub zeros_unread : (before mid : DiskState) (f : StoreFault) → ZerosUnread before mid f → StoreUnmade kind version config before mid (fault.Store f)
-  zeros_unread before mid f h = grind arith
+  pub zeros_unread : (calls : ℕ) (before mid : DiskState) (f : LookFault) → FailsLook calls before mid f → StoreUnmade kind version config before mid (fault.Store (fault_of_look f))
+  zeros_unread calls before mid look.Memory h = (h.told, h.cause)
+  zeros_unread calls before mid look.DiskFailed h = (h.cause, (λ quiet. quiet_never_rose quiet (h.runs.quiet refl quiet) h.cause), inl h.told)
 
   pub look_failed : {calls : ℕ} (before mid : DiskState) → ReadFailed calls before mid
       → StoreUnmade kind version config before mid (fault.Store store.DiskFailed)
@@ -228,24 +230,6 @@ module _ (kind : Kind) (version : Version) (config copy : Config) (is : copy ≡
       (unread_unmade kind version copy (reads (cells_in copy)) (to (cells_in copy)) before after f (subst (λ (k : ℕ). NotAttached (layout kind version) (reads k) (to k) k before after f) cells_are h) of_copy)
 
 -- ---- all bytes of a disk
-
--- one read of as many bytes as the disk has
-pub whole_read : (disk : DiskState) (out : List ℕ) → IsDisk disk → length out ≡ disk.size → ReadsAs disk.told 0 out → (t : Told) → disk.told ≡ Some t
-    → out ≡ t.bytes
-whole_read disk out is sized reads t tells =
-    let long : length t.bytes ≡ length out = is.bytes_sized t tells ∙ sym sized in
-    let e : (0 + length out) - 0 ≡ length out = omega arith in
-    reads t tells ∙ ap (λ (m : ℕ). take m t.bytes) e ∙ take_all (length out) t.bytes (omega (arith, long))
-
--- it is zeros exactly if they are
-pub zeros_read : (disk : DiskState) (out : List ℕ) (size : ℕ) (says : Bool) → IsDisk disk → length out ≡ size → size ≡ disk.size → ReadsAs disk.told 0 out
-    → IsTrue says ↔ (out ≡ replicate size 0) → (t : Told) → disk.told ≡ Some t → IsTrue says ↔ AllZeros t.bytes
-zeros_read disk out size says is sized all reads equal t tells =
-    let same = whole_read disk out is (sized ∙ all) reads t tells in
-    let long : length t.bytes ≡ size = ap length (sym same) ∙ sized in (
-      λ yes. sym same ∙ (equal.0 yes ∙ ap (λ (n : ℕ). replicate n 0) (sym long)),
-      λ zeros. equal.1 (same ∙ (zeros ∙ ap (λ (n : ℕ). replicate n 0) long)),
-    )
 
 -- what is refused, for a weaker reason
 pub if_err_weaker : {X Y : Type 0} (r : Result X Y) (P Q : Y → Type 0) → ((y : Y) → P y → Q y) → IfErr r P → IfErr r Q

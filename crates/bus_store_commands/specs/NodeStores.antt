@@ -1,6 +1,6 @@
 -- The store of a unit whose engine is a node of a bus: how it is made on an unused disk, or why it isn't (SHE
 -- specification, key memory; the cells of bounds are for AUTOSAR SecOC's freshness)
-use Rattle.std.specs.Prelude.{◌≡◌, ◌⊎◌, ℕ, ◌<◌, ◌≤◌, Option, Some, None, List, length, replicate}
+use Rattle.std.specs.Prelude.{◌≡◌, ◌⊎◌, ℕ, ◌<◌, ◌≤◌, Option, Some, None, List, length}
 use Rattle.cut_disk.specs.State.{DiskState, Told}
 use Rattle.cut_disk.specs.Calls.{Rose, IsQuiet}
 use Rattle.cell_store.specs.declared.kinds.Kind.{Kind}
@@ -21,12 +21,11 @@ use Rattle.secoc_node.specs.Cells.{CellsOf, IsKept, SlotsButNoBound}
 use Rattle.bus_world.specs.TakingUp.{cells_in, new_cells}
 use Rattle.bus_world.specs.Opening.{StandsAs}
 use Rattle.store_growing.specs.StoreHeaders.{HeaderStands}
+use Rattle.disk_looks.specs.declared.looks.LookFault.{LookFault}
+use Rattle.disk_looks.specs.declared.looks.LookFault.TheVariants as look
+use Rattle.disk_looks.specs.Looks.{AllZeros}
 use Rattle.bus_store_commands.specs.declared.making.MakeFault.{MakeFault}
 use Rattle.bus_store_commands.specs.declared.making.MakeFault.TheVariants as fault
-
--- all bytes are zeros
-abbrev pub AllZeros : List ℕ → Type 0
-AllZeros x = x ≡ replicate (length x) 0
 
 -- nothing was ever written here: the headers are blank, and so is all else
 abbrev pub IsUnused : Kind → Version → Config → List ℕ → Type 0
@@ -106,12 +105,10 @@ fault_of_cells (cells.BadSlot slot) = fault.BadSlot slot
 fault_of_cells (cells.BadBound place) = fault.BadBound place
 fault_of_cells cells.Memory = fault.Store store.Memory
 
--- the bytes weren't read: there was no memory, or the disk failed
-abbrev pub ZerosUnread : DiskState → DiskState → StoreFault → Type 0
-ZerosUnread before after store.Memory = LeftAsItWas before after
-ZerosUnread before after store.DiskFailed =
-    Rose before.faults after.faults × (¬ IsQuiet before) × (after.told ≡ before.told)
-ZerosUnread before after fault = ⊥
+-- of bytes that weren't read
+abbrev pub fault_of_look : LookFault → StoreFault
+fault_of_look look.DiskFailed = store.DiskFailed
+fault_of_look look.Memory = store.Memory
 
 -- told bytes say which store's header stands, or that none does; or the disk failed, which was only read
 abbrev pub NamesOther : DiskState → DiskState → MakeFault → Type 0

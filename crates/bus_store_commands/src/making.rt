@@ -1,18 +1,18 @@
 //! A node's store on a disk: made if the disk is unused, and found if it stands there.
-ghost use Rattle.std.specs.Prelude.{◌≡◌, ◌↔◌, ◌≤◌, ◌+◌, IsTrue, length, replicate, Some, IfOk, IfErr, OnOk};
+ghost use Rattle.std.specs.Prelude.{◌≡◌, ◌≤◌, ◌+◌, length, Some, IfOk, IfErr};
 ghost use Rattle.any_cells.specs.Either.{layout};
 ghost use Rattle.any_cells.specs.Looking.{IsFound};
 ghost use Rattle.any_cells.specs.declared.looking.Found.TheVariants.{Blank, Standing};
 ghost use Rattle.cell_store.specs.Store.{store_size};
 ghost use Rattle.cut_disk.specs.State.{Told};
-ghost use Rattle.cut_disk.specs.Calls.{AsBefore};
 ghost use Rattle.freshness_routes.specs.Config.{IsConfig};
 ghost use Rattle.bus_store_commands.specs.NodeStores.{StoreMade, StoreUnmade, fault_of_cells};
-ghost use Rattle.bus_store_commands.specs.NodeStores.{AllZeros, IsUnused, ZerosUnread, NamesOther};
+ghost use Rattle.bus_store_commands.specs.NodeStores.{IsUnused, NamesOther, fault_of_look};
 
 use any_cells::{AnyCells, Found, look, store_size};
 use cell_store::{Cells, Kind, StoreFault, Version};
 use cut_disk::{Disk, DiskFailed};
+use disk_looks::{LookFault, is_zeroed};
 use freshness_routes::NodeConfig;
 use key_slots::SlotId;
 use secoc_node::{AttachFault, Node, first_cells};
@@ -140,40 +140,18 @@ fn make_blank<D: Disk>(
         Ok(false) => Err(refuse(disk)),
         Err(fault) => Err(Unmade {
             disk,
-            fault: MakeFault::Store(fault),
+            fault: MakeFault::Store(look_fault(fault)),
         }),
     }
 }
 
-/// Whether all bytes of the disk are zeros: they are read.
-fn is_zeroed<D: Disk>(alloc: Global, disk: &mut D) -> Result<bool, StoreFault>
-    ensures zeros { IfOk result (λ zeros. (t : Told) → (D.state disk.old).told ≡ Some t
-        → (IsTrue zeros ↔ AllZeros t.bytes)) }
-    ensures as_before { OnOk result (AsBefore 1 (D.state disk.old) (D.state disk.new)) }
-    ensures refused { IfErr result (ZerosUnread (D.state disk.old) (D.state disk.new)) }
+/// Why the bytes of a disk weren't read, as a fault of a store.
+fn look_fault(fault: LookFault) -> StoreFault
+    ensures { result ≡ fault_of_look fault }
 {
-    let size = disk.size() as usize;
-    let Ok(zeros) = vec![in alloc; 0; size] else {
-        return Err(StoreFault::Memory);
-    };
-    let Ok(mut bytes) = vec![in alloc; 0; size] else {
-        return Err(StoreFault::Memory);
-    };
-    read_zeros(disk, bytes.as_mut_slice(), zeros.as_slice())
-}
-
-/// The same in room for the bytes, beside as many zeros.
-fn read_zeros<D: Disk>(disk: &mut D, bytes: &mut [u8], zeros: &[u8]) -> Result<bool, StoreFault>
-    requires sized { length bytes.old ≡ (D.state disk.old).size }
-    requires zeros { zeros.now ≡ replicate (D.state disk.old).size 0 }
-    ensures zeros { IfOk result (λ zeros. (t : Told) → (D.state disk.old).told ≡ Some t
-        → (IsTrue zeros ↔ AllZeros t.bytes)) }
-    ensures as_before { OnOk result (AsBefore 1 (D.state disk.old) (D.state disk.new)) }
-    ensures refused { IfErr result (ZerosUnread (D.state disk.old) (D.state disk.new)) }
-{
-    match disk.read(0, bytes) {
-        Ok(()) => Ok(bytes[..] == zeros[..]),
-        Err(DiskFailed) => Err(StoreFault::DiskFailed),
+    match fault {
+        LookFault::DiskFailed => StoreFault::DiskFailed,
+        LookFault::Memory => StoreFault::Memory,
     }
 }
 

@@ -3,7 +3,7 @@ ghost use Rattle.std.specs.Prelude.{◌≡◌, ◌⊎◌, IfOk, IfErr, string_by
 ghost use Rattle.program_edge.specs.Rows.{row_of, memory_row};
 ghost use Rattle.bus_store_commands.specs.StandingRows.{standing_row};
 
-use cell_store::{Kind, Version};
+use disk_looks::standing_text;
 use program_edge::Refusal;
 use std::alloc::{AllocError, Global};
 use store_growing::StoreHeader;
@@ -12,13 +12,7 @@ use store_growing::StoreHeader;
 pub(crate) fn standing_refusal(alloc: Global, there: StoreHeader) -> Refusal
     ensures { (result ≡ standing_row there) ⊎ (result ≡ memory_row) }
 {
-    let cells = there.cells;
-    match (there.layout.kind, there.layout.version) {
-        (Kind::Twin, Version::One) => made(format!(in alloc; "store: twin 1 {cells}\n")),
-        (Kind::Twin, Version::Two) => made(format!(in alloc; "store: twin 2 {cells}\n")),
-        (Kind::Log, Version::One) => made(format!(in alloc; "store: log 1 {cells}\n")),
-        (Kind::Log, Version::Two) => made(format!(in alloc; "store: log 2 {cells}\n")),
-    }
+    made(standing_text(alloc, there))
 }
 
 /// The row of 9 with this text, or out of memory for the text.

@@ -11,5 +11,5 @@ mod looks;
 mod texts;
 
 pub use laws::bytes_are_seen_as_one_thing;
-pub use looks::{LookFault, Seen, look_whole};
+pub use looks::{LookFault, Seen, is_zeroed, look_whole};
 pub use texts::standing_text;

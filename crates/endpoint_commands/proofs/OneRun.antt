@@ -32,6 +32,7 @@ use Rattle.bus_world.proofs.CallerLemmas.{no_disk}
 use Rattle.bus_world.specs.NodeDisks.{mark_at, most_at, tells_failure, fails_at, fits_at, DisksFollow}
 use Rattle.bus_world.specs.WorldRuns.{OneListOfLines}
 use Rattle.bus_world.specs.WorldTurns.{TellFirm, StartsGoOnFirst, GoesOnFirst}
+use Rattle.kept_starts.specs.LookedAt.{look_calls}
 use Rattle.kept_starts.proofs.CallerLemmas.{firm_then, look_at, room_then, same_told}
 use Rattle.endpoint_commands.specs.declared.rules.FrameRule.{FrameRule}
 use Rattle.endpoint_commands.specs.Running.{LineMoment}
@@ -188,7 +189,7 @@ module _ (laws : Laws) (bus : NamedBus) (rules : List FrameRule) (image : Option
   disk_back d = ap (λ (disks : List DiskState). get_or disks 0 d) ran.disks ∙ sym disk_there
 
   abbrev calls : ℕ
-  calls = 3 + start_calls Attach bus.kind (node_line_at bus.nodes 0).config
+  calls = look_calls bus + start_calls Attach bus.kind (node_line_at bus.nodes 0).config
 
   opened_disk : (d : DiskState) → OpenedDisk calls (get_or before 0 d) ran.start.store.disk
   opened_disk d =

@@ -24,7 +24,7 @@ flipped_text byte bit = codes "bit " ++ decimal bit ++ codes " of byte " ++ deci
 abbrev pub reason_text : Reason → List ℕ
 reason_text (reason.Replay number) = text_with_number (codes "replay of line ") number
 reason_text (reason.UsedAgain number) = text_with_number (codes "freshness used again: that of line ") number
-reason_text (reason.Behind steps) = decimal steps ++ codes " behind the last freshness, and not seen in the log"
+reason_text (reason.Behind steps) = decimal steps ++ codes " behind the last freshness"
 reason_text (reason.FarAhead steps window) = ahead_text steps window
 reason_text (reason.OtherLength size) = text_with_number (codes "verifies with a payload of ") size
 reason_text (reason.OtherLine number) = text_with_number (codes "verifies as line ") number

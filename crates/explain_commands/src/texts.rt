@@ -109,7 +109,7 @@ fn push_behind(text: &mut Vec<u8>, steps: usize) -> Result<(), AllocError>
     ensures room { AddsAtMost 180 text.old text.new result }
 {
     push_number(text, steps as u64)?;
-    text.extend_from_slice(b" behind the last freshness, and not seen in the log")
+    text.extend_from_slice(b" behind the last freshness")
 }
 
 /// Adds how far ahead a freshness is, and how many frames too many were missed before it.

@@ -15,4 +15,6 @@ mod parts;
 #[cfg(test)]
 mod plans;
 #[cfg(test)]
+mod seals;
+#[cfg(test)]
 mod starts;

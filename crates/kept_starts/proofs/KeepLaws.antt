@@ -82,12 +82,12 @@ one_kind_stands kind other n x head heads =
     (sym (kind_at kind n x head) ∙ (sym (kept_byte x room) ∙ kind_at other 0 (with_number 0 x) (heads 0)))
 
 -- what a header that stands says
-first_alone : (x : List ℕ) (there : StoreHeader) → HeaderStands x (Some there) → there.layout.version ≡ One
+pub first_alone : (x : List ℕ) (there : StoreHeader) → HeaderStands x (Some there) → there.layout.version ≡ One
     → (¬ HasVersionTwo x) × HasFirstHead there.layout.kind x × (there.cells ≡ cells_counted x)
 first_alone x _ (in_second kind n few head) one = absurd (one_not_two (sym one))
 first_alone x _ (in_first kind none heads) one = (none, heads, refl)
 
-second_there : (x : List ℕ) (there : StoreHeader) → HeaderStands x (Some there) → there.layout.version ≡ Two → HasHeader (layout there.layout.kind Two) there.cells x
+pub second_there : (x : List ℕ) (there : StoreHeader) → HeaderStands x (Some there) → there.layout.version ≡ Two → HasHeader (layout there.layout.kind Two) there.cells x
 second_there x _ (in_second kind n few head) two = head
 second_there x _ (in_first kind none heads) two = absurd (one_not_two two)
 
@@ -129,14 +129,14 @@ blank_head kind Two n x (inr (none, inr (neither, inl (blank, is)))) = blank.1
 blank_head kind Two n x (inr (none, inr (neither, inr (other, is)))) = absurd (let no : ⊥ = cc in no)
 
 -- and the head of version 1 is blank, too
-blank_low : (kind : Kind) (version : Version) (n : ℕ) (x : List ℕ) → IsFound kind version n x Blank → IsBlank One x
+pub blank_low : (kind : Kind) (version : Version) (n : ℕ) (x : List ℕ) → IsFound kind version n x Blank → IsBlank One x
 blank_low kind One n x blank = blank_head kind One n x blank
 blank_low kind Two n x (inl (high, is)) = absurd (let no : ⊥ = cc in no)
 blank_low kind Two n x (inr (none, inl (low, is))) = absurd (let no : ⊥ = cc in no)
 blank_low kind Two n x (inr (none, inr (neither, inl (blank, is)))) = blank.0
 blank_low kind Two n x (inr (none, inr (neither, inr (other, is)))) = absurd (let no : ⊥ = cc in no)
 
-first_not_blank : (kind : Kind) (x : List ℕ) → HasFirstHead kind x → IsBlank One x → ⊥
+pub first_not_blank : (kind : Kind) (x : List ℕ) → HasFirstHead kind x → IsBlank One x → ⊥
 first_not_blank kind x heads blank =
     let zero : get_or x 0 0 ≡ 0 = sym (get_or-take 32 x 0 0 (omega arith)) ∙ ap (λ (l : List ℕ). get_or l 0 0) blank in
     omega (arith, zero, first_begins kind x heads)
@@ -151,7 +151,7 @@ stands_not_blank kind Two n x there stands (inl is) blank =
 stands_not_blank kind version n x there stands (inr (two, is)) blank =
     first_not_blank kind x (first_alone x (store_header kind One n) (subst (λ (h : StoreHeader). HeaderStands x (Some h)) is stands) refl).1 (blank_low kind version n x blank)
 
-blank_zeros : (kind : Kind) (version : Version) (n : ℕ) (x : List ℕ) → CanKeep kind version n x → IsFound kind version n x Blank → AllZeros x
+pub blank_zeros : (kind : Kind) (version : Version) (n : ℕ) (x : List ℕ) → CanKeep kind version n x → IsFound kind version n x Blank → AllZeros x
 blank_zeros kind version n x (inl zeros) blank = zeros
 blank_zeros kind version n x (inr (there, stands, wanted)) blank = absurd (stands_not_blank kind version n x there stands wanted blank)
 
@@ -229,10 +229,10 @@ module _ (bus : NamedBus) (before seen : List DiskState) (t : Told) (one : lengt
   abbrev config : Config
   config = (node_line_at bus.nodes 0).config
 
-  still : (d : DiskState) → (get_or seen 0 d).told ≡ Some t
+  pub still : (d : DiskState) → (get_or seen 0 d).told ≡ Some t
   still d = same_told bus before seen look 0 d ∙ tells d
 
-  can : CanKeep bus.kind bus.version (cells_in config) t.bytes
+  pub can : CanKeep bus.kind bus.version (cells_in config) t.bytes
   can = look_keeps bus before seen look room no_disk t (tells no_disk)
 
   bus_opened : (d : DiskState) (n : NodeState) → Opened Attach bus.kind bus.version config (get_or seen 0 d) n → KeepsStores t n.store.disk.told

@@ -1,19 +1,14 @@
 -- What a look leaves of the disks, and which room they have
-use Rattle.std.specs.Prelude.{◌≡◌, ◌↔◌, ℕ, ◌<◌, ◌≤◌, Bool, true, false, IsTrue, Some, List, [], ◌∷◌, length, drop, get_or, map, Result, Ok, Err, OnOk, IfErr}
-use Rattle.std.proofs.Common.{suc, zero, refl, sym, ap, ◌∙◌, subst, arith, inl, inr}
+use Rattle.std.specs.Prelude.{◌≡◌, ◌↔◌, ℕ, ◌<◌, ◌≤◌, Bool, true, false, IsTrue, List, [], ◌∷◌, length, drop, get_or, map, Result, Ok, Err, OnOk, IfErr}
+use Rattle.std.proofs.Common.{suc, zero, refl, sym, ap, ◌∙◌, subst, arith}
 use Rattle.std.proofs.Math.Dec.{leb}
 use Rattle.std.proofs.lemmas.Bool.{false≢true, leb-true, le-leb}
 use Rattle.std.proofs.lemmas.List.{get_or-map, length-map}
-use Rattle.cell_store.specs.declared.kinds.Kind.{Kind}
-use Rattle.cell_store.specs.declared.kinds.Version.{Version}
-use Rattle.cut_disk.specs.State.{DiskState, Told}
+use Rattle.cut_disk.specs.State.{DiskState}
 use Rattle.cut_disk.specs.Calls.{IsQuiet, AsBefore}
 use Rattle.cut_disk.proofs.CallerLemmas.{runs_none, runs_more}
 use Rattle.cell_store.specs.Store.{store_size}
 use Rattle.any_cells.specs.Either.{layout}
-use Rattle.disk_looks.specs.declared.looks.Seen.{Seen}
-use Rattle.disk_looks.specs.declared.looks.Seen.TheVariants.{Unused, Standing, Older, Other, Neither}
-use Rattle.disk_looks.specs.Looks.{CanKeep, LooksAs, seen_unused, seen_standing, seen_older, seen_other, seen_neither}
 use Rattle.bus_config.specs.declared.node_lines.NodeLine.{NodeLine}
 use Rattle.bus_config.specs.Buses.{NamedBus}
 use Rattle.bus_script.specs.EventForms.{node_line_at}
@@ -22,38 +17,45 @@ use Rattle.bus_world.specs.Starts.{HasRoom}
 use Rattle.bus_world.specs.WorldTurns.{TellFirm}
 use Rattle.bus_world.proofs.CallerLemmas.{no_disk, no_line}
 use Rattle.kept_starts.specs.declared.first.KeepFault.{KeepFault}
-use Rattle.kept_starts.specs.declared.first.KeepFault.TheVariants as keep
-use Rattle.kept_starts.specs.LookedAt.{cells_in_bus, size_in_bus, SeenInBus, KeepsTold, HasStoreRoom, KeptAsSeen, FailsToKeep, LookedAt, no_room, looked, NotKept}
+use Rattle.kept_starts.specs.LookedAt.{look_calls, size_in_bus, KeepsTold, KeepsOlder, HasStoreRoom, FailsToKeep, LookedAt, no_room, looked, NotKept}
 
 -- ---- each disk after a look
 
-unlooked : (disk : DiskState) → AsBefore 3 disk disk
-unlooked disk = record { runs = runs_more 3 (omega arith) (runs_none disk); told = refl; faults = refl }
+pub unlooked : (calls : ℕ) (disk : DiskState) → AsBefore calls disk disk
+unlooked calls disk = record { runs = runs_more calls (omega arith) (runs_none disk); told = refl; faults = refl }
 
-at_first : (disk seen : DiskState) (rest : List DiskState) (i : ℕ) (d : DiskState) → AsBefore 3 disk seen → AsBefore 3 (get_or (disk ∷ rest) i d) (get_or (seen ∷ rest) i d)
-at_first disk seen rest zero d look = look
-at_first disk seen rest (suc i) d look = unlooked (get_or rest i d)
+at_first : (calls : ℕ) (disk seen : DiskState) (rest : List DiskState) (i : ℕ) (d : DiskState) → AsBefore calls disk seen
+    → AsBefore calls (get_or (disk ∷ rest) i d) (get_or (seen ∷ rest) i d)
+at_first calls disk seen rest zero d look = look
+at_first calls disk seen rest (suc i) d look = unlooked calls (get_or rest i d)
 
 module _ (bus : NamedBus) (before : List DiskState) where
   -- it is as before, except for reads
-  pub look_at : (seen : List DiskState) → LookedAt bus before seen → (i : ℕ) (d : DiskState) → AsBefore 3 (get_or before i d) (get_or seen i d)
-  look_at _ (no_room none) i d = unlooked (get_or before i d)
-  look_at _ (looked disk seen rest is room look keeps) i d =
-      subst (λ (disks : List DiskState). AsBefore 3 (get_or disks i d) (get_or (seen ∷ rest) i d)) (sym is) (at_first disk seen rest i d look)
+  pub look_at : (seen : List DiskState) → LookedAt bus before seen → (i : ℕ) (d : DiskState) → AsBefore (look_calls bus) (get_or before i d) (get_or seen i d)
+  look_at _ (no_room none) i d = unlooked (look_calls bus) (get_or before i d)
+  look_at _ (looked disk seen rest is room look keeps older) i d =
+      subst (λ (disks : List DiskState). AsBefore (look_calls bus) (get_or disks i d) (get_or (seen ∷ rest) i d)) (sym is)
+      (at_first (look_calls bus) disk seen rest i d look)
 
   pub look_rest : (seen : List DiskState) → LookedAt bus before seen → drop 1 seen ≡ drop 1 before
   look_rest _ (no_room none) = refl
-  look_rest _ (looked disk seen rest is room look keeps) = sym (ap (λ (disks : List DiskState). drop 1 disks) is)
+  look_rest _ (looked disk seen rest is room look keeps older) = sym (ap (λ (disks : List DiskState). drop 1 disks) is)
 
   pub look_count : (seen : List DiskState) → LookedAt bus before seen → length seen ≡ length before
   look_count _ (no_room none) = refl
-  look_count _ (looked disk seen rest is room look keeps) = sym (ap (λ (disks : List DiskState). length disks) is)
+  look_count _ (looked disk seen rest is room look keeps older) = sym (ap (λ (disks : List DiskState). length disks) is)
 
   -- if there was room, told bytes may be kept
   pub look_keeps : (seen : List DiskState) → LookedAt bus before seen → HasRoom bus before → (disk : DiskState) → KeepsTold bus (get_or before 0 disk)
   look_keeps _ (no_room none) room disk = absurd (none room)
-  look_keeps _ (looked first seen rest is room look keeps) also disk =
+  look_keeps _ (looked first seen rest is room look keeps older) also disk =
       subst (λ (disks : List DiskState). KeepsTold bus (get_or disks 0 disk)) (sym is) keeps
+
+  -- and the cells of a store in version 1 that is moved are the node's
+  pub look_older : (seen : List DiskState) → LookedAt bus before seen → HasRoom bus before → (disk : DiskState) → KeepsOlder bus (get_or before 0 disk)
+  look_older _ (no_room none) room disk = absurd (none room)
+  look_older _ (looked first seen rest is room look keeps older) also disk =
+      subst (λ (disks : List DiskState). KeepsOlder bus (get_or disks 0 disk)) (sym is) older
 
   module _ (seen : List DiskState) (look : LookedAt bus before seen) where
     pub same_told : (i : ℕ) (d : DiskState) → (get_or seen i d).told ≡ (get_or before i d).told
@@ -89,7 +91,7 @@ module _ (bus : NamedBus) (before : List DiskState) where
 -- without room no disk was looked at
 pub unlooked_same : (bus : NamedBus) (before seen : List DiskState) → LookedAt bus before seen → ¬ HasRoom bus before → seen ≡ before
 unlooked_same bus before _ (no_room none) also = refl
-unlooked_same bus before _ (looked disk seen rest is room look keeps) none = absurd (none room)
+unlooked_same bus before _ (looked disk seen rest is room look keeps older) none = absurd (none room)
 
 -- ---- the room of one store
 
@@ -120,49 +122,9 @@ module _ (bus : NamedBus) (one : length bus.nodes ≡ 1) (disks : List DiskState
             (first_line bus.nodes 0 no_line one inside) (room.room 0 no_line d inside),
       )
 
--- ---- what is seen
-
-module _ (bus : NamedBus) (disk : DiskState) where
-  abbrev SeesTold : Seen → Type 0
-  SeesTold seen = (t : Told) → disk.told ≡ Some t → SeenInBus bus t.bytes seen
-
-  kept_seen : (seen : Seen) (x : List ℕ) → SeenInBus bus x seen → KeptAsSeen seen (Ok tt) → CanKeep bus.kind bus.version (cells_in_bus bus) x
-  kept_seen _ x (seen_unused zeros) is = inl zeros
-  kept_seen _ x (seen_standing stands) is = inr (_, stands, inl refl)
-  kept_seen _ x (seen_older two stands) is = inr (_, stands, inr (two, refl))
-  kept_seen _ x (seen_other there stands not) is = absurd (let no : ⊥ = cc in no)
-  kept_seen _ x (seen_neither stands not) is = absurd (let no : ⊥ = cc in no)
-
-  pub keeps_seen : (seen : Seen) → SeesTold seen → KeptAsSeen seen (Ok tt) → KeepsTold bus disk
-  keeps_seen seen sees kept t tells = kept_seen seen t.bytes (sees t tells) kept
-
-  pub fails_seen : (after : DiskState) (seen : Seen) (fault : KeepFault) → AsBefore 3 disk after → SeesTold seen → KeptAsSeen seen (Err fault) → FailsToKeep bus disk after fault
-  fails_seen after Unused fault look sees is = absurd (let no : ⊥ = cc in no)
-  fails_seen after Standing fault look sees is = absurd (let no : ⊥ = cc in no)
-  fails_seen after Older fault look sees is = absurd (let no : ⊥ = cc in no)
-  fails_seen after (Other there) fault look sees is =
-      let same : fault ≡ keep.OtherStore there = cc in
-      rw same record { runs = look.runs; told = look.told; cause = (look.faults, sees) }
-  fails_seen after Neither fault look sees is =
-      let same : fault ≡ keep.NotFormatted = cc in
-      rw same record { runs = look.runs; told = look.told; cause = (look.faults, sees) }
-
-  kept_ok : (seen : Seen) (r : Result (Unit {0}) KeepFault) → SeesTold seen → KeptAsSeen seen r → OnOk r (KeepsTold bus disk)
-  kept_ok seen (Ok u) sees kept = keeps_seen seen sees kept
-  kept_ok seen (Err fault) sees kept = tt
-
-  -- as a look at this kind, version and number says it
-  pub kept_told : (seen : Seen) (r : Result (Unit {0}) KeepFault) (kind : Kind) (version : Version) (n : ℕ) → kind ≡ bus.kind → version ≡ bus.version → n ≡ cells_in_bus bus
-      → ((t : Told) → disk.told ≡ Some t → LooksAs kind version n t.bytes seen) → KeptAsSeen seen r → OnOk r (KeepsTold bus disk)
-  kept_told seen r kind version n kind_is version_is n_is sees kept =
-      kept_ok seen r (λ t told.
-      subst (λ (k : Kind). LooksAs k bus.version (cells_in_bus bus) t.bytes seen) kind_is
-      (subst (λ (v : Version). LooksAs kind v (cells_in_bus bus) t.bytes seen) version_is
-      (subst (λ (m : ℕ). LooksAs kind version m t.bytes seen) n_is (sees t told)))) kept
-
 -- ---- the first disk, as the code has it
 
-any_ok : {X E : Type 0} (r : Result X E) (P : Type 0) → P → OnOk r P
+pub any_ok : {X E : Type 0} (r : Result X E) (P : Type 0) → P → OnOk r P
 any_ok (Ok x) P p = p
 any_ok (Err e) P p = tt
 
@@ -213,11 +175,11 @@ split_first {D} state (i ∷ is) x later some at rest =
 
 pub first_looked : {D : Type 0} (state : D → DiskState) (bus : NamedBus) (items later new : List D) (x y : D) (r : Result (Unit {0}) KeepFault) → 0 < length items
     → x ≡ get_or items 0 x → later ≡ drop 1 items → new ≡ y ∷ later → HasRoom bus (map state items)
-    → OnOk r (AsBefore 3 (state x) (state y)) → OnOk r (KeepsTold bus (state x)) → OnOk r (LookedAt bus (map state items) (map state new))
-first_looked state bus items later new x y (Err fault) some at rest is room look keeps = tt
-first_looked state bus items later new x y (Ok u) some at rest is room look keeps =
+    → OnOk r (AsBefore (look_calls bus) (state x) (state y)) → OnOk r (KeepsTold bus (state x)) → OnOk r (KeepsOlder bus (state x)) → OnOk r (LookedAt bus (map state items) (map state new))
+first_looked state bus items later new x y (Err fault) some at rest is room look keeps older = tt
+first_looked state bus items later new x y (Ok u) some at rest is room look keeps older =
     subst (LookedAt bus (map state items)) (ap (map state) (sym is))
-    (looked (state x) (state y) (map state later) (split_first state items x later some at rest) room look keeps)
+    (looked (state x) (state y) (map state later) (split_first state items x later some at rest) room look keeps older)
 
 pub first_refused : {D : Type 0} (state : D → DiskState) (bus : NamedBus) (items later new : List D) (x y : D) (r : Result (Unit {0}) KeepFault) → 0 < length items
     → x ≡ get_or items 0 x → later ≡ drop 1 items → new ≡ y ∷ later → HasRoom bus (map state items)

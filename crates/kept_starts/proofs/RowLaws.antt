@@ -1,5 +1,5 @@
 -- The row of a start that doesn't go on: which it is, and what it says of the disks
-use Rattle.std.specs.Prelude.{◌≡◌, ◌⊎◌, ℕ, ◌<◌, Some, None, List, ◌∷◌, length, get_or}
+use Rattle.std.specs.Prelude.{◌≡◌, ◌⊎◌, ℕ, ◌<◌, Some, None, List, [], ◌∷◌, length, get_or}
 use Rattle.std.proofs.Common.{refl, sym, ap, ◌∙◌, subst, arith, inl, inr}
 use Rattle.cut_disk.specs.State.{DiskState, Told}
 use Rattle.cut_disk.specs.Calls.{Rose, IsQuiet}
@@ -11,16 +11,18 @@ use Rattle.store_growing.proofs.CallerLemmas.{stands_one}
 use Rattle.disk_looks.proofs.CallerLemmas.{zeros_none}
 use Rattle.disk_looks.specs.declared.looks.Seen.TheVariants.{Other, Neither}
 use Rattle.disk_looks.specs.Looks.{AllZeros, CanKeep, IsWanted, LooksAs, seen_other, seen_neither}
+use Rattle.bus_config.specs.declared.node_lines.NodeLine.{NodeLine}
 use Rattle.bus_config.specs.Buses.{NamedBus}
+use Rattle.bus_script.specs.EventForms.{node_line_at}
 use Rattle.bus_world.specs.declared.start.Start.TheVariants.{Attach}
 use Rattle.bus_world.specs.declared.start.StartFault.{StartFault}
 use Rattle.bus_world.specs.Starts.{HasRoom, FindsRoom}
-use Rattle.bus_world.specs.StartRows.{start_row}
+use Rattle.bus_world.specs.StartRows.{start_row, CanStart}
 use Rattle.bus_world.specs.StartAnswers.{DiskStates, CountsDiskFault, failed_row, ComesOfStart, disks_refused, store_refused, start_without_memory, BusHasDisks}
 use Rattle.bus_world.proofs.CallerLemmas.{no_disk, no_line, no_room_fault, failure_told, start_status, start_without_room, start_complete, start_memory}
 use Rattle.kept_starts.specs.declared.first.KeepFault.{KeepFault}
 use Rattle.kept_starts.specs.declared.first.KeepFault.TheVariants as keep
-use Rattle.kept_starts.specs.LookedAt.{cells_in_bus, KeepsTold, FailsToKeep, LookedAt, NotKept}
+use Rattle.kept_starts.specs.LookedAt.{cells_in_bus, config_in_bus, KeepsTold, FailsToKeep, LookedAt, NotKept}
 use Rattle.kept_starts.specs.KeepRows.{keep_row, IsKeepRow, ComesKept, of_look, of_start, BusKeepsDisk, RefusesStart, at_look, at_start}
 use Rattle.kept_starts.proofs.LookLaws.{same_told, same_faults, room_then, room_before, quiet_then, unlooked_same}
 
@@ -29,6 +31,9 @@ use Rattle.kept_starts.proofs.LookLaws.{same_told, same_faults, room_then, room_
 look_status : (fault : KeepFault) (row : Row) → IsKeepRow fault row → (row.status ≡ 10) ⊎ (row.status ≡ 7)
 look_status (keep.OtherStore there) row (inl is) = inl (ap (λ (r : Row). r.status) is)
 look_status keep.NotFormatted row (inl is) = inl (ap (λ (r : Row). r.status) is)
+look_status (keep.Damaged place) row (inl is) = inl (ap (λ (r : Row). r.status) is)
+look_status (keep.BadSlot slot) row (inl is) = inl (ap (λ (r : Row). r.status) is)
+look_status (keep.BadBound cell) row (inl is) = inl (ap (λ (r : Row). r.status) is)
 look_status keep.DiskFailed row (inl is) = inl (ap (λ (r : Row). r.status) is)
 look_status keep.Memory row (inl is) = inr (ap (λ (r : Row). r.status) is)
 look_status fault row (inr (names, is)) = inr (ap (λ (r : Row). r.status) is)
@@ -40,6 +45,9 @@ look_10 fault row (inr (names, is)) ten = absurd (let no : ⊥ = omega (arith, t
 look_7 : (fault : KeepFault) (row : Row) → IsKeepRow fault row → row.status ≡ 7 → row ≡ memory_row
 look_7 (keep.OtherStore there) row (inl is) seven = absurd (let no : ⊥ = omega (arith, seven, ap (λ (r : Row). r.status) is) in no)
 look_7 keep.NotFormatted row (inl is) seven = absurd (let no : ⊥ = omega (arith, seven, ap (λ (r : Row). r.status) is) in no)
+look_7 (keep.Damaged place) row (inl is) seven = absurd (let no : ⊥ = omega (arith, seven, ap (λ (r : Row). r.status) is) in no)
+look_7 (keep.BadSlot slot) row (inl is) seven = absurd (let no : ⊥ = omega (arith, seven, ap (λ (r : Row). r.status) is) in no)
+look_7 (keep.BadBound cell) row (inl is) seven = absurd (let no : ⊥ = omega (arith, seven, ap (λ (r : Row). r.status) is) in no)
 look_7 keep.DiskFailed row (inl is) seven = absurd (let no : ⊥ = omega (arith, seven, ap (λ (r : Row). r.status) is) in no)
 look_7 keep.Memory row (inl is) seven = is
 look_7 fault row (inr (names, is)) seven = is
@@ -67,18 +75,31 @@ seen_other_unkept bus x there (seen_other _ stands not) keeps = other_unkept bus
 seen_neither_unkept : (bus : NamedBus) (x : List ℕ) → LooksAs bus.kind bus.version (cells_in_bus bus) x Neither → CanKeep bus.kind bus.version (cells_in_bus bus) x → ⊥
 seen_neither_unkept bus x (seen_neither none not) keeps = neither_unkept bus x none not keeps
 
--- of a disk that tells bytes that may be kept, and that was quiet or didn't fail, memory was out
+-- of a disk that tells bytes that may be kept and over which the node goes on, and that was quiet or didn't fail, memory
+-- was out
 able_memory : (bus : NamedBus) (disk seen : DiskState) (fault : KeepFault) (t : Told) → disk.told ≡ Some t → KeepsTold bus disk
+    → CanStart Attach bus.kind bus.version (config_in_bus bus) t.bytes
     → IsQuiet disk ⊎ ¬ Rose disk.faults seen.faults → FailsToKeep bus disk seen fault → fault ≡ keep.Memory
-able_memory bus disk seen (keep.OtherStore there) t tells keeps serves f = absurd (seen_other_unkept bus t.bytes there (f.cause.1 t tells) (keeps t tells))
-able_memory bus disk seen keep.NotFormatted t tells keeps serves f = absurd (seen_neither_unkept bus t.bytes (f.cause.1 t tells) (keeps t tells))
-able_memory bus disk seen keep.DiskFailed t tells keeps (inl quiet) f = absurd (quiet_never_rose quiet (f.runs.quiet refl quiet) f.cause)
-able_memory bus disk seen keep.DiskFailed t tells keeps (inr calm) f = absurd (calm f.cause)
-able_memory bus disk seen keep.Memory t tells keeps serves f = refl
+able_memory bus disk seen (keep.OtherStore there) t tells keeps goes serves f = absurd (seen_other_unkept bus t.bytes there (f.cause.1 t tells) (keeps t tells))
+able_memory bus disk seen keep.NotFormatted t tells keeps goes serves f = absurd (elim (f.cause.1 t tells) [
+  | inl neither ↦ seen_neither_unkept bus t.bytes neither (keeps t tells)
+  | inr no_node ↦ no_node.none goes.0 goes.1
+])
+able_memory bus disk seen (keep.Damaged place) t tells keeps goes serves f = absurd ((f.cause.1 t tells).none goes.0 goes.1)
+able_memory bus disk seen (keep.BadSlot slot) t tells keeps goes serves f = absurd ((f.cause.1 t tells).none goes.0 goes.1)
+able_memory bus disk seen (keep.BadBound cell) t tells keeps goes serves f = absurd ((f.cause.1 t tells).none goes.0 goes.1)
+able_memory bus disk seen keep.DiskFailed t tells keeps goes (inl quiet) f = absurd (quiet_never_rose quiet (f.runs.quiet refl quiet) f.cause)
+able_memory bus disk seen keep.DiskFailed t tells keeps goes (inr calm) f = absurd (calm f.cause)
+able_memory bus disk seen keep.Memory t tells keeps goes serves f = refl
 
 memory_7 : (fault : KeepFault) (row : Row) → fault ≡ keep.Memory → IsKeepRow fault row → row.status ≡ 7
 memory_7 fault row is (inl said) = ap (λ (r : Row). r.status) (said ∙ ap keep_row is)
 memory_7 fault row is (inr (names, said)) = ap (λ (r : Row). r.status) said
+
+-- the first of some node lines is the one at the place 0
+first_some : (nodes : List NodeLine) → 0 < length nodes → get_or nodes 0 no_line ≡ node_line_at nodes 0
+first_some [] some = absurd (let no : ⊥ = omega (arith, some) in no)
+first_some (n ∷ ns) some = refl
 
 -- the first of the disks
 first_is : (disks rest : List DiskState) (disk d : DiskState) → disks ≡ disk ∷ rest → get_or disks 0 d ≡ disk
@@ -135,6 +156,7 @@ module _ (same : Type 0) (bus : NamedBus) (d : DiskStates) where
       let now : get_or d.after 0 no_disk ≡ not.seen = first_is d.after not.rest not.seen no_disk not.after_is in
       able_memory bus not.disk not.seen fault serves.0.0 (ap (λ (s : DiskState). s.told) (sym was) ∙ serves.0.1)
       (subst (KeepsTold bus) was (keeps no_disk))
+      (subst (λ (n : NodeLine). CanStart Attach bus.kind bus.version n.config serves.0.0.bytes) (first_some bus.nodes some) serves.0.2)
       (subst (λ (s : DiskState). IsQuiet not.disk ⊎ ¬ Rose not.disk.faults s.faults) now
       (subst (λ (s : DiskState). IsQuiet s ⊎ ¬ Rose s.faults (get_or d.after 0 no_disk).faults) was serves.1))
       not.fails
@@ -149,6 +171,9 @@ module _ (same : Type 0) (bus : NamedBus) (d : DiskStates) where
   look_failure : (fault : KeepFault) (row : Row) (disk seen : DiskState) → FailsToKeep bus disk seen fault → IsKeepRow fault row → disk.faults < seen.faults → row ≡ failed_row 0
   look_failure (keep.OtherStore there) row disk seen f is rose = absurd (let no : ⊥ = omega (arith, rose, f.cause.0) in no)
   look_failure keep.NotFormatted row disk seen f is rose = absurd (let no : ⊥ = omega (arith, rose, f.cause.0) in no)
+  look_failure (keep.Damaged place) row disk seen f is rose = absurd (let no : ⊥ = omega (arith, rose, f.cause.0) in no)
+  look_failure (keep.BadSlot slot) row disk seen f is rose = absurd (let no : ⊥ = omega (arith, rose, f.cause.0) in no)
+  look_failure (keep.BadBound cell) row disk seen f is rose = absurd (let no : ⊥ = omega (arith, rose, f.cause.0) in no)
   look_failure keep.DiskFailed row disk seen f (inl is) rose = is
   look_failure keep.DiskFailed row disk seen f (inr (names, is)) rose = absurd names
   look_failure keep.Memory row disk seen f is rose = absurd (let no : ⊥ = omega (arith, rose, f.cause) in no)

@@ -19,12 +19,18 @@ use Rattle.kept_starts.specs.LookedAt.{LookedAt, NotKept, KeepsTold}
 abbrev pub keep_row : KeepFault → Row
 keep_row (keep.OtherStore there) = row_of 10 (standing_text there)
 keep_row keep.NotFormatted = start_row (fault.Store 1 reread.NotFormatted)
+keep_row (keep.Damaged place) = start_row (fault.Store 1 (reread.Damaged place))
+keep_row (keep.BadSlot slot) = start_row (fault.BadSlot 1 slot)
+keep_row (keep.BadBound cell) = start_row (fault.BadBound 1 cell)
 keep_row keep.DiskFailed = start_row (fault.Store 1 reread.DiskFailed)
 keep_row keep.Memory = memory_row
 
--- its text names a store, and is made when it is printed
+-- its text names a store, or a place of one, and is made when it is printed
 abbrev pub NamesStore : KeepFault → Type 0
 NamesStore (keep.OtherStore there) = Unit {0}
+NamesStore (keep.Damaged place) = Unit {0}
+NamesStore (keep.BadSlot slot) = Unit {0}
+NamesStore (keep.BadBound cell) = Unit {0}
 NamesStore fault = ⊥
 
 -- that row; or out of memory, if its text is made

@@ -1,6 +1,7 @@
 -- What a start leaves of the store that stands on its disk, under whatever bus file
-use Rattle.std.specs.Prelude.{◌≡◌, ℕ, Option, Some, List, length, get_or}
+use Rattle.std.specs.Prelude.{◌≡◌, ◌⊎◌, ℕ, Option, Some, List, length, get_or}
 use Rattle.cut_disk.specs.State.{DiskState, Told}
+use Rattle.cut_disk.specs.Calls.{Rose}
 use Rattle.cell_store.specs.declared.kinds.Kind.{Kind}
 use Rattle.cell_store.specs.declared.kinds.Version.TheVariants.{One}
 use Rattle.cell_store.specs.Moving.{KeepsCounted}
@@ -48,3 +49,12 @@ StartsKeepStores = (bus : NamedBus) (before seen : List DiskState) (t : Told) �
 abbrev pub RefusedLooksWriteNothing : Type 0
 RefusedLooksWriteNothing = (bus : NamedBus) (before after : List DiskState) (fault : KeepFault)
     → NotKept bus before after fault → (i : ℕ) (d : DiskState) → (get_or after i d).told ≡ (get_or before i d).told
+
+-- Under any bus of one node, over a first disk that tells its bytes and has room for the store: a start that is refused
+-- with 10 after the look leaves each byte of the disk, if its count of faults didn't rise; or all bytes were zeros.
+abbrev pub RefusedStartsWriteNothing : Type 0
+RefusedStartsWriteNothing = (bus : NamedBus) (before seen after : List DiskState) (t : Told) (row : Row)
+    → length bus.nodes ≡ 1 → LookedAt bus before seen → HasRoom bus before → FirstTells before t
+    → ComesOfStart Attach bus (record { before = seen; after = after }) row → row.status ≡ 10
+    → (d : DiskState) → ¬ Rose (get_or before 0 d).faults (get_or after 0 d).faults
+    → ((get_or after 0 d).told ≡ Some t) ⊎ AllZeros t.bytes

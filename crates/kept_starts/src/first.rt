@@ -1,13 +1,23 @@
 //! The look at the disk of the one node of a bus, before the node is started there.
 ghost use Rattle.std.specs.Prelude.{◌≡◌, ◌↔◌, ◌≤◌, length, map, IsTrue, IfErr, OnOk};
 ghost use Rattle.cut_disk.specs.Calls.{AsBefore};
-ghost use Rattle.kept_starts.specs.LookedAt.{LookedAt, NotKept, FailsToKeep, KeepsTold, HasStoreRoom, size_in_bus, cells_in_bus, KeptAsSeen};
+ghost use Rattle.std.specs.Prelude.{Some};
+ghost use Rattle.cut_disk.specs.State.{Told};
+ghost use Rattle.disk_looks.specs.declared.looks.Seen.TheVariants.{Older};
+ghost use Rattle.kept_starts.specs.LookedAt.{LookedAt, NotKept, FailsToKeep, KeepsTold, HasStoreRoom, size_in_bus, cells_in_bus};
+ghost use Rattle.kept_starts.specs.LookedAt.{KeepsOlder, HoldsOldCells, FailsToKeepWithin, SeenInBus, look_calls, cells_calls};
+ghost use Rattle.kept_starts.specs.LookedAt.{keep_fault_of_store, keep_fault_of_cells, config_in_bus};
+ghost use Rattle.freshness_routes.specs.Config.{IsConfig};
 ghost use Rattle.bus_world.specs.Starts.{HasRoom};
 
-use any_cells::{put_first, store_size};
+use any_cells::{AnyCells, put_first, store_size};
 use bus_config::BusConfig;
+use cell_store::{Cells, StoreFault, Version};
 use cut_disk::Disk;
 use disk_looks::{LookFault, Seen, look_whole};
+use freshness_routes::NodeConfig;
+use key_slots::SlotId;
+use secoc_node::{AttachFault, Node};
 use std::alloc::Global;
 use store_growing::StoreHeader;
 
@@ -18,6 +28,12 @@ pub enum KeepFault {
     OtherStore(StoreHeader),
     /// No header of a store stands there, and a byte isn't zero.
     NotFormatted,
+    /// The node's store stands there in version 1, which a start would move, and this place of it is damaged.
+    Damaged(u16),
+    /// It stands there, and this slot's cell holds no slot.
+    BadSlot(SlotId),
+    /// It stands there, and this cell doesn't hold the bound of its route.
+    BadBound(u16),
     /// A call of the disk failed.
     DiskFailed,
     /// There was no memory.
@@ -25,8 +41,9 @@ pub enum KeepFault {
 }
 
 /// Looks at the first of these disks, if it has room for the store of the bus's one node. Ok if there is no such disk,
-/// or if its bytes are all zeros or have the node's store, also one in version 1 for a bus of version 2. It writes
-/// nothing. The disks are in their places again.
+/// or if its bytes are all zeros or have the node's store, also one in version 1 for a bus of version 2. Such a store is
+/// moved by the start, so its cells are read here: they have to be the node's. It writes nothing. The disks are in their
+/// places again.
 pub fn look_first<D: Disk>(
     alloc: Global,
     bus: &BusConfig,
@@ -40,8 +57,8 @@ pub fn look_first<D: Disk>(
     if !has_room(bus, disks.as_slice()) {
         return Ok(());
     }
-    let mut disk = disks.remove(0);
-    let outcome = look_at(alloc, bus, &mut disk);
+    let disk = disks.remove(0);
+    let (disk, outcome) = look_at(alloc, bus, disk);
     put_first(disks, disk);
     outcome
 }
@@ -76,28 +93,107 @@ fn cells_in_bus(bus: &BusConfig) -> u16
     14 + node.config.routes.as_slice().len() as u16
 }
 
-/// The same of a disk with room for the store.
-fn look_at<D: Disk>(alloc: Global, bus: &BusConfig, disk: &mut D) -> Result<(), KeepFault>
-    requires one { length bus.now.nodes ≡ 1 }
-    requires room { size_in_bus bus.now ≤ (D.state disk.old).size }
-    ensures as_before { OnOk result (AsBefore 3 (D.state disk.old) (D.state disk.new)) }
-    ensures keeps { OnOk result (KeepsTold bus.now (D.state disk.old)) }
-    ensures refused { IfErr result (FailsToKeep bus.now (D.state disk.old) (D.state disk.new)) }
+/// The configuration of the bus's one node.
+fn node_config(bus: &BusConfig) -> &NodeConfig
+    requires { length bus.now.nodes ≡ 1 }
+    ensures config { result.now ≡ config_in_bus bus.now }
+    ensures good { IsConfig result.now }
 {
-    match look_whole(alloc, disk, bus.kind(), bus.version(), cells_in_bus(bus)) {
-        Ok(seen) => kept_as(seen),
-        Err(LookFault::DiskFailed) => Err(KeepFault::DiskFailed),
-        Err(LookFault::Memory) => Err(KeepFault::Memory),
+    let nodes = bus.nodes();
+    &nodes[0].config
+}
+
+/// The same of a disk with room for the store, which is handed back.
+fn look_at<D: Disk>(alloc: Global, bus: &BusConfig, disk: D) -> (D, Result<(), KeepFault>)
+    requires one { length bus.now.nodes ≡ 1 }
+    requires room { size_in_bus bus.now ≤ (D.state disk).size }
+    ensures as_before { OnOk result.1 (AsBefore (look_calls bus.now) (D.state disk) (D.state result.0)) }
+    ensures keeps { OnOk result.1 (KeepsTold bus.now (D.state disk)) }
+    ensures keeps_older { OnOk result.1 (KeepsOlder bus.now (D.state disk)) }
+    ensures refused { IfErr result.1 (FailsToKeep bus.now (D.state disk) (D.state result.0)) }
+{
+    let mut disk = disk;
+    match look_whole(
+        alloc,
+        &mut disk,
+        bus.kind(),
+        bus.version(),
+        cells_in_bus(bus),
+    ) {
+        Ok(seen) => kept_as(alloc, bus, disk, seen),
+        Err(LookFault::DiskFailed) => (disk, Err(KeepFault::DiskFailed)),
+        Err(LookFault::Memory) => (disk, Err(KeepFault::Memory)),
     }
 }
 
-/// Whether a start goes on over what was seen.
-fn kept_as(seen: Seen) -> Result<(), KeepFault>
-    ensures { KeptAsSeen seen result }
+/// Whether a start goes on over what was seen on the disk.
+fn kept_as<D: Disk>(
+    alloc: Global,
+    bus: &BusConfig,
+    disk: D,
+    seen: Seen,
+) -> (D, Result<(), KeepFault>)
+    requires one { length bus.now.nodes ≡ 1 }
+    requires room { size_in_bus bus.now ≤ (D.state disk).size }
+    requires seen { (t : Told) → (D.state disk).told ≡ Some t → SeenInBus bus.now t.bytes seen }
+    ensures as_before { OnOk result.1 (AsBefore (cells_calls bus.now) (D.state disk) (D.state result.0)) }
+    ensures keeps { OnOk result.1 (KeepsTold bus.now (D.state disk)) }
+    ensures keeps_older { OnOk result.1 (KeepsOlder bus.now (D.state disk)) }
+    ensures refused { IfErr result.1
+        (FailsToKeepWithin (cells_calls bus.now) bus.now (D.state disk) (D.state result.0)) }
 {
     match seen {
-        Seen::Unused | Seen::Standing | Seen::Older => Ok(()),
-        Seen::Other(there) => Err(KeepFault::OtherStore(there)),
-        Seen::Neither => Err(KeepFault::NotFormatted),
+        Seen::Unused | Seen::Standing => (disk, Ok(())),
+        Seen::Older => look_at_older(alloc, bus, disk),
+        Seen::Other(there) => (disk, Err(KeepFault::OtherStore(there))),
+        Seen::Neither => (disk, Err(KeepFault::NotFormatted)),
+    }
+}
+
+/// Reads the cells of the node's store in version 1, which a start would move: they have to be the node's.
+fn look_at_older<D: Disk>(alloc: Global, bus: &BusConfig, disk: D) -> (D, Result<(), KeepFault>)
+    requires one { length bus.now.nodes ≡ 1 }
+    requires room { size_in_bus bus.now ≤ (D.state disk).size }
+    requires older { (t : Told) → (D.state disk).told ≡ Some t → SeenInBus bus.now t.bytes Older }
+    ensures as_before { OnOk result.1 (AsBefore (cells_calls bus.now) (D.state disk) (D.state result.0)) }
+    ensures holds { OnOk result.1 (HoldsOldCells bus.now (D.state disk)) }
+    ensures refused { IfErr result.1
+        (FailsToKeepWithin (cells_calls bus.now) bus.now (D.state disk) (D.state result.0)) }
+{
+    let Ok(config) = node_config(bus).copy(alloc) else {
+        return (disk, Err(KeepFault::Memory));
+    };
+    match AnyCells::attach_as(alloc, disk, bus.kind(), Version::One, cells_in_bus(bus)) {
+        Ok(cells) => match Node::attach(alloc, config, cells) {
+            Ok(node) => (node.release().release(), Ok(())),
+            Err(refused) => {
+                let fault = cells_fault(&refused.fault);
+                (refused.cells.release(), Err(fault))
+            }
+        },
+        Err(unread) => (unread.disk, Err(store_fault(unread.fault))),
+    }
+}
+
+/// Why a store in version 1 isn't read.
+fn store_fault(fault: StoreFault) -> KeepFault
+    ensures { result ≡ keep_fault_of_store fault }
+{
+    match fault {
+        StoreFault::DiskFailed => KeepFault::DiskFailed,
+        StoreFault::NotFormatted | StoreFault::TooSmall => KeepFault::NotFormatted,
+        StoreFault::Damaged(place) => KeepFault::Damaged(place),
+        StoreFault::Memory => KeepFault::Memory,
+    }
+}
+
+/// Why its cells are no node's.
+fn cells_fault(fault: &AttachFault) -> KeepFault
+    ensures { result ≡ keep_fault_of_cells fault.now }
+{
+    match fault {
+        AttachFault::BadSlot(slot) => KeepFault::BadSlot(*slot),
+        AttachFault::BadBound(cell) => KeepFault::BadBound(*cell),
+        AttachFault::Memory => KeepFault::Memory,
     }
 }

@@ -20,6 +20,11 @@ pub fn keep_refusal(alloc: Global, fault: KeepFault) -> Refusal
         KeepFault::NotFormatted => {
             start_refusal(alloc, &StartFault::Store(1, Reread::NotFormatted))
         }
+        KeepFault::Damaged(place) => {
+            start_refusal(alloc, &StartFault::Store(1, Reread::Damaged(place)))
+        }
+        KeepFault::BadSlot(slot) => start_refusal(alloc, &StartFault::BadSlot(1, slot)),
+        KeepFault::BadBound(cell) => start_refusal(alloc, &StartFault::BadBound(1, cell)),
         KeepFault::DiskFailed => start_refusal(alloc, &StartFault::Store(1, Reread::DiskFailed)),
         KeepFault::Memory => Refusal::no_memory(),
     }

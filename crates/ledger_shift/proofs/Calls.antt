@@ -1,5 +1,5 @@
 -- The calls of a shift are a run of the file
-use Rattle.std.proofs.Common.{◌≡◌, inl, inr, ℕ, ◌+◌, None, Some, List, [], ◌∷◌, ◌++◌, Ok, refl, sym, ap, subst, arith}
+use Rattle.std.proofs.Common.{◌≡◌, inl, inr, ℕ, Bool, true, false, ◌+◌, None, Some, List, [], ◌∷◌, ◌++◌, Ok, refl, sym, ap, subst, arith}
 use Rattle.machine_runs.specs.Run.{Run}
 use Rattle.machine_runs.proofs.CallerLemmas.{Run-append}
 use Rattle.program_edge.specs.Told.{AppendedWell}
@@ -18,7 +18,7 @@ use Rattle.ledger_tables.specs.Held.{ledger_of}
 use Rattle.ledger_shift.specs.declared.line.ShiftLine.{ShiftLine}
 use Rattle.ledger_shift.specs.declared.line.ShiftLine.TheVariants as ask
 use Rattle.ledger_shift.specs.Answers.{AnswersAsk}
-use Rattle.ledger_shift.specs.Shifts.{ShiftAt, conn_of, printed_line_number, ServesAsk, TakesShiftLine}
+use Rattle.ledger_shift.specs.Shifts.{ShiftAt, conn_of, printed_line_number, ServesCommand, ServesNamed, ServesAsk, TakesShiftLine}
 use Rattle.ledger_shift.specs.Laws.{counter_told, rows_of, IsCallOf, AreCallsOf, ShiftsAreRuns}
 
 module _ {S : Type 0} (g : Ghosts S) where
@@ -72,23 +72,30 @@ module _ {S : Type 0} (g : Ghosts S) where
   abbrev Earlier : ShiftAt S → ℕ → ShiftAt S → Type 0
   Earlier before number after = IsClean before × Calls before number after
 
+  -- a line that asked for a row, and was taken, came after a name
+  was_named : (named : Bool) (before after : ShiftAt S) (number : ℕ) (asked : ShiftLine) → ServesNamed g named before number asked after (Ok tt) → ServesCommand g before number asked after (Ok tt)
+  was_named true before after number asked serves = serves
+  was_named false before after number asked (same, is) = absurd (let e = is in cc)
+
   by_asked : (before after : ShiftAt S) (number : ℕ) (asked : ShiftLine) → ServesAsk g before (printed_line_number number) asked after (Ok tt) → IsClean after → Earlier before number after
   by_asked before after number ask.Skipped (same, done) clean = (subst IsClean same clean, none_of before after number (ap (rows_of g) same))
   by_asked before after number (ask.By origin) (same, done) clean = (subst IsClean same clean, none_of before after number (ap (rows_of g) same))
-  by_asked before after number (ask.Issue i) serves clean = (
-    omega (arith, serves.survives.clean),
-    elim serves.ends [
-      | inl answered ↦ issue_calls before after number i answered.0 (answered.1 clean) answered.2
-      | inr failed ↦ absurd failed
-    ],
-  )
-  by_asked before after number (ask.Confirm k) serves clean = (
-    omega (arith, serves.survives.clean),
-    elim serves.ends [
-      | inl answered ↦ confirm_calls before after number k answered.0 (answered.1 clean) answered.2
-      | inr failed ↦ absurd failed
-    ],
-  )
+  by_asked before after number (ask.Issue i) named clean =
+      let serves = was_named before.noted.is_named before after (printed_line_number number) (ask.Issue i) named in (
+        omega (arith, serves.survives.clean),
+        elim serves.ends [
+          | inl answered ↦ issue_calls before after number i answered.0 (answered.1 clean) answered.3
+          | inr failed ↦ absurd failed
+        ],
+      )
+  by_asked before after number (ask.Confirm k) named clean =
+      let serves = was_named before.noted.is_named before after (printed_line_number number) (ask.Confirm k) named in (
+        omega (arith, serves.survives.clean),
+        elim serves.ends [
+          | inl answered ↦ confirm_calls before after number k answered.0 (answered.1 clean) answered.3
+          | inr failed ↦ absurd failed
+        ],
+      )
   by_asked before after number (ask.Show uid id) serves clean = (
     omega (arith, serves.survives.clean),
     elim serves.ends [

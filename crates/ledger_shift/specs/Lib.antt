@@ -1,6 +1,8 @@
 pub mod Asks
 pub mod Answers
 pub mod Shifts
-pub mod Statuses
 pub mod Opening
+pub mod Statuses
+pub mod FileRuns
+pub mod Words
 pub mod Laws

@@ -1,10 +1,11 @@
 -- What a line of a shift does to a ledger in a file, and how it is answered (own)
-use Rattle.std.specs.Prelude.{◌≡◌, ◌⊎◌, ℕ, ◌-◌, ◌^◌, min, List, Result, Ok, Err}
+use Rattle.std.specs.Prelude.{◌≡◌, ◌⊎◌, ℕ, ◌-◌, ◌^◌, min, Bool, true, false, if◌then◌else◌, List, Result, Ok, Err}
 use Rattle.bus_port.specs.Fault.{Rose}
 use Rattle.bus_port.specs.Sink.{SinkState}
 use Rattle.bus_port.specs.Whole.{AppendedPart}
 use Rattle.program_edge.specs.Told.{AppendedWell}
 use Rattle.key_campaign.specs.declared.lines.LedgerLine.{LedgerLine}
+use Rattle.key_campaign.specs.declared.lines.LedgerLine.TheVariants as line
 use Rattle.text_lines.specs.Lines.{words_of}
 use Rattle.text_lines.specs.declared.fault.Cause.{Cause}
 use Rattle.text_lines.specs.declared.fault.ScriptFault.TheVariants.{At, Memory}
@@ -17,16 +18,45 @@ use Rattle.ledger_rows.specs.Rows.{RowOrigin}
 use Rattle.ledger_tables.specs.Failing.{IsUndone}
 use Rattle.ledger_shift.specs.declared.line.ShiftLine.{ShiftLine}
 use Rattle.ledger_shift.specs.declared.line.ShiftLine.TheVariants as ask
+use Rattle.ledger_shift.specs.declared.port.Noted.{Noted}
 use Rattle.ledger_shift.specs.declared.port.ShiftEnd.{ShiftEnd}
 use Rattle.ledger_shift.specs.declared.port.ShiftEnd.TheVariants as end
 use Rattle.ledger_shift.specs.Asks.{shift_line_of}
 use Rattle.ledger_shift.specs.Answers.{AnswersAsk, FailsAsk, MayAddRow}
 
--- the connection, who enters its rows, and the sink that is answered on
+-- the connection, who enters its rows, what is noted, and the sink that is answered on
 pub record ShiftAt (S : Type 0) : Type 0 where
   pub conn : Held S
   pub origin : RowOrigin
+  pub noted : Noted
   pub sink : SinkState
+
+-- ---- what is noted
+
+-- nobody was named, and nothing was refused
+abbrev pub nothing_noted : Noted
+nothing_noted = record { is_named = false; has_refused = false }
+
+abbrev pub with_name : Noted → Noted
+with_name noted = record noted { is_named = true }
+
+-- the line tells that nothing was done
+abbrev pub tells_refusal : LedgerLine → Bool
+tells_refusal (line.Issued counter request) = false
+tells_refusal (line.Confirmed counter) = false
+tells_refusal (line.Shown told) = false
+tells_refusal line.Up = false
+tells_refusal line.Armed = false
+tells_refusal (line.Refused why) = true
+
+abbrev pub noted_after : Noted → LedgerLine → Noted
+noted_after noted told = if tells_refusal told then record noted { has_refused = true } else noted
+
+abbrev pub noted_of : Noted → Result LedgerLine Error → Noted
+noted_of noted (Ok told) = noted_after noted told
+noted_of noted (Err e) = noted
+
+-- ---- what is told
 
 -- the number of a line as it is printed, in 32 bits
 abbrev pub printed_line_number : ℕ → ℕ
@@ -54,6 +84,7 @@ module _ {S : Type 0} (g : Ghosts S) where
   IsAnswered before number asked after result =
       (told : LedgerLine)
       × (HasCleanDisk (conn_of after) → AnswersAsk before.origin (conn_of before) (conn_of after) asked told)
+      × (after.noted ≡ noted_after before.noted told)
       × TellsAnswer before.sink after.sink (ledger_line_text number told) result
 
   -- the file failed: nothing is printed, and the connection is shut or sees what it saw
@@ -71,13 +102,20 @@ module _ {S : Type 0} (g : Ghosts S) where
     pub survives : Survives (conn_of before) (conn_of after) (MayAddRow before.origin (conn_of before) asked)
     pub ends : IsAnswered before number asked after result ⊎ HasFailedAt before asked after result
 
+  -- a line that asks for a row: it is refused if nobody was named before it, and nothing changes
+  abbrev pub ServesNamed : Bool → ShiftAt S → ℕ → ShiftLine → ShiftAt S → Result (Unit {0}) ShiftEnd → Type 0
+  ServesNamed true before number asked after result = ServesCommand before number asked after result
+  ServesNamed false before number asked after result = (after ≡ before) × (result ≡ Err (end.Unnamed number))
+
   -- what a line does, by what it asks
   abbrev pub ServesAsk : ShiftAt S → ℕ → ShiftLine → ShiftAt S → Result (Unit {0}) ShiftEnd → Type 0
   ServesAsk before number ask.Skipped after result = (after ≡ before) × (result ≡ Ok tt)
   ServesAsk before number (ask.By origin) after result =
-      (after ≡ record before { origin = origin }) × (result ≡ Ok tt)
-  ServesAsk before number (ask.Issue i) after result = ServesCommand before number (ask.Issue i) after result
-  ServesAsk before number (ask.Confirm k) after result = ServesCommand before number (ask.Confirm k) after result
+      (after ≡ record before { origin = origin; noted = with_name before.noted }) × (result ≡ Ok tt)
+  ServesAsk before number (ask.Issue i) after result =
+      ServesNamed before.noted.is_named before number (ask.Issue i) after result
+  ServesAsk before number (ask.Confirm k) after result =
+      ServesNamed before.noted.is_named before number (ask.Confirm k) after result
   ServesAsk before number (ask.Show uid id) after result = ServesCommand before number (ask.Show uid id) after result
 
   -- A line that asks nothing by its form is refused, and nothing changes. Memory may be out for any line.
@@ -97,4 +135,5 @@ module _ {S : Type 0} (g : Ghosts S) where
   PausesShift before after result = (after ≡ before) × (result ≡ Ok tt)
 
   abbrev pub EndsShift : ShiftAt S → ShiftAt S → ShiftEnd → Type 0
-  EndsShift before after it = (after ≡ before) × (it ≡ end.Done)
+  EndsShift before after it =
+      (after ≡ before) × (it ≡ (if before.noted.has_refused then end.SomeRefused else end.Done))

@@ -1,5 +1,6 @@
 -- How a shift ends (own)
-use Rattle.std.specs.Prelude.{◌≡◌, ℕ, [], codes, Result, Ok, Err}
+use Rattle.std.specs.Prelude.{◌≡◌, ◌⊎◌, ℕ, List, [], ◌++◌, codes, Result, Ok, Err}
+use Rattle.std.specs.Fmt.{decimal}
 use Rattle.bus_port.specs.Sink.{SinkState}
 use Rattle.program_edge.specs.Inputs.{Reading}
 use Rattle.program_edge.specs.Rows.{Row, row_of, memory_row}
@@ -10,21 +11,29 @@ use Rattle.line_stream.specs.declared.driver.StreamFault.{StreamFault}
 use Rattle.line_stream.specs.declared.driver.StreamFault.TheVariants.{ReadFault, TooLong}
 use Rattle.sqlite_trees.specs.declared.store.Store.{Ghosts}
 use Rattle.sqlite.specs.Held.{Held}
-use Rattle.sqlite.specs.declared.error.ErrorCode.TheVariants.{OutOfMemory}
-use Rattle.sqlite.specs.declared.error.Error.TheVariants.{SqliteFailure}
 use Rattle.ledger_rows.specs.Rows.{RowOrigin}
 use Rattle.ledger_tables.specs.Adding.{origin_by}
 use Rattle.ledger_shift.specs.declared.port.ShiftEnd.{ShiftEnd}
 use Rattle.ledger_shift.specs.declared.port.ShiftEnd.TheVariants as end
-use Rattle.ledger_shift.specs.Shifts.{TakesShiftLine, PausesShift, EndsShift}
+use Rattle.ledger_shift.specs.declared.port.Noted.{Noted}
+use Rattle.ledger_shift.specs.Opening.{file_row}
+use Rattle.ledger_shift.specs.Shifts.{nothing_noted, TakesShiftLine, PausesShift, EndsShift}
+
+-- a line that asks for a row, and nobody was named: its text, and its row, or out of memory for the text
+abbrev pub unnamed_text : ℕ → List ℕ
+unnamed_text line = codes "script: line " ++ (decimal line ++ codes ": no by before it\n")
+
+abbrev pub IsUnnamedRow : ℕ → Row → Type 0
+IsUnnamedRow line row = (row ≡ row_of 4 (unnamed_text line)) ⊎ (row ≡ memory_row)
 
 -- the table of the ends of a shift: a status, and a text on standard error
 abbrev pub IsEndRow : Result ShiftEnd StreamFault → Row → Type 0
 IsEndRow (Ok end.Done) row = row ≡ row_of 0 []
+IsEndRow (Ok end.SomeRefused) row = row ≡ row_of 1 []
 IsEndRow (Ok end.Unwritten) row = row ≡ row_of 6 []
 IsEndRow (Ok (end.Refused fault)) row = IsRowOf fault row
-IsEndRow (Ok (end.Failed (SqliteFailure OutOfMemory))) row = row ≡ memory_row
-IsEndRow (Ok (end.Failed _)) row = row ≡ row_of 10 (codes "ledger: the file failed\n")
+IsEndRow (Ok (end.Unnamed line)) row = IsUnnamedRow line row
+IsEndRow (Ok (end.Failed e)) row = row ≡ file_row e
 IsEndRow (Err ReadFault) row = row ≡ row_of 5 (codes "script: read fault\n")
 IsEndRow (Err TooLong) row = row ≡ row_of 8 (codes "script: input too long\n")
 
@@ -48,9 +57,10 @@ pub record ShiftCall (S : Type 0) : Type 0 where
 pub record RunsShift {S : Type 0} (g : Ghosts S) (call : ShiftCall S) : Type 0 where
   pub ended : Result ShiftEnd StreamFault
   pub origin : RowOrigin
+  pub noted : Noted
   pub streamed : Streamed (TakesShiftLine g) (PausesShift g) (EndsShift g) call.script
-      (record { conn = call.conn_before; origin = nobody; sink = call.sink_before })
-      (record { conn = call.conn_after; origin = origin; sink = call.sink_after }) ended
+      (record { conn = call.conn_before; origin = nobody; noted = nothing_noted; sink = call.sink_before })
+      (record { conn = call.conn_after; origin = origin; noted = noted; sink = call.sink_after }) ended
   pub row : Row
   pub row_is : IsEndRow ended row
   pub told : EndingTold call.errors_before call.errors_after row.text row.status call.status

@@ -7,8 +7,10 @@ ghost use Rattle.sqlite.specs.State.{HasCleanDisk};
 ghost use Rattle.sqlite.specs.Held.{state};
 ghost use Rattle.ledger_tables.specs.Held.{HasLedgerTable};
 ghost use Rattle.ledger_shift.specs.declared.line.ShiftLine.TheVariants as ask;
+ghost use Rattle.ledger_shift.specs.declared.port.Noted.{Noted};
 ghost use Rattle.ledger_shift.specs.Shifts.{ShiftAt, TellsAnswer, TellsServed, ServesCommand, ServesAsk, ServesLine};
 ghost use Rattle.ledger_shift.specs.Shifts.{TakesShiftLine, PausesShift, EndsShift, printed_line_number};
+ghost use Rattle.ledger_shift.specs.Shifts.{tells_refusal, noted_of};
 
 use crate::line::{ShiftLine, read_shift_line};
 use crate::origin::Origin;
@@ -26,22 +28,36 @@ use text_lines::{LineFault, ScriptFault};
 /// How a shift ends.
 #[derive(Clone, Copy, Debug, PartialEq, Eq)]
 pub enum ShiftEnd {
-    /// The script ended.
+    /// The script ended, and no command was refused.
     Done,
+    /// The script ended, and a command was refused.
+    SomeRefused,
     /// A line of the script is refused, or there was no memory for it or for its answer.
     Refused(ScriptFault),
+    /// This line asks for a row, and no line before it names who enters it.
+    Unnamed(u32),
     /// The file failed.
     Failed(Error),
     /// The sink failed.
     Unwritten,
 }
 
-/// A ledger in a file, who enters its rows, and the sink that is answered on.
+/// What a shift notes of its lines.
+#[derive(Clone, Copy, Debug, PartialEq, Eq)]
+pub struct Noted {
+    /// A line named who enters rows.
+    pub is_named: bool,
+    /// A command was refused.
+    pub has_refused: bool,
+}
+
+/// A ledger in a file, who enters its rows, what is noted, and the sink that is answered on.
 #[derive(Drop)]
 pub(crate) struct ShiftPort<'a, 'b, 'c, S: Alter, K: Sink> {
     pub(crate) alloc: Global,
     pub(crate) conn: &'a mut Connection<S>,
     pub(crate) origin: &'b mut Origin,
+    pub(crate) noted: Noted,
     pub(crate) sink: &'c mut K,
 }
 
@@ -80,23 +96,51 @@ fn tell_served<K: Sink>(
     }
 }
 
+/// Whether a line tells that nothing was done.
+fn is_refusal(line: &LedgerLine) -> bool
+    ensures { result ≡ tells_refusal line.now }
+{
+    match line {
+        LedgerLine::Refused(_) => true,
+        LedgerLine::Issued { .. } => false,
+        LedgerLine::Confirmed(_) => false,
+        LedgerLine::Shown(_) => false,
+        LedgerLine::Up => false,
+        LedgerLine::Armed => false,
+    }
+}
+
+/// Notes whether a command was refused.
+fn note_served(noted: &mut Noted, served: &Result<LedgerLine, Error>)
+    ensures { noted.new ≡ noted_of noted.old served.now }
+{
+    if let Ok(told) = served {
+        if is_refusal(told) {
+            noted.has_refused = true;
+        }
+    }
+}
+
 /// Serves an issue, and answers it.
 fn take_issue<S: Alter, K: Sink>(
     alloc: Global,
     conn: &mut Connection<S>,
     origin: &Origin,
+    noted: &mut Noted,
     sink: &mut K,
     number: u32,
     asked: &Issue,
 ) -> Result<(), ShiftEnd>
     requires { HasCleanDisk (state S.Store conn.old) → HasLedgerTable (state S.Store conn.old) }
     ensures serves { ServesCommand S.Store
-        (record { conn = conn.old; origin = origin.now; sink = K.state sink.old }) number (ask.Issue asked.now)
-        (record { conn = conn.new; origin = origin.now; sink = K.state sink.new }) result }
+        (record { conn = conn.old; origin = origin.now; noted = noted.old; sink = K.state sink.old }) number
+        (ask.Issue asked.now)
+        (record { conn = conn.new; origin = origin.now; noted = noted.new; sink = K.state sink.new }) result }
     ensures ready { HasCleanDisk (state S.Store conn.new)
         → OnOk result (HasLedgerTable (state S.Store conn.new)) }
 {
     let served = serve_issue(conn, alloc, asked, origin);
+    note_served(noted, &served);
     tell_served(alloc, sink, number, served)
 }
 
@@ -105,18 +149,21 @@ fn take_confirm<S: Alter, K: Sink>(
     alloc: Global,
     conn: &mut Connection<S>,
     origin: &Origin,
+    noted: &mut Noted,
     sink: &mut K,
     number: u32,
     asked: &Confirm,
 ) -> Result<(), ShiftEnd>
     requires { HasCleanDisk (state S.Store conn.old) → HasLedgerTable (state S.Store conn.old) }
     ensures serves { ServesCommand S.Store
-        (record { conn = conn.old; origin = origin.now; sink = K.state sink.old }) number (ask.Confirm asked.now)
-        (record { conn = conn.new; origin = origin.now; sink = K.state sink.new }) result }
+        (record { conn = conn.old; origin = origin.now; noted = noted.old; sink = K.state sink.old }) number
+        (ask.Confirm asked.now)
+        (record { conn = conn.new; origin = origin.now; noted = noted.new; sink = K.state sink.new }) result }
     ensures ready { HasCleanDisk (state S.Store conn.new)
         → OnOk result (HasLedgerTable (state S.Store conn.new)) }
 {
     let served = serve_confirm(conn, alloc, asked, origin);
+    note_served(noted, &served);
     tell_served(alloc, sink, number, served)
 }
 
@@ -131,9 +178,10 @@ fn take_show<S: Alter, K: Sink>(
     id: SlotId,
 ) -> Result<(), ShiftEnd>
     requires { HasCleanDisk (state S.Store conn.old) → HasLedgerTable (state S.Store conn.old) }
-    ensures serves { ServesCommand S.Store
-        (record { conn = conn.old; origin = origin.now; sink = K.state sink.old }) number (ask.Show uid.now id)
-        (record { conn = conn.new; origin = origin.now; sink = K.state sink.new }) result }
+    ensures serves { (noted : Noted) → ServesCommand S.Store
+        (record { conn = conn.old; origin = origin.now; noted = noted; sink = K.state sink.old }) number
+        (ask.Show uid.now id)
+        (record { conn = conn.new; origin = origin.now; noted = noted; sink = K.state sink.new }) result }
     ensures ready { HasCleanDisk (state S.Store conn.new)
         → OnOk result (HasLedgerTable (state S.Store conn.new)) }
 {
@@ -146,14 +194,15 @@ fn take_asked<S: Alter, K: Sink>(
     alloc: Global,
     conn: &mut Connection<S>,
     origin: &mut Origin,
+    noted: &mut Noted,
     sink: &mut K,
     number: u32,
     asked: ShiftLine,
 ) -> Result<(), ShiftEnd>
     requires { HasCleanDisk (state S.Store conn.old) → HasLedgerTable (state S.Store conn.old) }
     ensures serves { ServesAsk S.Store
-        (record { conn = conn.old; origin = origin.old; sink = K.state sink.old }) number asked
-        (record { conn = conn.new; origin = origin.new; sink = K.state sink.new }) result }
+        (record { conn = conn.old; origin = origin.old; noted = noted.old; sink = K.state sink.old }) number asked
+        (record { conn = conn.new; origin = origin.new; noted = noted.new; sink = K.state sink.new }) result }
     ensures ready { HasCleanDisk (state S.Store conn.new)
         → OnOk result (HasLedgerTable (state S.Store conn.new)) }
 {
@@ -161,10 +210,21 @@ fn take_asked<S: Alter, K: Sink>(
         ShiftLine::Skipped => Ok(()),
         ShiftLine::By(named) => {
             *origin = named;
+            noted.is_named = true;
             Ok(())
         }
-        ShiftLine::Issue(issue) => take_issue(alloc, conn, origin, sink, number, &issue),
-        ShiftLine::Confirm(confirm) => take_confirm(alloc, conn, origin, sink, number, &confirm),
+        ShiftLine::Issue(issue) => {
+            if !noted.is_named {
+                return Err(ShiftEnd::Unnamed(number));
+            }
+            take_issue(alloc, conn, origin, noted, sink, number, &issue)
+        }
+        ShiftLine::Confirm(confirm) => {
+            if !noted.is_named {
+                return Err(ShiftEnd::Unnamed(number));
+            }
+            take_confirm(alloc, conn, origin, noted, sink, number, &confirm)
+        }
         ShiftLine::Show(uid, id) => take_show(alloc, conn, origin, sink, number, &uid, id),
     }
 }
@@ -181,6 +241,7 @@ fn take_line<S: Alter, K: Sink>(
     alloc: Global,
     conn: &mut Connection<S>,
     origin: &mut Origin,
+    noted: &mut Noted,
     sink: &mut K,
     number: u32,
     line: &[u8],
@@ -189,13 +250,13 @@ fn take_line<S: Alter, K: Sink>(
     requires short { length line.now < 2 ^ 32 }
     requires one { position_or_len is_line_feed line.now ≡ length line.now }
     ensures serves { ServesLine S.Store
-        (record { conn = conn.old; origin = origin.old; sink = K.state sink.old }) number line.now
-        (record { conn = conn.new; origin = origin.new; sink = K.state sink.new }) result }
+        (record { conn = conn.old; origin = origin.old; noted = noted.old; sink = K.state sink.old }) number line.now
+        (record { conn = conn.new; origin = origin.new; noted = noted.new; sink = K.state sink.new }) result }
     ensures ready { HasCleanDisk (state S.Store conn.new)
         → OnOk result (HasLedgerTable (state S.Store conn.new)) }
 {
     match read_shift_line(alloc, line) {
-        Ok(asked) => take_asked(alloc, conn, origin, sink, number, asked),
+        Ok(asked) => take_asked(alloc, conn, origin, noted, sink, number, asked),
         Err(LineFault::Refused(cause)) => Err(ShiftEnd::Refused(ScriptFault::At {
             line: number,
             cause,
@@ -209,7 +270,12 @@ impl<'a, 'b, 'c, S: Alter, K: Sink> LineTaker for ShiftPort<'a, 'b, 'c, S, K> {
 
     ghost State = { ShiftAt S };
 
-    ghost state = { λ port. record { conn = port.conn.now; origin = port.origin.now; sink = K.state port.sink.now } };
+    ghost state = { λ port. record {
+      conn = port.conn.now;
+      origin = port.origin.now;
+      noted = port.noted;
+      sink = K.state port.sink.now;
+    } };
 
     ghost ready = { λ port bytes _. (bytes ≤ 8193) × (HasCleanDisk (state S.Store port.conn.now) → HasLedgerTable (state S.Store port.conn.now)) };
 
@@ -223,7 +289,15 @@ impl<'a, 'b, 'c, S: Alter, K: Sink> LineTaker for ShiftPort<'a, 'b, 'c, S, K> {
 
     fn take(&mut self, number: u64, line: &[u8]) -> Result<(), ShiftEnd> {
         let number = printed_number(number);
-        take_line(self.alloc, self.conn, self.origin, self.sink, number, line)
+        take_line(
+            self.alloc,
+            self.conn,
+            self.origin,
+            &mut self.noted,
+            self.sink,
+            number,
+            line,
+        )
     }
 
     fn pause(&mut self) -> Result<(), ShiftEnd> {
@@ -231,6 +305,10 @@ impl<'a, 'b, 'c, S: Alter, K: Sink> LineTaker for ShiftPort<'a, 'b, 'c, S, K> {
     }
 
     fn finish(&mut self) -> ShiftEnd {
-        ShiftEnd::Done
+        if self.noted.has_refused {
+            ShiftEnd::SomeRefused
+        } else {
+            ShiftEnd::Done
+        }
     }
 }

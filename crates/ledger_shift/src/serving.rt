@@ -1,5 +1,5 @@
 //! What a command of a shift is answered.
-ghost use Rattle.std.specs.Prelude.{◌≡◌, IfErr, IfOk, OnErr, OnOk};
+ghost use Rattle.std.specs.Prelude.{◌≡◌, false, IfErr, IfOk, OnErr, OnOk};
 ghost use Rattle.memory_update.specs.Messages.{Builds};
 ghost use Rattle.key_campaign.specs.Steps.{update_for};
 ghost use Rattle.sqlite.specs.State.{HasCleanDisk, Survives};
@@ -8,6 +8,7 @@ ghost use Rattle.ledger_tables.specs.Held.{HasLedgerTable};
 ghost use Rattle.ledger_tables.specs.Failing.{IsUndone};
 ghost use Rattle.ledger_shift.specs.declared.line.ShiftLine.TheVariants as ask;
 ghost use Rattle.ledger_shift.specs.Answers.{AnswersAsk, FailsAsk, MayAddRow};
+ghost use Rattle.ledger_shift.specs.Shifts.{tells_refusal};
 
 use crate::origin::Origin;
 use key_campaign::{Confirm, Issue, LedgerLine};
@@ -118,6 +119,7 @@ pub(crate) fn serve_show<S: Alter>(
         (FailsAsk _origin.now (state S.Store conn.old) (state S.Store conn.new) (ask.Show uid.now id)) }
     ensures undone { HasCleanDisk (state S.Store conn.new)
         → OnErr result (IsUndone (state S.Store conn.old) (state S.Store conn.new)) }
+    ensures calm { IfOk result (λ told. tells_refusal told ≡ false) }
     ensures survives { Survives (state S.Store conn.old) (state S.Store conn.new)
         (MayAddRow _origin.now (state S.Store conn.old) (ask.Show uid.now id)) }
 {

@@ -11,8 +11,8 @@ use Rattle.store_plan.specs.Plans.{PlansPut, IsEmptyPlan, applied, no_plan}
 use Rattle.store_plan.proofs.CallerLemmas.{applied-cell, applied-others}
 use Rattle.rathonsi_c.specs.declared.route.RathonsiRoute.{RathonsiRoute}
 use Rattle.rathonsi_c.specs.Routes.{Reserves, at_counter}
-use Rattle.rathonsi_c.specs.Lives.{Memory, powers_up, OpensFilled, GivesOut, SameRoutes, PlansBound, PowerBack, Lives}
-use Rattle.rathonsi_c.specs.Together.{PlansEach, CutTogether, applied_each, PlansHigher, ReservesTogether, reserve_each}
+use Rattle.rathonsi_c.specs.Lives.{Memory, powers_up, OpensFilled, ChangesRoute, GivesOut, RejoinsRoute, SameRoutes, PlansBound, PowerBack, Lives}
+use Rattle.rathonsi_c.specs.Together.{PlansEach, CutTogether, applied_each, PlansHigher, ReservesTogether, reserve_each, AllAmong}
 use Rattle.rathonsi_c.proofs.ImageLaws.{moved_bound}
 use Rattle.rathonsi_c.proofs.LivesLaws.{ranges-counted}
 use Rattle.rathonsi_c.proofs.TogetherLaws.{Owns, Misses, owned_once, part_alike, cell_alike, put_moves, among, within, room, long_applied, applied_beside, cut_long, cut_head, cut_cell, cut_other, each_long, each_out}
@@ -143,16 +143,21 @@ module _ (m n : ℕ) (which : ℕ → ℕ) (a : Memory) (plans : ℕ → Plan) (
     ]
 
     abbrev Does : Memory → Type 0
-    Does c = (done : List ℕ) × Lives m (reserve_each done ++ (powers_up ∷ [])) c b
+    Does c = (done : List ℕ) × (AllAmong n which done × Lives m (reserve_each done ++ (powers_up ∷ [])) c b)
 
     one_more : (k : ℕ) (lt : k < n) (c : Memory) (r : Reached k c) → Does (finishing c k) → Does c
-    one_more k lt c r rest =
-        (which k ∷ rest.0, (planning c k, (reserves_here k lt c r, (finishing c k, (record { done = record { image_is = refl; empty = record { first = refl; second = refl; third = refl } }; routes = λ j. refl }, rest.1)))))
+    one_more k lt c r rest = (
+      which k ∷ rest.0,
+      (
+        ((k, (lt, refl)), rest.1.0),
+        (planning c k, (reserves_here k lt c r, (finishing c k, (record { done = record { image_is = refl; empty = record { first = refl; second = refl; third = refl } }; routes = λ j. refl }, rest.1.1)))),
+      ),
+    )
 
     lives_from : (left k : ℕ) (c : Memory) → k + left ≡ n → Reached k c → Made k c → Does c
     lives_from zero k c e r made =
         let same : k ≡ n = omega arith in
-        ([], (b, (back c (subst (λ i. Reached i c) same r) (subst (λ i. Made i c) same made), refl)))
+        ([], (tt, (b, (back c (subst (λ i. Reached i c) same r) (subst (λ i. Made i c) same made), refl))))
     lives_from (suc left) k c e r made =
         let lt : k < n = omega arith in
         let next : k + 1 + left ≡ n = omega arith in
@@ -161,7 +166,7 @@ module _ (m n : ℕ) (which : ℕ → ℕ) (a : Memory) (plans : ℕ → Plan) (
           | inr new ↦ one_more k lt c r (lives_from left (k + 1) (finishing c k) next (goes_on k lt c r) (made_new k lt c r made new))
         ]
 
-    pub cut_lives : IsEmptyPlan a.plan → (done : List ℕ) × Lives m (reserve_each done ++ (powers_up ∷ [])) a b
+    pub cut_lives : IsEmptyPlan a.plan → (done : List ℕ) × (AllAmong n which done × Lives m (reserve_each done ++ (powers_up ∷ [])) a b)
     cut_lives empty = lives_from n 0 a (omega arith) (start empty) (λ j below. absurd (omega arith))
 
   -- ---- all plans are done
@@ -178,23 +183,26 @@ module _ (m n : ℕ) (which : ℕ → ℕ) (a : Memory) (plans : ℕ → Plan) (
   abbrev between : ℕ → Memory
   between k = record { image = applied_each k plans a.image; plan = plans k; routes = a.routes }
 
-  done_from : IsEmptyPlan a.plan → (left k : ℕ) → k + left ≡ n → (done : List ℕ) × Lives m (reserve_each done) (after k) (after n)
-  done_from empty zero k e = let same : k ≡ n = omega arith in ([], ap after (sym same))
+  done_from : IsEmptyPlan a.plan → (left k : ℕ) → k + left ≡ n → (done : List ℕ) × (AllAmong n which done × Lives m (reserve_each done) (after k) (after n))
+  done_from empty zero k e = let same : k ≡ n = omega arith in ([], (tt, ap after (sym same)))
   done_from empty (suc left) k e =
       let lt : k < n = omega arith in
       let next : suc k + left ≡ n = omega arith in
       let rest = done_from empty left (suc k) next in (
         which k ∷ rest.0,
         (
-          between k,
+          ((k, (lt, refl)), rest.1.0),
           (
-            record { which = h.routes k lt; freshness = h.freshness k; reserved = still_reserves k a.plan lt empty; image = refl; routes = λ j. refl },
-            (after (suc k), (record { done = record { image_is = refl; empty = empty }; routes = λ j. refl }, rest.1)),
+            between k,
+            (
+              record { which = h.routes k lt; freshness = h.freshness k; reserved = still_reserves k a.plan lt empty; image = refl; routes = λ j. refl },
+              (after (suc k), (record { done = record { image_is = refl; empty = empty }; routes = λ j. refl }, rest.1.1)),
+            ),
           ),
         ),
       )
 
-  pub done_lives : IsEmptyPlan a.plan → (done : List ℕ) × Lives m (reserve_each done) a (record a { image = applied_each n plans a.image })
+  pub done_lives : IsEmptyPlan a.plan → (done : List ℕ) × (AllAmong n which done × Lives m (reserve_each done) a (record a { image = applied_each n plans a.image }))
   done_lives empty = done_from empty n 0 (omega arith)
 
 -- ---- what a route gives out meanwhile
@@ -218,21 +226,27 @@ counted_higher r counter d freshness x plan h =
       higher = h.higher;
     }
 
-pub given_meanwhile : (d : Direction) (m n k freshness : ℕ) (which : ℕ → ℕ) (plans : ℕ → Plan) (a b : Memory) → ReservesTogether m n which a plans → GivesOut d m k freshness a b → ReservesTogether m n which b plans
-given_meanwhile d m n k freshness which plans a b h g =
+counted_meanwhile : (m n k counter : ℕ) (which : ℕ → ℕ) (plans : ℕ → Plan) (a b : Memory) → ReservesTogether m n which a plans → ChangesRoute m k a b → b.routes k ≡ at_counter (a.routes k) counter → ReservesTogether m n which b plans
+counted_meanwhile m n k counter which plans a b h changes now =
     let cell : (j : ℕ) → (b.routes j).cell ≡ (a.routes j).cell = λ j. elim (cases_eq j k) [
-      | inl here ↦ subst (λ i. (b.routes i).cell ≡ (a.routes i).cell) (sym here) (ap (λ (t : RathonsiRoute). t.cell) g.advances.now)
-      | inr there ↦ ap (λ (t : RathonsiRoute). t.cell) (g.changes.others j there)
+      | inl here ↦ subst (λ i. (b.routes i).cell ≡ (a.routes i).cell) (sym here) (ap (λ (t : RathonsiRoute). t.cell) now)
+      | inr there ↦ ap (λ (t : RathonsiRoute). t.cell) (changes.others j there)
     ] in
     record {
       routes = h.routes;
       apart = λ i j x y ne e. h.apart i j x y ne (sym (cell (which i)) ∙ (e ∙ cell (which j)));
       direction = h.direction;
       freshness = h.freshness;
-      planned = λ j x. subst (λ (y : List ℕ). PlansHigher (b.routes (which j)) (h.direction j) (h.freshness j) y (plans j)) (sym g.changes.image) (elim (cases_eq (which j) k) [
+      planned = λ j x. subst (λ (y : List ℕ). PlansHigher (b.routes (which j)) (h.direction j) (h.freshness j) y (plans j)) (sym changes.image) (elim (cases_eq (which j) k) [
         | inl here ↦
-            subst (λ (s : RathonsiRoute). PlansHigher s (h.direction j) (h.freshness j) a.image (plans j)) (sym (subst (λ i. b.routes i ≡ at_counter (a.routes i) freshness) (sym here) g.advances.now))
-            (counted_higher (a.routes (which j)) freshness (h.direction j) (h.freshness j) a.image (plans j) (h.planned j x))
-        | inr there ↦ subst (λ (s : RathonsiRoute). PlansHigher s (h.direction j) (h.freshness j) a.image (plans j)) (sym (g.changes.others (which j) there)) (h.planned j x)
+            subst (λ (s : RathonsiRoute). PlansHigher s (h.direction j) (h.freshness j) a.image (plans j)) (sym (subst (λ i. b.routes i ≡ at_counter (a.routes i) counter) (sym here) now))
+            (counted_higher (a.routes (which j)) counter (h.direction j) (h.freshness j) a.image (plans j) (h.planned j x))
+        | inr there ↦ subst (λ (s : RathonsiRoute). PlansHigher s (h.direction j) (h.freshness j) a.image (plans j)) (sym (changes.others (which j) there)) (h.planned j x)
       ]);
     }
+
+pub given_meanwhile : (d : Direction) (m n k freshness : ℕ) (which : ℕ → ℕ) (plans : ℕ → Plan) (a b : Memory) → ReservesTogether m n which a plans → GivesOut d m k freshness a b → ReservesTogether m n which b plans
+given_meanwhile d m n k freshness which plans a b h g = counted_meanwhile m n k freshness which plans a b h g.changes g.advances.now
+
+pub rejoined_meanwhile : (m n k counter : ℕ) (which : ℕ → ℕ) (plans : ℕ → Plan) (a b : Memory) → ReservesTogether m n which a plans → RejoinsRoute m k counter a b → ReservesTogether m n which b plans
+rejoined_meanwhile m n k counter which plans a b h j = counted_meanwhile m n k counter which plans a b h j.changes j.rejoined.now

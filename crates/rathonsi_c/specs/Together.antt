@@ -87,3 +87,8 @@ pub record ReservesTogether (m n : ℕ) (which : ℕ → ℕ) (a : Memory) (plan
 abbrev pub reserve_each : List ℕ → List Deed
 reserve_each [] = []
 reserve_each (k ∷ ks) = reserves k ∷ (finishes ∷ reserve_each ks)
+
+-- each of these is one of the n
+abbrev pub AllAmong : ℕ → (ℕ → ℕ) → List ℕ → Type 0
+AllAmong n which [] = Unit {0}
+AllAmong n which (k ∷ ks) = ((i : ℕ) × ((i < n) × (which i ≡ k))) × AllAmong n which ks

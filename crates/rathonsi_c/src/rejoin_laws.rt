@@ -19,7 +19,9 @@ ghost use Rattle.rathonsi_c.specs.Pairs.{Pair, PairDeed, PairLives, StaysOpen, A
 /// What a receiver's route accepts strictly rises over all lives of both units, whenever the power of either goes, though
 /// it rejoins, and other routes of the unit do; and the sender's counter is at least that (`all_lives`). This holds if
 /// each PDU that it accepted is one that its sender sent, and each answer that it rejoined by is one that the sender
-/// made since the route was opened. Without these two, it rises from an opening of the route to the next (`one_life`).
+/// made since the route was opened. Its own route doesn't rejoin, as none does that sends (`senders` of
+/// [`crate::laws::freshness_rises_over_all_lives`]). Without these two, it rises from an opening of the route to the
+/// next (`one_life`).
 pub fn freshness_rises_though_a_receiver_rejoins()
     ensures all_lives { (m n s r : ℕ) (deeds : List PairDeed) (first last : Pair) → PoweredUp m first.sender
         → PoweredUp n first.receiver → s < m → r < n → PairLives m n s deeds first last
@@ -52,8 +54,8 @@ pub fn a_rejoin_is_two_steps()
 {}
 
 /// Two nonces of one key are the same only if two messages have one CMAC under it, or both are made of one count of one
-/// route by units of one name. A unit makes no two of one count: each becomes the route's counter, and it rises over all
-/// lives (`freshness_rises_over_all_lives`).
+/// route by units of one name. A unit makes no two of one count: each becomes the route's counter, and that rises over all
+/// lives, since the route sends and so never rejoins ([`crate::laws::freshness_rises_over_all_lives`]).
 pub fn a_nonce_is_of_one_count()
     ensures { (r s : RathonsiRoute) (image later nonce : List ℕ) (asker other : ℕ) (m : MakesNonce r image asker nonce)
         (l : MakesNonce s later other nonce) → m.key ≡ l.key → r.data_id < 2 ^ 16 → s.data_id < 2 ^ 16

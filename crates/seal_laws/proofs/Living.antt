@@ -1,15 +1,17 @@
 -- What holds of a part of blanks in all lives of a store.
-use Rattle.std.proofs.Common.{◌≡◌, ◌≢◌, ◌⊎◌, inl, inr, ℕ, suc, ◌-◌, ◌<◌, ◌≤◌, Some, None, List, [], ◌∷◌, ◌++◌, length, set, refl, sym, ap, subst, ◌∙◌, arith}
+use Rattle.std.proofs.Common.{◌≡◌, ◌≢◌, ◌⊎◌, inl, inr, ℕ, suc, ◌+◌, ◌-◌, ◌<◌, ◌≤◌, true, Some, None, List, [], ◌∷◌, ◌++◌, length, set, refl, sym, ap, subst, ◌∙◌, arith}
 use Rattle.std.proofs.lemmas.Bool.{cases_eq}
 use Rattle.std.proofs.lemmas.Option.{same_Some}
 use Rattle.std.proofs.lemmas.List.{length-set}
 use Rattle.seal_parts.specs.declared.PartClass.TheVariants.{Blanks}
+use Rattle.seal_parts.specs.declared.UnitKind.{UnitKind}
 use Rattle.seal_parts.specs.declared.UnitKind.TheVariants.{Line, Confirm, SecondConfirm}
+use Rattle.seal_parts.specs.declared.SealLine.{SealLine}
 use Rattle.seal_parts.specs.declared.LogDeed.{LogDeed}
 use Rattle.seal_parts.specs.declared.DeedBody.{DeedBody}
 use Rattle.seal_parts.specs.declared.DeedBody.TheVariants.{Opens, Puts, Moves, IsNew}
-use Rattle.seal_parts.specs.Parts.{PartUnit, PartFlash}
-use Rattle.seal_parts.specs.Designs.{DoesPartWrites, CutsPartWrites, MayDoPartWrites}
+use Rattle.seal_parts.specs.Parts.{PartUnit, PartFlash, blank_unit}
+use Rattle.seal_parts.specs.Designs.{PartWrite, DoesPartWrites, CutsPartWrites, MayDoPartWrites}
 use Rattle.seal_logs.specs.declared.PlaceRead.{PlaceRead}
 use Rattle.seal_logs.specs.declared.LogSizes.{LogSizes}
 use Rattle.seal_logs.specs.declared.starting.FoundStore.{FoundStore}
@@ -18,15 +20,15 @@ use Rattle.seal_logs.specs.declared.starting.StartEnd.TheVariants.{NoStore, Dama
 use Rattle.seal_logs.specs.Reads.{MakesOf, after_body}
 use Rattle.seal_laws.specs.declared.SealSizes.{SealSizes}
 use Rattle.seal_laws.specs.declared.SealPoint.{SealPoint}
-use Rattle.seal_laws.specs.Writes.{seal_line, deed_of, deed_writes, copy_writes, put_deed, put_writes, move_writes, start_writes, started_at, put_on, moved_on, FitsPut, FitsMove}
-use Rattle.seal_laws.specs.Lives.{seal_off, seal_ready, SealMachine, SealEvent, starts, puts_cell, makes_anew, cuts_start, cuts_puts, cuts_anew, rests, StartsSeal, CutsStartSeal, cuts_reads, cuts_writes, PutsSeal, goes_next, goes_on, CutsPutSeal, cuts_next, cuts_on, MakesAnewSeal, CutsAnewSeal, DoesSealEvent, SealLives, MayMakeSeal, PossibleSeal, FindsSeal, FormattedSeal}
-use Rattle.seal_laws.proofs.Flashes.{firm_line, firm_reads, blank_no_content, Extends, chain_extends, chain_before, read_leaves, deed_done, done_firm, done_closed, LeavesBank, copy_done, does_both}
+use Rattle.seal_laws.specs.Writes.{seal_line, deed_of, deed_writes, copy_writes, put_deed, put_writes, bank_after, move_deed, move_writes, first_writes, start_writes, started_at, put_on, moved_on, FitsPut, FitsMove}
+use Rattle.seal_laws.specs.Lives.{seal_off, seal_ready, SealMachine, SealEvent, starts, puts_cell, makes_anew, cuts_start, cuts_puts, cuts_anew, rests, StartsSeal, CutsStartSeal, cuts_reads, cuts_writes, PutsSeal, goes_next, goes_on, CutsPutSeal, cuts_next, cuts_on, MakesAnewSeal, CutsAnewSeal, DoesSealEvent, SealLives, MayMakeSeal, PossibleSeal, FindsSeal, FormattedSeal, OnlyResets}
+use Rattle.seal_laws.proofs.Flashes.{firm_line, firm_reads, blank_no_content, Extends, chain_extends, chain_before, read_leaves, deed_done, done_firm, done_closed, LeavesBank, copy_done, deed_may, copy_may, does_both, may_both}
 use Rattle.seal_laws.proofs.Sealed.{OlderIn, FreeFrom, SoundBank, HasDeeds, in_bank_more, at_move_more, free_here, deeds_on}
 use Rattle.seal_laws.proofs.Writing.{Rests, rests_in, rests_at, Ready, ready_in, ready_at, rests_ready, ready_line_may, move_on, next_left, next_done}
-use Rattle.seal_laws.proofs.Moving.{home_ready, move_done, move_cut, move_may}
+use Rattle.seal_laws.proofs.Moving.{home_ready, move_done, move_whole, move_cut, move_may}
 use Rattle.seal_laws.proofs.StartingMoved.{start_leaves}
 use Rattle.seal_laws.proofs.Finding.{finds_store}
-use Rattle.seal_laws.proofs.Resting.{nothing_written}
+use Rattle.seal_laws.proofs.Resting.{nothing_written, nothing_moved}
 
 -- ---- more cells may be, and which are
 
@@ -234,6 +236,53 @@ zero_not_one e = absurd (omega (arith, e))
 one_not_zero : let z : ℕ = 0 in let o : ℕ = 1 in o ≢ z
 one_not_zero e = absurd (omega (arith, e))
 
+-- the first store may be written on a part that is blank
+module _ (s : SealSizes) (cells : List (List ℕ)) (f : PartFlash) (blank : (bank k : ℕ) (kind : UnitKind) → f.unit bank k kind ≡ blank_unit) (erased : f.is_erased 0 ≡ true) where
+  abbrev m : ℕ
+  m = s.log.cells
+
+  abbrev writes1 : List PartWrite
+  writes1 = deed_writes Blanks 0 m (seal_line 1 (deed_of None IsNew))
+
+  abbrev writes2 : List PartWrite
+  writes2 = deed_writes Blanks 0 (suc m) (seal_line 1 (deed_of (Some m) IsNew))
+
+  abbrev writes3 : List PartWrite
+  writes3 = deed_writes Blanks 0 (suc (suc m)) (seal_line 1 (deed_of (Some (suc m)) (Moves 1 2)))
+
+  -- bank 0 is blank from this place on
+  BlankFrom : ℕ → PartFlash → Type 0
+  BlankFrom i g = (g.is_erased 0 ≡ true) × ((k : ℕ) (kind : UnitKind) → i ≤ k → g.unit 0 k kind ≡ blank_unit)
+
+  here_may : (i : ℕ) (line : SealLine) (g : PartFlash) → BlankFrom i g → MayDoPartWrites Blanks (deed_writes Blanks 0 i line) g
+  unfolding BlankFrom
+  here_may i line g b = (let same : i ≤ i = omega arith in deed_may 0 i line g b.0 (b.1 i Line same) (b.1 i Confirm same) (b.1 i SecondConfirm same))
+
+  blank_on : (i : ℕ) (line : SealLine) (g h : PartFlash) → BlankFrom i g → DoesPartWrites Blanks (deed_writes Blanks 0 i line) g h → BlankFrom (suc i) h
+  unfolding BlankFrom
+  blank_on i line g h b d = (let w = deed_done 0 i line g h d in (
+    w.erased 0 ∙ b.0,
+    λ k kind far. w.others 0 k kind (inr (λ e. absurd (omega (arith, e, far)))) ∙ b.1 k kind (omega (arith, far)),
+  ))
+
+  blank_still : (i : ℕ) (g h : PartFlash) → BlankFrom i g → DoesPartWrites Blanks (copy_writes 1 2 cells) g h → BlankFrom i h
+  unfolding BlankFrom
+  blank_still i g h b d = (let w = (copy_done 1 2 cells g h d).0 in (w.erased 0 zero_not_one ∙ b.0, λ k kind far. w.banks 0 k kind zero_not_one ∙ b.1 k kind far))
+
+  blank_first : BlankFrom m f
+  unfolding BlankFrom
+  blank_first = (erased, λ k kind far. blank 0 k kind)
+
+  pub first_may : MayDoPartWrites Blanks (first_writes Blanks m cells) f
+  first_may = may_both Blanks writes1 (writes2 ++ (copy_writes 1 2 cells ++ writes3)) f (here_may m (seal_line 1 (deed_of None IsNew)) f blank_first)
+      (λ g1 d1. (
+      let b1 = blank_on m (seal_line 1 (deed_of None IsNew)) f g1 blank_first d1 in
+      may_both Blanks writes2 (copy_writes 1 2 cells ++ writes3) g1 (here_may (suc m) (seal_line 1 (deed_of (Some m) IsNew)) g1 b1)
+      (λ g2 d2. (
+      let b2 = blank_on (suc m) (seal_line 1 (deed_of (Some m) IsNew)) g1 g2 b1 d2 in
+      may_both Blanks (copy_writes 1 2 cells) writes3 g2 (copy_may 1 2 cells g2)
+      (λ g3 d3. here_may (suc (suc m)) (seal_line 1 (deed_of (Some (suc m)) (Moves 1 2))) g3 (blank_still (suc (suc m)) g2 g3 b2 d3))))))
+
 module _ (s : SealSizes) (cells : List (List ℕ)) (a : SealMachine) (x : FormattedSeal Blanks s cells a) where
   abbrev n : ℕ
   n = s.log.cells
@@ -249,7 +298,7 @@ module _ (s : SealSizes) (cells : List (List ℕ)) (a : SealMachine) (x : Format
 
   sound_blank : SoundBank s.log x.before 0 1
   sound_blank = record {
-    erased = x.erased 0;
+    erased = x.erased 0 (let two = x.fits.two in omega (arith, two));
     inside = (let two = x.fits.two in omega (arith, two));
     confirm = λ k far. inl (x.blank 0 k Confirm);
     second = λ k far. inl (x.blank 0 k SecondConfirm);
@@ -352,3 +401,41 @@ module _ (s : SealSizes) (events : List SealEvent) (cells : List (List ℕ)) (a 
       let n = next_done Either s.log b.flash c.flash now (Puts cell payload) tt (inr refl) p ready (omega (arith, fits)) does in
       nothing_written Either s c.flash after finds.view finds.reads found made p.bank p.generation p.next n.cur n.chain n.copy (set now cell payload) n.bank n.free
       (done_closed p.bank p.next (seal_line p.generation (put_deed p cell payload)) b.flash c.flash does) finds.finds
+
+  pub nothing_after_move : (p : SealPoint) (now fresh made : List (List ℕ)) (c : SealMachine) (found : FoundStore) (after : PartFlash) → b.stage ≡ seal_ready p now → FitsMove s p → length fresh ≡ length now
+      → DoesPartWrites Blanks (move_writes Blanks s p fresh) b.flash c.flash → FindsSeal Blanks s c (Found found) made after → start_writes Blanks s found ≡ []
+  nothing_after_move p now fresh made c found after is fits count does finds =
+      let Either : List (List ℕ) → Type 0 = λ (z : List (List ℕ)). (z ≡ now) ⊎ (z ≡ fresh) in
+      let ready = ready_stands Any s b p now is stands_then in
+      let w = move_whole Either s x.fits.two p now fresh (count ∙ ready_count Any s.log b.flash p now ready) (inr refl) fits b.flash c.flash (ready_only Any Either s.log b.flash p now (inl refl) ready) does in
+      nothing_moved Either s c.flash after finds.view finds.reads found made p.bank p.generation (p.next + p.lacking) (move_deed s p) w.chain (bank_after s.log.banks p.bank) fresh w.move w.free w.apart w.closed finds.finds
+
+-- ---- resets while a start would write nothing
+
+module _ (s : SealSizes) (Q : PartFlash → Type 0)
+    (nothing : (c : SealMachine) (found : FoundStore) (made : List (List ℕ)) (after : PartFlash) → Q c.flash → FindsSeal Blanks s c (Found found) made after → start_writes Blanks s found ≡ []) where
+  start_still : (c d : SealMachine) → Q c.flash → StartsSeal Blanks s c d → d.flash ≡ c.flash
+  start_still c d does x =
+      let same : d.flash ≡ x.between = subst (λ (ws : List PartWrite). DoesPartWrites Blanks ws x.between d.flash) (nothing c x.found x.cells x.between does x.finds) x.writes in
+      same ∙ read_leaves c.flash x.between x.finds.view x.finds.reads
+
+  cut_still : (c d : SealMachine) → Q c.flash → CutsStartSeal Blanks s c d → d.flash ≡ c.flash
+  cut_still c d does (cuts_reads view was reads off) = read_leaves c.flash d.flash view reads
+  cut_still c d does (cuts_writes found made between finds cut off) =
+      absurd (subst (λ (ws : List PartWrite). CutsPartWrites Blanks ws between d.flash) (nothing c found made between does finds) cut)
+
+  resets_same : (resets : List SealEvent) (c d : SealMachine) → OnlyResets resets → Q c.flash → SealLives Blanks s resets c d → d.flash ≡ c.flash
+  resets_same [] c d only does run = ap (λ (z : SealMachine). z.flash) run
+  resets_same (starts ∷ resets) c d only does run = (let same = start_still c run.0 does run.1.0 in resets_same resets run.0 d only (subst Q (sym same) does) run.1.1 ∙ same)
+  resets_same (cuts_start ∷ resets) c d only does run = (let same = cut_still c run.0 does run.1.0 in resets_same resets run.0 d only (subst Q (sym same) does) run.1.1 ∙ same)
+  resets_same (rests ∷ resets) c d only does run = (let same = run.1.0.0 in resets_same resets run.0 d only (subst Q (sym same) does) run.1.1 ∙ same)
+  resets_same (puts_cell i bytes ∷ resets) c d only does run = absurd only
+  resets_same (makes_anew made ∷ resets) c d only does run = absurd only
+  resets_same (cuts_puts i bytes ∷ resets) c d only does run = absurd only
+  resets_same (cuts_anew made ∷ resets) c d only does run = absurd only
+
+  pub nothing_after_resets : (resets : List SealEvent) (made : List (List ℕ)) (c d : SealMachine) (found : FoundStore) (after : PartFlash) → OnlyResets resets → Q c.flash → SealLives Blanks s resets c d
+      → (d.flash ≡ c.flash) × (FindsSeal Blanks s d (Found found) made after → start_writes Blanks s found ≡ [])
+  nothing_after_resets resets made c d found after only does run =
+      let same = resets_same resets c d only does run in
+      (same, λ finds. nothing d found made after (subst Q (sym same) does) finds)

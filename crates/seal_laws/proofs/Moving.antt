@@ -3,17 +3,18 @@ use Rattle.std.proofs.Common.{◌≡◌, ◌≢◌, inl, inr, ℕ, zero, suc, �
 use Rattle.std.proofs.lemmas.Bool.{cases_lt, cases_eq, lt-ltb, le-ltb}
 use Rattle.seal_parts.specs.declared.PartClass.TheVariants.{Blanks}
 use Rattle.seal_parts.specs.declared.UnitKind.TheVariants.{Line, Confirm, SecondConfirm}
+use Rattle.seal_parts.specs.declared.UnitContent.TheVariants.{Mark}
 use Rattle.seal_parts.specs.declared.LogDeed.{LogDeed}
 use Rattle.seal_parts.specs.declared.DeedBody.TheVariants.{Opens, Moves}
-use Rattle.seal_parts.specs.Parts.{PartUnit, PartFlash}
+use Rattle.seal_parts.specs.Parts.{PartUnit, PartFlash, whole_unit}
 use Rattle.seal_parts.specs.Designs.{DoesPartWrites, CutsPartWrites, MayDoPartWrites}
 use Rattle.seal_logs.specs.declared.LogSizes.{LogSizes}
 use Rattle.seal_logs.specs.Reads.{IsChain}
 use Rattle.seal_laws.specs.declared.SealSizes.{SealSizes}
 use Rattle.seal_laws.specs.declared.SealPoint.{SealPoint}
 use Rattle.seal_laws.specs.Writes.{seal_line, deed_of, deed_writes, copy_writes, opening_writes, last_after, bank_after, move_deed, move_writes, FitsMove, point_at, moved_on}
-use Rattle.seal_laws.proofs.Flashes.{firm_line, firm_reads, blank_no_content, Extends, chain_extends, makes_extends, copy_extends, LeavesDeed, deed_done, deed_cut, done_firm, LeavesBank, HasCopyAlone, copy_done, copy_cut, copy_may, does_both, cuts_both, may_both}
-use Rattle.seal_laws.proofs.Sealed.{OlderIn, FreeFrom, SoundBank, HomeReady, stands_move, InBank, before_next}
+use Rattle.seal_laws.proofs.Flashes.{firm_line, firm_reads, blank_no_content, Extends, chain_extends, makes_extends, copy_extends, LeavesDeed, deed_done, deed_cut, done_firm, done_closed, LeavesBank, HasCopyAlone, copy_done, copy_cut, copy_may, does_both, cuts_both, may_both}
+use Rattle.seal_laws.proofs.Sealed.{OlderIn, FreeFrom, SoundBank, HomeReady, stands_move, InBank, AtMove, free_here, before_next}
 use Rattle.seal_laws.proofs.Writing.{Rests, rests_in, Ready, ready_in, ready_at, last_from, free_may, ready_line_may, move_on, in_bank_left, next_left, next_done}
 
 -- ---- the next bank
@@ -200,6 +201,14 @@ module _ (P : List (List ℕ) → Type 0) (s : LogSizes) where
 
 -- ---- a move
 
+-- the log is at a move that was done: nothing stands behind it, nor behind the copy that it names
+pub record MovedWhole (P : List (List ℕ) → Type 0) (s : SealSizes) (h : PartFlash) (p : SealPoint) (made : List (List ℕ)) : Type 0 where
+  pub chain : List ℕ
+  pub move : AtMove P s.log h p.bank p.generation (p.next + p.lacking) (move_deed s p) chain (bank_after s.log.banks p.bank) made
+  pub free : FreeFrom s.log h p.bank (suc (p.next + p.lacking))
+  pub apart : FreeFrom s.log h (bank_after s.log.banks p.bank) s.log.cells
+  pub closed : h.unit p.bank (p.next + p.lacking) SecondConfirm ≡ whole_unit Mark
+
 module _ (P : List (List ℕ) → Type 0) (s : SealSizes) (two : 2 ≤ s.log.banks) (p : SealPoint) (now made : List (List ℕ)) (count : length made ≡ s.log.cells) (may : P made) (fits : FitsMove s p) where
   abbrev to : ℕ
   to = bank_after s.log.banks p.bank
@@ -256,6 +265,31 @@ module _ (P : List (List ℕ) → Type 0) (s : SealSizes) (two : 2 ≤ s.log.ban
           let m = move_on P s.log g2 h p.bank k p.generation deed from (free k (omega arith) fits.place) d fits.place free o.last to e.ks made (kept g2 w).deeds.sound (kept g2 w).older refl apart ready may
           (subst (λ (z : LogDeed). IsChain s.log (firm_reads g2 p.bank) p.generation k z.prev e.ks) (sym deed_is) e.chain) firm in
           ready_at p.bank p.generation k deed (k ∷ e.ks) to m.0 m.1 refl
+
+      -- all of the move: nothing stands behind it, in either bank
+      pub moved_whole : DoesPartWrites Blanks (deed_writes Blanks p.bank k (seal_line p.generation deed)) g2 h → MovedWhole P s h p made
+      moved_whole does =
+          let d = deed_done p.bank k (seal_line p.generation deed) g2 h does in
+          let firm = done_firm p.bank k (seal_line p.generation deed) g2 h does in
+          let e = before_next s.log g2 p.bank p.generation o.last o.opened.cur o.opened.copy now o.opened.chain (kept g2 w).deeds (kept g2 w).cells.makes k behind (Moves to (suc p.generation)) in
+          let m = move_on P s.log g2 h p.bank k p.generation deed from (free k (omega arith) fits.place) d fits.place free o.last to e.ks made (kept g2 w).deeds.sound (kept g2 w).older refl apart ready may
+          (subst (λ (z : LogDeed). IsChain s.log (firm_reads g2 p.bank) p.generation k z.prev e.ks) (sym deed_is) e.chain) firm in
+          record {
+            chain = k ∷ e.ks;
+            move = m.0;
+            free = free_here s.log g2 h p.bank k p.generation deed from (free k (omega arith) fits.place) d free;
+            apart = m.1;
+            closed = done_closed p.bank k (seal_line p.generation deed) g2 h does;
+          }
+
+  pub move_whole : (f h : PartFlash) → Ready P s.log f p now → DoesPartWrites Blanks (move_writes Blanks s p made) f h → MovedWhole P s h p made
+  move_whole f h ready does =
+      let a = does_both Blanks (opening_writes Blanks p.bank p.generation p.next p.last p.lacking)
+      (copy_writes to (suc p.generation) made ++ deed_writes Blanks p.bank (p.next + p.lacking) (seal_line p.generation deed)) f h does in
+      let b = does_both Blanks (copy_writes to (suc p.generation) made) (deed_writes Blanks p.bank (p.next + p.lacking) (seal_line p.generation deed)) a.0 h a.1.1 in
+      let o = all_opened P s.log f a.0 p now ready (let x = fits.place in omega (arith, x)) a.1.0 in
+      let c = copy_done to (suc p.generation) made a.0 b.0 b.1.0 in
+      moved_whole f a.0 o b.0 h c.0 c.1 b.1.1
 
   pub move_done : (f h : PartFlash) → Ready P s.log f p now → DoesPartWrites Blanks (move_writes Blanks s p made) f h → Ready P s.log h (moved_on s p) made
   move_done f h ready does =

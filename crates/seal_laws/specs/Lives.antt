@@ -118,6 +118,14 @@ SealLives class s [] a c = c ≡ a
 SealLives class s (event ∷ events) a c =
     (b : SealMachine) × (DoesSealEvent class s event a b × SealLives class s events b c)
 
+-- only starts, done or cut, and losses of power
+abbrev pub OnlyResets : List SealEvent → Type 0
+OnlyResets [] = Unit {0}
+OnlyResets (starts ∷ events) = OnlyResets events
+OnlyResets (cuts_start ∷ events) = OnlyResets events
+OnlyResets (rests ∷ events) = OnlyResets events
+OnlyResets (event ∷ events) = ⊥
+
 -- what an event may make of the cells: a put that was cut is there whole or not at all
 abbrev pub MayMakeSeal : SealEvent → List (List ℕ) → List (List ℕ) → Type 0
 MayMakeSeal (puts_cell cell payload) old new = new ≡ set old cell payload
@@ -136,12 +144,12 @@ pub record FitsSeal (s : SealSizes) : Type 0 where
   pub two : 2 ≤ s.log.banks
   pub room : s.log.cells + 3 ≤ s.log.places
 
--- The first store, with these cells, was just made on a part all of whose units were blank. No power was cut meanwhile.
+-- The first store, with these cells, was just made on a part all of whose banks were erased. No power was cut meanwhile.
 pub record FormattedSeal (class : PartClass) (s : SealSizes) (cells : List (List ℕ)) (a : SealMachine) : Type 0 where
   pub fits : FitsSeal s
   pub count : length cells ≡ s.log.cells
   pub before : PartFlash
   pub blank : (bank k : ℕ) (kind : UnitKind) → before.unit bank k kind ≡ blank_unit
-  pub erased : (bank : ℕ) → before.is_erased bank ≡ true
+  pub erased : (bank : ℕ) → bank < s.log.banks → before.is_erased bank ≡ true
   pub writes : DoesPartWrites class (first_writes class s.log.cells cells) before a.flash
   pub off : a.stage ≡ seal_off

@@ -1,7 +1,8 @@
 //! The laws: each function has an empty body, and its contract is the law.
-ghost use Rattle.std.specs.Prelude.{◌≡◌, ◌≢◌, ◌⊎◌, ℕ, true, Some, List, [], ◌∷◌, length};
+ghost use Rattle.std.specs.Prelude.{◌≡◌, ◌≢◌, ◌⊎◌, ◌<◌, ℕ, true, Some, List, [], ◌∷◌, length};
 ghost use Rattle.seal_parts.specs.declared.PartClass.TheVariants.{Blanks};
-ghost use Rattle.seal_parts.specs.Parts.{PartFlash};
+ghost use Rattle.seal_parts.specs.Parts.{PartFlash, blank_unit};
+ghost use Rattle.seal_parts.specs.declared.UnitKind.{UnitKind};
 ghost use Rattle.seal_parts.specs.Designs.{DoesPartWrites, MayDoPartWrites, programs_unit};
 ghost use Rattle.seal_parts.specs.declared.UnitKind.TheVariants.{Line, Confirm, SecondConfirm};
 ghost use Rattle.seal_parts.specs.declared.UnitContent.TheVariants.{Mark, Holds};
@@ -9,9 +10,9 @@ ghost use Rattle.seal_parts.specs.declared.DeedBody.TheVariants.{Puts};
 ghost use Rattle.seal_logs.specs.Starts.{IsMove};
 ghost use Rattle.seal_logs.specs.declared.starting.StartEnd.TheVariants.{NoStore, Damaged, Found};
 ghost use Rattle.seal_laws.specs.Writes.{start_writes, put_writes, move_writes, erases_begun_by, FitsPut};
-ghost use Rattle.seal_laws.specs.Writes.{FitsMove, point_at, seal_line, deed_of, bank_after};
+ghost use Rattle.seal_laws.specs.Writes.{FitsMove, point_at, seal_line, deed_of, bank_after, first_writes};
 ghost use Rattle.seal_laws.specs.Lives.{SealMachine, SealEvent, SealLives, FindsSeal, FormattedSeal, PossibleSeal};
-ghost use Rattle.seal_laws.specs.Lives.{seal_ready, cuts_puts, starts};
+ghost use Rattle.seal_laws.specs.Lives.{seal_ready, cuts_puts, starts, FitsSeal, OnlyResets};
 
 use crate::{SealPoint, SealSizes};
 use seal_logs::{FoundStore, StartEnd};
@@ -38,7 +39,8 @@ pub fn a_power_up_finds_the_store_on_a_part_of_blanks()
         → FindsSeal Blanks s b end found after → (end ≢ NoStore) × (end ≢ Damaged) }
 {}
 
-/// On a part of blanks each unit that is to be programmed is blank, in a bank whose last erase was done.
+/// On a part of blanks each unit that is to be programmed is blank, in a bank whose last erase was done. That holds of the
+/// first store, too, if all banks were erased.
 pub fn a_unit_is_programmed_once_on_a_part_of_blanks()
     ensures start { (s : SealSizes) (events : List SealEvent) (cells now : List (List ℕ)) (a b : SealMachine)
         (found : FoundStore) (after : PartFlash) → FormattedSeal Blanks s cells a → SealLives Blanks s events a b
@@ -51,6 +53,10 @@ pub fn a_unit_is_programmed_once_on_a_part_of_blanks()
         (point : SealPoint) → FormattedSeal Blanks s cells a → SealLives Blanks s events a b
         → b.stage ≡ seal_ready point now → FitsMove s point → length made ≡ length now
         → MayDoPartWrites Blanks (move_writes Blanks s point made) b.flash }
+    ensures first { (s : SealSizes) (cells : List (List ℕ)) (before : PartFlash) → FitsSeal s
+        → ((bank k : ℕ) (kind : UnitKind) → before.unit bank k kind ≡ blank_unit)
+        → ((bank : ℕ) → bank < s.log.banks → before.is_erased bank ≡ true)
+        → MayDoPartWrites Blanks (first_writes Blanks s.log.cells cells) before }
 {}
 
 /// A start erases nothing, of whatever class the part is. After a clean end in its bank it writes nothing at all. A put
@@ -66,14 +72,24 @@ pub fn a_start_erases_nothing()
         → erases_begun_by (move_writes class s point cells) ≡ 1 }
 {}
 
-/// On a part of blanks a start after a put that went to the next place of its bank, with nothing between but a loss of
-/// power, writes nothing. So a thousand resets after such a put wear nothing.
+/// On a part of blanks resets after a put that was done wear nothing, however many they are and wherever the power goes:
+/// each start writes nothing, and all units stay as they were. So a thousand resets after such a put wear nothing. The
+/// same holds after a move.
 pub fn a_start_after_a_put_writes_nothing_on_a_part_of_blanks()
-    ensures { (s : SealSizes) (events : List SealEvent) (cells now made : List (List ℕ)) (a b c : SealMachine)
-        (point : SealPoint) (cell : ℕ) (payload : List ℕ) (found : FoundStore) (after : PartFlash)
+    ensures put { (s : SealSizes) (events resets : List SealEvent) (cells now made : List (List ℕ))
+        (a b c d : SealMachine) (point : SealPoint) (cell : ℕ) (payload : List ℕ) (found : FoundStore)
+        (after : PartFlash) → FormattedSeal Blanks s cells a → SealLives Blanks s events a b
+        → b.stage ≡ seal_ready point now → FitsPut s point
+        → DoesPartWrites Blanks (put_writes Blanks point cell payload) b.flash c.flash → OnlyResets resets
+        → SealLives Blanks s resets c d → (d.flash ≡ c.flash)
+        × (FindsSeal Blanks s d (Found found) made after → start_writes Blanks s found ≡ []) }
+    ensures moves { (s : SealSizes) (events resets : List SealEvent) (cells now fresh made : List (List ℕ))
+        (a b c d : SealMachine) (point : SealPoint) (found : FoundStore) (after : PartFlash)
         → FormattedSeal Blanks s cells a → SealLives Blanks s events a b → b.stage ≡ seal_ready point now
-        → FitsPut s point → DoesPartWrites Blanks (put_writes Blanks point cell payload) b.flash c.flash
-        → FindsSeal Blanks s c (Found found) made after → start_writes Blanks s found ≡ [] }
+        → FitsMove s point → length fresh ≡ length now
+        → DoesPartWrites Blanks (move_writes Blanks s point fresh) b.flash c.flash → OnlyResets resets
+        → SealLives Blanks s resets c d → (d.flash ≡ c.flash)
+        × (FindsSeal Blanks s d (Found found) made after → start_writes Blanks s found ≡ []) }
 {}
 
 /// Small cases of the definitions: what a put of cell 3 writes at place 5 of bank 1, which bank is next of two, and

@@ -1,5 +1,5 @@
 //! All lives of a store of cells on a part whose reads need not settle, and what holds of them. It has definitions and
-//! laws: no code of such a store is built yet.
+//! laws; the code of such a store on a part of blanks is `seal_store`.
 //!
 //! A bank holds a **copy** of the cells, and then **deeds**: each names the deed that it follows. A deed puts a cell,
 //! opens the bank, or moves the store to another bank. A start reads each unit once. After a clean end it writes

@@ -20,10 +20,11 @@ pub record PartRuns (old new : PartState) : Type 0 where
   pub places : new.places ≡ old.places
   pub later : old.faults ≤ new.faults
 
--- what holds of every part
+-- What holds of every part. A place that it doesn't have counts as blank.
 pub record IsPart (s : PartState) : Type 0 where
   pub two : 2 ≤ s.banks
   pub few : s.banks ≤ 16
   pub sized : s.places < 2 ^ 32
   pub counted : s.faults ≤ last_count
   pub behind : (bank k : ℕ) (kind : UnitKind) → s.places ≤ k → s.flash.unit bank k kind ≡ blank_unit
+  pub beyond : (bank k : ℕ) (kind : UnitKind) → s.banks ≤ bank → s.flash.unit bank k kind ≡ blank_unit

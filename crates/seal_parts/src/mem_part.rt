@@ -229,7 +229,7 @@ impl SealPart for MemPart {
     }
 
     ghost is_part = { λ part. memory_is_a_part part.class part.banks part.places part.faults part.erased
-        part.held.items part.two part.few part.counted part.short };
+        part.held.items part.two part.few part.counted part.short part.sized };
 }
 
 /// The lowest bit, which goes to the other end.

@@ -1,6 +1,6 @@
 -- The state goes on by a line.
 use Rattle.std.proofs.Common.{◌≡◌, ℕ, zero, suc, ◌+◌, ◌<◌, ◌≤◌, ◌==◌, ◌&&◌, Bool, true, false, List, [], ◌∷◌, ◌++◌, length, map, take, set, refl, sym, ◌∙◌, ap, subst, arith, append-nil, append_assoc, inl, inr, length-append, get_or-set_same, get_or-set_other, length-set}
-use Rattle.std.specs.Prelude.{if◌then◌else◌, nat_lt, slice_index, filter, Option, None, Some, IfSome}
+use Rattle.std.specs.Prelude.{if◌then◌else◌, nat_lt, slice_index, slice_get, filter, Option, None, Some, IfSome}
 use Rattle.std.specs.List.{flat_map, list_all, range_with_len}
 use Rattle.std.proofs.lemmas.Bool.Decides.{nat_tests}
 use Rattle.std.proofs.lemmas.Grind.{flat_map-append}
@@ -18,7 +18,11 @@ use Rattle.can_logs.specs.declared.findings.FrameTally.{FrameTally}
 use Rattle.can_logs.specs.declared.findings.FrameTally.TheVariants as tally
 use Rattle.watch_commands.specs.declared.counts.WatchCounts.{WatchCounts}
 use Rattle.watch_commands.specs.declared.counts.LineCounts.{LineCounts}
+use Rattle.watch_commands.specs.declared.times.HeardTimes.{HeardTimes}
+use Rattle.watch_commands.specs.declared.times.LogClock.{LogClock}
+use Rattle.watch_commands.specs.declared.times.Silence.{Silence}
 use Rattle.watch_commands.specs.Limits.{limits_in}
+use Rattle.watch_commands.specs.Times.{time_by, time_found, no_times, clock_of, times_of}
 use Rattle.watch_commands.specs.WatchedMaps.{WatchedMap}
 use Rattle.can_logs.specs.Findings.{Finding, other, too_short, verdict, tally_of, finding_accepts, first_counters, counter_of_place, AuditsLine, is_accepted_tally}
 use Rattle.can_logs.proofs.CallerLemmas.{AuditsLine-same}
@@ -27,9 +31,11 @@ use Rattle.line_stream.specs.Pieces.{line_limit, in_64_bits}
 use Rattle.watch_commands.specs.Watching.{Found, stamped, findings_of, WatchesLine, none, more, told_text, found_text}
 use Rattle.watch_commands.specs.Stamps.{stamp_of}
 use Rattle.watch_commands.proofs.Stamping.{findings_more, stamped_kept}
-use Rattle.watch_commands.specs.WatchTotals.{is_failed_tally, is_accepted_at, is_failed_at, is_other_of, is_unmapped_line, is_other_frame, is_malformed_line, counted_of, counts_of, counts_text, total_line_at, map_places, line_over_at, log_over, totals_of, totals_text_of, totals_text, passes_at, log_passes, status_of, watch_status}
+use Rattle.watch_commands.proofs.Silencing.{FewFound, no_found, one_found, clock_more, told_kept, get_replicated, length-heard, times_one, silence_is}
+use Rattle.watch_commands.specs.WatchTotals.{is_failed_tally, is_accepted_at, is_failed_at, is_other_of, is_unmapped_line, is_other_frame, is_malformed_line, counted_of, counts_of, counts_text, total_line_at, map_places, line_over_at, log_over, totals_text_of, passes_at, log_passes, status_of}
+use Rattle.watch_commands.specs.LogTotals.{totals_of, totals_text, watch_status}
 use Rattle.line_stream.specs.Streams.{kept_of}
-use Rattle.watch_commands.specs.States.{WatchState, IsFreshWatch, Watched, JudgesLine, WatchesNext, IsPlaced, tally_found, counts_as, counts_after, accepted_place, failed_place, raised_at, totals_in, end_text, end_status}
+use Rattle.watch_commands.specs.States.{WatchState, IsFreshWatch, Watched, JudgesLine, WatchesNext, IsPlaced, tally_found, counts_as, counts_after, accepted_place, failed_place, raised_at, totals_in, end_text, end_status, time_told, clock_after, times_after, heard_after, silence_at}
 
 -- ---- counting
 
@@ -58,6 +64,21 @@ at_most_one : (mapping : List MapLine) (c : ℕ → ℕ) (number : ℕ) (bytes :
 at_most_one mapping c number bytes found (inl (long, is)) = subst AtMostOne (sym is) (one_finding (other kind.Malformed))
 at_most_one mapping c number bytes found (inr (inl (few, skipped, is))) = subst AtMostOne (sym is) no_finding
 at_most_one mapping c number bytes found (inr (inr (few, kept, (f, is, finds)))) = subst AtMostOne (sym is) (one_finding f)
+
+few_stamped : (line : List ℕ) (found : List Finding) → AtMostOne found → FewFound (stamped line found)
+few_stamped line _ no_finding = no_found
+few_stamped line _ (one_finding f) = one_found (record { finding = f; stamp = stamp_of (words_of line) })
+
+-- what is kept of a line of the map after one more line of the log
+times_more : (place : ℕ) (so_far : List Found) (line : List ℕ) (found : List Finding) (times : List HeardTimes) → AtMostOne found → place < length times
+    → slice_get times place ≡ Some (times_of place so_far)
+    → slice_get (times_after (accepted_place (tally_found found)) (time_told (stamped line found)) (clock_after (time_told (stamped line found)) (clock_of so_far)) times) place
+    ≡ Some (times_of place (so_far ++ stamped line found))
+times_more place so_far line _ times no_finding inside is = is ∙ ap (λ (fs : List Found). Some (times_of place fs)) (sym (append-nil so_far))
+times_more place so_far line _ times (one_finding f) inside is =
+    let one : Found = record { finding = f; stamp = stamp_of (words_of line) } in
+    ap (λ (c : LogClock). slice_get (times_after (accepted_place (Some (tally_of f))) (time_found one) c times) place) (clock_more so_far (one ∷ []) (one_found one))
+    ∙ times_one place so_far one times inside is
 
 counts_found : (test : Finding → Bool) (passes : FrameTally → Bool) (same : (f : Finding) → test f ≡ passes (tally_of f)) (findings found : List Finding) → AtMostOne found
     → counts_as passes (tally_found found) (in_64_bits (length (filter test findings))) ≡ in_64_bits (length (filter test (findings ++ found)))
@@ -125,9 +146,9 @@ placed_found mapping c number bytes found (inr (inr (few, kept, (f, is, finds)))
     (placed_line mapping c (record { number = number; words = words_of bytes }) f finds)
 
 -- a line counts as something at a place of the map
-pub JudgesLine-placed : (old judged : WatchState) (number : ℕ) (line : List ℕ) (counts : Option FrameTally) → JudgesLine old number line judged counts
+pub JudgesLine-placed : (old judged : WatchState) (number : ℕ) (line : List ℕ) (counts : Option FrameTally) (time : Option ℕ) → JudgesLine old number line judged counts time
     → IfSome counts (IsPlaced (length old.mapping.lines))
-JudgesLine-placed old judged number line counts (found, finds, judged_is, as_many, counts_is, counters) =
+JudgesLine-placed old judged number line counts time (found, finds, judged_is, as_many, counts_is, time_is, counters) =
     subst (λ (t : Option FrameTally). IfSome t (IsPlaced (length old.mapping.lines))) (sym counts_is)
     (placed_found old.mapping.lines (slice_index old.counters) number line found finds)
 
@@ -171,42 +192,44 @@ WatchesLine-kept mapping c number line rest found is (inr (inr (few, kept, finds
 JudgesLine-text : (s : WatchState) → s ≡ record s { counters = s.counters; text = s.text ++ [] }
 JudgesLine-text s = ap (λ t. record s { text = t }) (sym (append-nil s.text))
 
-pub JudgesLine-long : (s : WatchState) (number : ℕ) (line : List ℕ) → line_limit < length line → JudgesLine s number line s (Some (tally.Other kind.Malformed))
+pub JudgesLine-long : (s : WatchState) (number : ℕ) (line : List ℕ) → line_limit < length line → JudgesLine s number line s (Some (tally.Other kind.Malformed)) None
 JudgesLine-long s number line long = (
   other kind.Malformed ∷ [],
   inl (long, refl),
   JudgesLine-text s,
   refl,
   refl,
+  refl,
   λ place inside. refl,
 )
 
-pub JudgesLine-skipped : (s : WatchState) (number : ℕ) (line : List ℕ) → length line ≤ line_limit → is_skipped (words_of line) ≡ true → JudgesLine s number line s None
-JudgesLine-skipped s number line few skipped = ([], inr (inl (few, skipped, refl)), JudgesLine-text s, refl, refl, λ place inside. refl)
+pub JudgesLine-skipped : (s : WatchState) (number : ℕ) (line : List ℕ) → length line ≤ line_limit → is_skipped (words_of line) ≡ true → JudgesLine s number line s None None
+JudgesLine-skipped s number line few skipped = ([], inr (inl (few, skipped, refl)), JudgesLine-text s, refl, refl, refl, λ place inside. refl)
 
-pub JudgesLine-found : (s : WatchState) (number : ℕ) (line counters text : List ℕ) (counts : FrameTally) (finding : Finding) → length line ≤ line_limit → is_skipped (words_of line) ≡ false
+pub JudgesLine-found : (s : WatchState) (number : ℕ) (line counters text : List ℕ) (counts : FrameTally) (time : Option ℕ) (finding : Finding) → length line ≤ line_limit → is_skipped (words_of line) ≡ false
     → AuditsLine s.mapping.lines (slice_index s.counters) (record { number = number; words = words_of line }) finding
-    → counts ≡ tally_of finding → length counters ≡ length s.counters
+    → counts ≡ tally_of finding → time ≡ time_by counts (stamp_of (words_of line)) → length counters ≡ length s.counters
     → ((place : ℕ) → place < length s.counters → slice_index counters place ≡ next_counter place (slice_index s.counters place) (finding_accepts finding))
     → text ≡ s.text ++ told_text s.mapping.options (record { finding = finding; stamp = stamp_of (words_of line) })
-    → JudgesLine s number line (record s { counters = counters; text = text }) (Some counts)
-JudgesLine-found s number line counters text counts finding few kept finds counts_is as_many after text_is = (
+    → JudgesLine s number line (record s { counters = counters; text = text }) (Some counts) time
+JudgesLine-found s number line counters text counts time finding few kept finds counts_is time_is as_many after text_is = (
   finding ∷ [],
   inr (inr (few, kept, (finding, refl, finds))),
   ap (λ t. record s { counters = counters; text = t }) (text_is ∙ ap (λ t. s.text ++ t) (sym (append-nil (told_text s.mapping.options (record { finding = finding; stamp = stamp_of (words_of line) }))))),
   as_many,
   ap Some counts_is,
+  time_is ∙ ap (λ (t : FrameTally). time_by t (stamp_of (words_of line))) counts_is,
   after,
 )
 
 -- a line that was judged and counted was taken
-pub WatchesNext-judged : (old judged : WatchState) (number : ℕ) (line : List ℕ) (counts : Option FrameTally) → JudgesLine old number line judged counts
-    → WatchesNext old number line (record judged {
+pub WatchesNext-judged : (old judged : WatchState) (number : ℕ) (line : List ℕ) (counts : Option FrameTally) (time : Option ℕ) → JudgesLine old number line judged counts time
+    → WatchesNext old number line (heard_after counts time (record judged {
       accepted = raised_at (accepted_place counts) judged.accepted;
       failed = raised_at (failed_place counts) judged.failed;
       counts = counts_after counts judged.counts;
-    })
-WatchesNext-judged old judged number line counts (found, finds, judged_is, as_many, counts_is, counters) = record {
+    }))
+WatchesNext-judged old judged number line counts time (found, finds, judged_is, as_many, counts_is, time_is, counters) = record {
   findings = found;
   finds = finds;
   counters = judged.counters;
@@ -218,14 +241,26 @@ WatchesNext-judged old judged number line counts (found, finds, judged_is, as_ma
     accepted = raised_at (accepted_place counts) s.accepted;
     failed = raised_at (failed_place counts) s.failed;
     counts = counts_after counts s.counts;
+    clock = clock_after time s.clock;
+    times = times_after (accepted_place counts) time (clock_after time s.clock) s.times;
     text = s.text;
   }) judged_is ∙ ap (λ (t : Option FrameTally). record old {
     counters = judged.counters;
     accepted = raised_at (accepted_place t) old.accepted;
     failed = raised_at (failed_place t) old.failed;
     counts = counts_after t old.counts;
+    clock = clock_after time old.clock;
+    times = times_after (accepted_place t) time (clock_after time old.clock) old.times;
     text = old.text ++ found_text old.mapping (stamped line found);
-  }) counts_is;
+  }) counts_is ∙ ap (λ (m : Option ℕ). record old {
+    counters = judged.counters;
+    accepted = raised_at (accepted_place (tally_found found)) old.accepted;
+    failed = raised_at (failed_place (tally_found found)) old.failed;
+    counts = counts_after (tally_found found) old.counts;
+    clock = clock_after m old.clock;
+    times = times_after (accepted_place (tally_found found)) m (clock_after m old.clock) old.times;
+    text = old.text ++ found_text old.mapping (stamped line found);
+  }) time_is;
 }
 
 -- ---- the lines so far
@@ -241,6 +276,9 @@ Watched-none state fresh = record {
   accepted_are = λ place inside. ap (λ ns. slice_index ns place) fresh.accepted_are ∙ get_or-replicate (length state.mapping.lines) place 0 0 inside;
   failed_are = λ place inside. ap (λ ns. slice_index ns place) fresh.failed_are ∙ get_or-replicate (length state.mapping.lines) place 0 0 inside;
   counts_are = fresh.counts_are;
+  clock_is = fresh.clock_is;
+  times_many = ap length fresh.times_are ∙ length-replicate (length state.mapping.lines) no_times;
+  times_are = λ place inside. ap (λ (ts : List HeardTimes). slice_get ts place) fresh.times_are ∙ get_replicated (length state.mapping.lines) place no_times inside;
 }
 
 -- the text of a state is apart from what was found
@@ -254,6 +292,9 @@ Watched-text state text lines findings w = record {
   accepted_are = w.accepted_are;
   failed_are = w.failed_are;
   counts_are = w.counts_are;
+  clock_is = w.clock_is;
+  times_many = w.times_many;
+  times_are = w.times_are;
 }
 
 length-raised : (place : Option ℕ) (ns : List ℕ) → length (raised_at place ns) ≡ length ns
@@ -277,6 +318,8 @@ Watched-more old new lines so_far line w next =
     let placed : IfSome counts (IsPlaced (length mapping)) = placed_found mapping (slice_index old.counters) number (kept_of line) found next.finds in
     let counted_as : (passes : FrameTally → Bool) (count : ℕ) → count ≡ counted_of passes findings → counts_as passes counts count ≡ counted_of passes (findings_of (so_far ++ stamped line found)) =
     λ passes count is. ap (counts_as passes counts) is ∙ counted_found passes findings found few ∙ ap (λ (fs : List Finding). counted_of passes fs) (sym all_are) in
+    let more_found : List Found = stamped line found in
+    let told : time_told (stamped (kept_of line) found) ≡ time_told more_found = told_kept mapping (slice_index old.counters) number (kept_of line) line found refl next.finds in
     subst (λ (s : WatchState). Watched s (lines ++ line ∷ []) (so_far ++ stamped line found)) (sym next.new_is)
     (record {
       finds = more lines so_far line found w.finds here;
@@ -293,6 +336,12 @@ Watched-more old new lines so_far line w next =
           failed_at_place counts old.failed place (subst (λ n. IfSome counts (IsPlaced n)) (sym w.failed_many) placed)
           ∙ counted_as (is_failed_at place) (slice_index old.failed place) (w.failed_are place inside);
       counts_are = ap (counts_after counts) w.counts_are ∙ counts_after_found findings found few ∙ ap (λ (fs : List Finding). counts_of fs) (sym all_are);
+      clock_is = ap (λ (m : Option ℕ). clock_after m old.clock) told ∙ ap (clock_after (time_told more_found)) w.clock_is ∙ clock_more so_far more_found (few_stamped line found few);
+      times_many = length-heard (accepted_place counts) (time_told (stamped (kept_of line) found)) (clock_after (time_told (stamped (kept_of line) found)) old.clock) old.times ∙ w.times_many;
+      times_are = λ place inside.
+          ap (λ (m : Option ℕ). slice_get (times_after (accepted_place counts) m (clock_after m old.clock) old.times) place) told
+          ∙ ap (λ (c : LogClock). slice_get (times_after (accepted_place counts) (time_told more_found) (clock_after (time_told more_found) c) old.times) place) w.clock_is
+          ∙ times_more place so_far line found old.times few (omega (arith, inside, w.times_many)) (w.times_are place inside);
     })
 
 -- the lines after these findings: what more was found is the text
@@ -363,24 +412,26 @@ module _ (mapping : WatchedMap) (one two : ℕ → LineCounts) (same : (place : 
       (same_tests (λ place n. passes_at mapping (λ _. n) place))
 
 -- the numbers of a line of the map are those of what was found
-abbrev line_numbers_of : ℕ → ℕ → ℕ → ℕ → LineCounts
-line_numbers_of number accepted failed last = record { number = number; accepted = accepted; failed = failed; last = last }
+abbrev line_numbers_of : ℕ → ℕ → ℕ → ℕ → Silence → LineCounts
+line_numbers_of number accepted failed last silence = record { number = number; accepted = accepted; failed = failed; last = last; silence = silence }
 
 totals_are : (state : WatchState) (lines : List (List ℕ)) (findings : List Found) → Watched state lines findings → (place : ℕ) → place < length state.mapping.lines
-    → totals_in state place ≡ totals_of state.mapping (findings_of findings) place
+    → totals_in state place ≡ totals_of state.mapping findings place
 totals_are state lines findings w place inside =
     let number : ℕ = slice_index state.mapping.numbers place in
-    ap (λ (n : ℕ). line_numbers_of number n (slice_index state.failed place) (slice_index state.counters place)) (w.accepted_are place inside)
-    ∙ ap (λ (n : ℕ). line_numbers_of number (counted_of (is_accepted_at place) (findings_of findings)) n (slice_index state.counters place)) (w.failed_are place inside)
-    ∙ ap (λ (n : ℕ). line_numbers_of number (counted_of (is_accepted_at place) (findings_of findings)) (counted_of (is_failed_at place) (findings_of findings)) n) (w.counters_are place inside)
+    ap (λ (n : ℕ). line_numbers_of number n (slice_index state.failed place) (slice_index state.counters place) (silence_at state place)) (w.accepted_are place inside)
+    ∙ ap (λ (n : ℕ). line_numbers_of number (counted_of (is_accepted_at place) (findings_of findings)) n (slice_index state.counters place) (silence_at state place)) (w.failed_are place inside)
+    ∙ ap (λ (n : ℕ). line_numbers_of number (counted_of (is_accepted_at place) (findings_of findings)) (counted_of (is_failed_at place) (findings_of findings)) n (silence_at state place)) (w.counters_are place inside)
+    ∙ ap (λ (s : Silence). line_numbers_of number (counted_of (is_accepted_at place) (findings_of findings)) (counted_of (is_failed_at place) (findings_of findings)) (counter_of_place state.mapping.lines (findings_of findings) place) s)
+    (silence_is place findings state.clock state.times w.clock_is (w.times_are place inside))
 
 -- the text at the end of a log is that of what was found, and so is the status
-pub end_text_is : (state : WatchState) (lines : List (List ℕ)) (findings : List Found) → Watched state lines findings → end_text state ≡ totals_text state.mapping (findings_of findings)
+pub end_text_is : (state : WatchState) (lines : List (List ℕ)) (findings : List Found) → Watched state lines findings → end_text state ≡ totals_text state.mapping findings
 end_text_is state lines findings w =
     ap (λ (counts : WatchCounts). totals_text_of state.mapping (totals_in state) counts) w.counts_are
-    ∙ totals_same state.mapping (totals_in state) (totals_of state.mapping (findings_of findings)) (totals_are state lines findings w) (counts_of (findings_of findings))
+    ∙ totals_same state.mapping (totals_in state) (totals_of state.mapping findings) (totals_are state lines findings w) (counts_of (findings_of findings))
 
-pub end_status_is : (state : WatchState) (lines : List (List ℕ)) (findings : List Found) → Watched state lines findings → end_status state ≡ watch_status state.mapping (findings_of findings)
+pub end_status_is : (state : WatchState) (lines : List (List ℕ)) (findings : List Found) → Watched state lines findings → end_status state ≡ watch_status state.mapping findings
 end_status_is state lines findings w =
     ap (λ (counts : WatchCounts). status_of state.mapping (totals_in state) counts) w.counts_are
-    ∙ status_same state.mapping (totals_in state) (totals_of state.mapping (findings_of findings)) (totals_are state lines findings w) (counts_of (findings_of findings))
+    ∙ status_same state.mapping (totals_in state) (totals_of state.mapping findings) (totals_are state lines findings w) (counts_of (findings_of findings))

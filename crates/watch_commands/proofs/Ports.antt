@@ -17,8 +17,8 @@ use Rattle.line_stream.specs.declared.driver.StreamFault.{StreamFault}
 use Rattle.line_stream.specs.declared.driver.StreamFault.TheVariants.{ReadFault, TooLong}
 use Rattle.line_stream.proofs.CallerLemmas.{told_more, TakesLines-keeps, Paused-keeps}
 use Rattle.watch_commands.specs.WatchedMaps.{WatchedMap}
-use Rattle.watch_commands.specs.Watching.{Found, findings_of, told_text, found_text, WatchesEach, FindsComplete, FindsAll}
-use Rattle.watch_commands.specs.WatchTotals.{totals_text, watch_status}
+use Rattle.watch_commands.specs.Watching.{Found, told_text, found_text, WatchesEach, FindsComplete, FindsAll}
+use Rattle.watch_commands.specs.LogTotals.{totals_text, watch_status}
 use Rattle.watch_commands.specs.States.{WatchState, IsFreshWatch, Watched, WatchAtSink, WatchesLineAt, PrintsFound, TellsTotals, end_text, end_status}
 use Rattle.watch_commands.specs.WatchRows.{done, FailsOfLog, failed, too_long, EndsLog}
 use Rattle.watch_commands.proofs.Going.{Watched-none, Watched-text, WatchedMore, WatchedMore-none, WatchedMore-more, end_text_is, end_status_is}
@@ -30,16 +30,16 @@ finds_lines mapping lines state findings same w = subst (λ (m : WatchedMap). Wa
 
 -- what is printed at the end of a log, and the status
 pub text_at_end : (mapping : WatchedMap) (first : List Found) (lines : List (List ℕ)) (state : WatchState) (w : WatchedMore mapping first lines state)
-    → state.text ++ end_text state ≡ found_text mapping w.found ++ totals_text mapping (findings_of (first ++ w.found))
+    → state.text ++ end_text state ≡ found_text mapping w.found ++ totals_text mapping (first ++ w.found)
 text_at_end mapping first lines state w =
     ap (λ t. t ++ end_text state) w.text_is
     ∙ ap (λ t. found_text mapping w.found ++ t)
-    (end_text_is state lines (first ++ w.found) w.watched ∙ ap (λ (m : WatchedMap). totals_text m (findings_of (first ++ w.found))) w.same)
+    (end_text_is state lines (first ++ w.found) w.watched ∙ ap (λ (m : WatchedMap). totals_text m (first ++ w.found)) w.same)
 
 pub status_at_end : (mapping : WatchedMap) (first : List Found) (lines : List (List ℕ)) (state : WatchState) (w : WatchedMore mapping first lines state)
-    → end_status state ≡ watch_status mapping (findings_of (first ++ w.found))
+    → end_status state ≡ watch_status mapping (first ++ w.found)
 status_at_end mapping first lines state w =
-    end_status_is state lines (first ++ w.found) w.watched ∙ ap (λ (m : WatchedMap). watch_status m (findings_of (first ++ w.found))) w.same
+    end_status_is state lines (first ++ w.found) w.watched ∙ ap (λ (m : WatchedMap). watch_status m (first ++ w.found)) w.same
 
 -- at a pause what is found of all complete lines is printed
 record AtPause (mapping : WatchedMap) (start : SinkState) (bytes : List ℕ) (lines : List (List ℕ)) (p : WatchAtSink) : Type 0 where
@@ -117,8 +117,8 @@ module _ (fresh : WatchState) (start : SinkState) (is_fresh : IsFreshWatch fresh
           let (w, still) = lines_held d.lines (d.last ∷ []) d.bytes d.before taken at (taken, takes_last, refl) in
           let all : List (List ℕ) = d.lines ++ d.last ∷ [] in
           let findings : List Found = at.findings ++ w.found in
-          let totals : List ℕ = totals_text mapping (findings_of findings) in
-          let answer : ℕ = watch_status mapping (findings_of findings) in
+          let totals : List ℕ = totals_text mapping findings in
+          let answer : ℕ = watch_status mapping findings in
           let last_told : EndingTold d.before.sink now.sink (found_text mapping w.found ++ totals) answer status =
           subst (λ k. EndingTold k now.sink (found_text mapping w.found ++ totals) answer status) still
           (subst (λ t. EndingTold taken.sink now.sink t answer status) (text_at_end mapping at.findings all taken.watch w)

@@ -10,8 +10,8 @@ use Rattle.program_edge.specs.Inputs.{IsUnread}
 use Rattle.can_logs.specs.LogRuns.{LogInputs, HasCome, Writing, WritesWhole, ending_of, WatchEnding}
 use Rattle.watch_commands.specs.WatchedMaps.{WatchedMap}
 use Rattle.line_stream.specs.Pieces.{log_lines}
-use Rattle.watch_commands.specs.Watching.{Found, findings_of, FindsComplete, told_text, found_text}
-use Rattle.watch_commands.specs.WatchTotals.{totals_text}
+use Rattle.watch_commands.specs.Watching.{Found, FindsComplete, told_text, found_text}
+use Rattle.watch_commands.specs.LogTotals.{totals_text}
 use Rattle.watch_commands.specs.Words.{AsksWatch}
 use Rattle.watch_commands.specs.WatchRows.{ReadsWatchMap, ComesOfLog, done, FailsOfLog, failed, too_long, Stops, OverMap, ComesOnOutput, asked, of_log, ComesOnErrors, no_form, no_map, map_fault, no_log, EndsWatch}
 use Rattle.watch_commands.specs.Watches.{PrintsRising}
@@ -52,7 +52,7 @@ module _ (i : LogInputs) (output : Writing) where
         came = whole.came;
         finds = inr finds;
         rise = all_rise mapping.lines (log_lines bytes) findings finds;
-        last = totals_text mapping (findings_of findings);
+        last = totals_text mapping findings;
         last_is = inl refl;
         size = size;
         prints = part;

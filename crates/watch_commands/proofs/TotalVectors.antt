@@ -1,5 +1,5 @@
 -- The definitions of what stands behind the answers of a log, tried on written-out maps and lines
-use Rattle.std.proofs.Common.{◌≡◌, ℕ, Bool, true, false, List, [], ◌∷◌, refl}
+use Rattle.std.proofs.Common.{◌≡◌, ℕ, ◌+◌, Bool, true, false, List, [], ◌∷◌, refl}
 use Rattle.std.specs.Prelude.{codes, Option, None, Some}
 use Rattle.secured_pdu.specs.Verdict.{Accepted, VerificationFailure}
 use Rattle.can_logs.specs.declared.map_lines.MapLine.{MapLine}
@@ -9,7 +9,11 @@ use Rattle.watch_commands.specs.declared.options.WatchOptions.{WatchOptions}
 use Rattle.watch_commands.specs.Limits.{no_limits, share_of}
 use Rattle.watch_commands.specs.WatchedMaps.{WatchedMap}
 use Rattle.can_logs.specs.Findings.{Finding, other, too_short, verdict}
-use Rattle.watch_commands.specs.WatchTotals.{totals_of, counts_of, watch_status}
+use Rattle.watch_commands.specs.Seconds.{seconds_form}
+use Rattle.watch_commands.specs.Times.{silence_of}
+use Rattle.watch_commands.specs.Watching.{Found, findings_of}
+use Rattle.watch_commands.specs.WatchTotals.{counts_of}
+use Rattle.watch_commands.specs.LogTotals.{totals_of, watch_status}
 
 -- ---- the lines that no line of a map judges
 
@@ -42,6 +46,10 @@ no_number_sign = refl
 
 -- ---- the totals
 
+-- at a time of 1 to 9 seconds
+at_second : ℕ → Finding → Found
+at_second digit finding = record { finding = finding; stamp = record { time = 40 ∷ (48 + digit) ∷ 41 ∷ []; channel = codes "can0" } }
+
 entry : Bool → MapLine
 entry optional = record {
   can = codes "123";
@@ -63,38 +71,39 @@ mapping : Bool → Bool → WatchedMap
 mapping first second = record { lines = entry first ∷ entry second ∷ []; numbers = 3 ∷ 5 ∷ []; options = no_options }
 
 -- freshness 12 and 15 for the first line, a failure, a frame that is too short, and a remote frame
-found : List Finding
+found : List Found
 found =
-    verdict 1 0 (codes "123") (Accepted [] 12) ∷ other kind.OtherFrame ∷ verdict 3 0 (codes "123") VerificationFailure
-    ∷ too_short 4 1 (codes "123") ∷ verdict 5 0 (codes "123") (Accepted [] 15) ∷ []
+    at_second 1 (verdict 1 0 (codes "123") (Accepted [] 12)) ∷ at_second 1 (other kind.OtherFrame)
+    ∷ at_second 1 (verdict 3 0 (codes "123") VerificationFailure) ∷ at_second 1 (too_short 4 1 (codes "123"))
+    ∷ at_second 1 (verdict 5 0 (codes "123") (Accepted [] 15)) ∷ []
 
 the_last_freshness : (totals_of (mapping false false) found 0).last ≡ 15
-unfolding mapping found entry no_options
+unfolding mapping found entry no_options at_second
 the_last_freshness = refl
 
 none_for_the_second : (totals_of (mapping false false) found 1).last ≡ 10
-unfolding mapping found entry no_options
+unfolding mapping found entry no_options at_second
 none_for_the_second = refl
 
-the_five_numbers : counts_of found ≡ record { accepted = 2; failed = 2; unmapped = 0; other_frames = 1; malformed = 0 }
-unfolding found
+the_five_numbers : counts_of (findings_of found) ≡ record { accepted = 2; failed = 2; unmapped = 0; other_frames = 1; malformed = 0 }
+unfolding found at_second
 the_five_numbers = refl
 
 -- ---- the status
 
-accepted : Finding
-accepted = verdict 1 0 (codes "123") (Accepted [] 12)
+accepted : Found
+accepted = at_second 1 (verdict 1 0 (codes "123") (Accepted [] 12))
 
 a_silent_line : watch_status (mapping false false) (accepted ∷ []) ≡ 3
-unfolding mapping accepted entry no_options
+unfolding mapping accepted entry no_options at_second
 a_silent_line = refl
 
 an_optional_line : watch_status (mapping false true) (accepted ∷ []) ≡ 0
-unfolding mapping accepted entry no_options
+unfolding mapping accepted entry no_options at_second
 an_optional_line = refl
 
 a_failure_comes_first : watch_status (mapping false false) found ≡ 1
-unfolding mapping found entry no_options
+unfolding mapping found entry no_options at_second
 a_failure_comes_first = refl
 
 no_lines : watch_status (record { lines = []; numbers = []; options = no_options }) [] ≡ 3
@@ -108,33 +117,61 @@ strictly missed share = record (mapping false true) {
   options = record no_options { strict = true; limits = record no_limits { missed = missed; missed_share = share } };
 }
 
-good : List Finding
-good = accepted ∷ verdict 5 0 (codes "123") (Accepted [] 15) ∷ []
+good : List Found
+good = accepted ∷ at_second 1 (verdict 5 0 (codes "123") (Accepted [] 15)) ∷ []
 
 missed_by_three : watch_status (strictly (Some 3) None) good ≡ 0
-unfolding strictly mapping good accepted entry no_options
+unfolding strictly mapping good accepted entry no_options at_second seconds_form
 missed_by_three = refl
 
 more_than_two : watch_status (strictly (Some 2) None) good ≡ 3
-unfolding strictly mapping good accepted entry no_options
+unfolding strictly mapping good accepted entry no_options at_second seconds_form
 more_than_two = refl
 
 strict_without_a_limit : watch_status (strictly None None) good ≡ 3
-unfolding strictly mapping good accepted entry no_options
+unfolding strictly mapping good accepted entry no_options at_second seconds_form
 strict_without_a_limit = refl
 
 -- three of five
 at_60_percent : watch_status (strictly None (Some 60)) good ≡ 0
-unfolding strictly mapping good accepted entry no_options
+unfolding strictly mapping good accepted entry no_options at_second seconds_form
 at_60_percent = refl
 
 at_59_percent : watch_status (strictly None (Some 59)) good ≡ 3
-unfolding strictly mapping good accepted entry no_options
+unfolding strictly mapping good accepted entry no_options at_second seconds_form
 at_59_percent = refl
 
-a_malformed_line : watch_status (strictly (Some 3) None) (other kind.Malformed ∷ good) ≡ 3
-unfolding strictly mapping good accepted entry no_options
+a_malformed_line : watch_status (strictly (Some 3) None) (at_second 1 (other kind.Malformed) ∷ good) ≡ 3
+unfolding strictly mapping good accepted entry no_options at_second seconds_form
 a_malformed_line = refl
+
+-- ---- silence
+
+-- accepted in second 2, and then the log goes on to second 5 without the first line
+died : List Found
+died = at_second 1 (other kind.Unmapped) ∷ at_second 2 (verdict 2 0 (codes "123") (Accepted [] 11)) ∷ at_second 5 (other kind.Unmapped) ∷ at_second 9 (other kind.Malformed) ∷ []
+
+it_was_silent : silence_of 0 died ≡ record { from = 2000000; to = 5000000 }
+unfolding died at_second seconds_form
+it_was_silent = refl
+
+-- one that began at its first frame, and one that another line's frames don't end
+it_began_late : silence_of 0 (at_second 1 (other kind.OtherFrame) ∷ at_second 3 (verdict 2 0 (codes "123") (Accepted [] 11)) ∷ at_second 4 (other kind.Unmapped) ∷ []) ≡ record { from = 1000000; to = 3000000 }
+unfolding at_second seconds_form
+it_began_late = refl
+
+never_heard : silence_of 1 died ≡ record { from = 1000000; to = 5000000 }
+unfolding died at_second seconds_form
+never_heard = refl
+
+-- times that fall back stand still
+falls_back : silence_of 0 (at_second 5 (verdict 1 0 (codes "123") (Accepted [] 11)) ∷ at_second 1 (other kind.Unmapped) ∷ at_second 6 (other kind.Unmapped) ∷ []) ≡ record { from = 5000000; to = 6000000 }
+unfolding at_second seconds_form
+falls_back = refl
+
+times_of_words : (seconds_form (codes "12.5") ≡ Some 12500000) × (seconds_form (codes "0000000001.0000019") ≡ Some 1000001) × (seconds_form (codes ".5") ≡ None) × (seconds_form (codes "1,5") ≡ None)
+unfolding seconds_form
+times_of_words = (refl, refl, refl, refl)
 
 shares_are_rounded_up : (share_of 1 3 ≡ 34) × (share_of 0 0 ≡ 0) × (share_of 1 1000 ≡ 1)
 shares_are_rounded_up = (refl, refl, refl)

@@ -15,7 +15,6 @@ use Rattle.program_edge.specs.Inputs.{Reading, IsUnread, ReadsWhole, Lacks, Sour
 use Rattle.program_edge.proofs.CallerLemmas.{Lacks-whole, CountsFault-is, CountsTooMuch-is, Offers-is, Offers-whole, EndsInRow-at, EndsInRow-front, EndsInRow-rose, EndsInRow-only, EndsInRow-may, EndsInRow-well}
 use Rattle.program_edge.specs.Endings.{EndsInRow, EndsIn, MayEndIn, PrintsFront, SinkFailed, CountsWriteFault}
 use Rattle.can_logs.specs.declared.map_lines.MapLine.{MapLine}
-use Rattle.can_logs.specs.Findings.{Finding}
 use Rattle.can_logs.specs.LogRuns.{LogInputs, IsWatchMapFault, IsUnwritten, WritesWhole, WatchEnding, on_output, on_errors, log_failed_text, log_too_long_text, IsAnswer}
 use Rattle.can_logs.specs.MapFaults.{map_fault_text, map_input_text}
 use Rattle.watch_commands.specs.Limits.{limits_in}
@@ -23,8 +22,9 @@ use Rattle.watch_commands.proofs.Reading.{few_inputs}
 use Rattle.watch_commands.specs.Words.{watch_usage, AsksWatch, text_asked}
 use Rattle.watch_commands.specs.WatchedMaps.{WatchedMap}
 use Rattle.can_logs.specs.WatchMaps.{watch_map_of}
-use Rattle.watch_commands.specs.Watching.{findings_of}
-use Rattle.watch_commands.specs.WatchTotals.{counts_of, totals_of, all_pass, log_passes, watch_status}
+use Rattle.watch_commands.specs.Watching.{Found, findings_of}
+use Rattle.watch_commands.specs.WatchTotals.{counts_of, all_pass, log_passes}
+use Rattle.watch_commands.specs.LogTotals.{totals_of, watch_status}
 use Rattle.watch_commands.specs.WatchRows.{ReadsWatchMap, ComesOfLog, done, FailsOfLog, failed, too_long, Stops, FailsBoth, OverMap, ComesOnOutput, asked, of_log, ComesOnErrors, no_form, no_map, map_fault, no_log, EndsWatch}
 use Rattle.watch_commands.specs.Watches.{AnswersLog, HoldsNothingBack, Watches}
 use Rattle.watch_commands.proofs.PrintedRise.{rises}
@@ -37,10 +37,10 @@ two_tests true b = inr (inl refl)
 two_tests false true = inl refl
 two_tests false false = inr (inr refl)
 
-status_answers : (mapping : WatchedMap) (findings : List Finding) → IsAnswer (watch_status mapping findings)
-status_answers mapping findings =
-    two_tests (nat_lt 0 (counts_of findings).failed)
-    (all_pass mapping (totals_of mapping findings) && log_passes (limits_in mapping.options) (counts_of findings))
+status_answers : (mapping : WatchedMap) (found : List Found) → IsAnswer (watch_status mapping found)
+status_answers mapping found =
+    two_tests (nat_lt 0 (counts_of (findings_of found)).failed)
+    (all_pass mapping (totals_of mapping found) && log_passes (limits_in mapping.options) (counts_of (findings_of found)))
 
 answer_few : (status : ℕ) → IsAnswer status → (status ≤ 3) × (¬ (status ≡ 2))
 answer_few status (inl zero) = (omega (arith, zero), λ two. omega (arith, zero, two))
@@ -63,7 +63,7 @@ module _ (i : LogInputs) (e : WatchEnding) where
   -- ---- rows by their status
 
   of_log_status : (mapping : WatchedMap) (row : Row) → ComesOfLog mapping i.log row → IsAnswer row.status
-  of_log_status mapping row (done log findings whole finds) = status_answers mapping (findings_of findings)
+  of_log_status mapping row (done log findings whole finds) = status_answers mapping findings
 
   output_status : (row : Row) → ComesOnOutput i row → IsAnswer row.status
   output_status row (asked text is map log) = inl refl

@@ -1,3 +1,4 @@
+pub mod Seconds
 pub mod Limits
 pub mod OptionWords
 pub mod WatchedMaps
@@ -5,8 +6,11 @@ pub mod Words
 pub mod Stamps
 pub mod Objects
 pub mod Answers
+pub mod Silences
 pub mod WatchTotals
 pub mod Watching
+pub mod Times
+pub mod LogTotals
 pub mod States
 pub mod WatchRows
 pub mod Watches

@@ -1,6 +1,7 @@
 -- What the words of a command line say before the map and the log, the program's name left out
-use Rattle.std.specs.Prelude.{◌≡◌, ℕ, ◌-◌, ◌^◌, ◌==◌, Bool, true, false, length, is_some, if◌then◌else◌, List, [], ◌∷◌, codes, bytes_eq, Option, None, Some, option_map}
+use Rattle.std.specs.Prelude.{◌≡◌, ℕ, ◌-◌, ◌^◌, ◌==◌, Bool, true, false, length, is_some, if◌then◌else◌, List, [], ◌∷◌, codes, bytes_eq, Option, None, Some, option_map, option_and_then}
 use Rattle.text_lines.specs.Forms.{number_form}
+use Rattle.watch_commands.specs.Seconds.{seconds_form}
 use Rattle.watch_commands.specs.declared.limits.Limits.{Limits}
 use Rattle.watch_commands.specs.declared.options.WatchOptions.{WatchOptions}
 use Rattle.watch_commands.specs.declared.options.WatchOption.{WatchOption}
@@ -16,6 +17,7 @@ valued_option_of word =
     else if bytes_eq word (codes "--missed") then Some option.Missed
     else if bytes_eq word (codes "--missed-share") then Some option.MissedShare
     else if bytes_eq word (codes "--malformed") then Some option.Malformed
+    else if bytes_eq word (codes "--silent") then Some option.Silent
     else None
 
 abbrev pub option_of : List ℕ → Option WatchOption
@@ -53,6 +55,7 @@ with_option asked option.Expect = record asked { waiting = Some option.Expect }
 with_option asked option.Missed = record asked { waiting = Some option.Missed }
 with_option asked option.MissedShare = record asked { waiting = Some option.MissedShare }
 with_option asked option.Malformed = record asked { waiting = Some option.Malformed }
+with_option asked option.Silent = record asked { waiting = Some option.Silent }
 
 abbrev pub is_expect : WatchOption → Bool
 is_expect option.Quiet = false
@@ -64,10 +67,18 @@ is_expect option.Expect = true
 is_expect option.Missed = false
 is_expect option.MissedShare = false
 is_expect option.Malformed = false
+is_expect option.Silent = false
 
 -- a limit that is given once: a number of so many at most
 abbrev pub new_limit : Option ℕ → ℕ → List ℕ → Option ℕ
 new_limit given most word = if is_some given then None else number_form 0 most word
+
+-- a silence that is given once: at least a microsecond
+abbrev pub not_zero : ℕ → Option ℕ
+not_zero time = if time == 0 then None else Some time
+
+abbrev pub new_silence : Option ℕ → List ℕ → Option ℕ
+new_silence given word = if is_some given then None else option_and_then not_zero (seconds_form word)
 
 -- limits with the value of one more option, if it is one
 abbrev pub limits_with : Limits → List ℕ → WatchOption → Option Limits
@@ -77,6 +88,8 @@ limits_with limits word option.MissedShare =
     option_map (λ n. record limits { missed_share = Some n }) (new_limit limits.missed_share 100 word)
 limits_with limits word option.Malformed =
     option_map (λ n. record limits { malformed = Some n }) (new_limit limits.malformed (2 ^ 64 - 1) word)
+limits_with limits word option.Silent =
+    option_map (λ n. record limits { silent = Some n }) (new_silence limits.silent word)
 limits_with limits word option.Quiet = None
 limits_with limits word option.Json = None
 limits_with limits word option.Time = None

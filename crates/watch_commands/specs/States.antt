@@ -1,6 +1,6 @@
 -- The state between two lines of a log, what the steps say to one another, and what the driver of a log is told
 use Rattle.std.specs.Prelude.{◌≡◌, ℕ, ◌<◌, Bool, if◌then◌else◌, List, [], ◌∷◌, ◌++◌, length, map, set, replicate}
-use Rattle.std.specs.Prelude.{slice_index, Option, None, Some, Result, Ok, Err, IfErr}
+use Rattle.std.specs.Prelude.{slice_index, slice_get, Option, None, Some, unwrap_or, Result, Ok, Err, IfErr}
 use Rattle.bus_port.specs.Fault.{counted}
 use Rattle.bus_port.specs.Sink.{SinkState}
 use Rattle.program_edge.specs.Told.{EndingTold}
@@ -8,6 +8,11 @@ use Rattle.can_logs.specs.declared.findings.FrameTally.{FrameTally}
 use Rattle.can_logs.specs.declared.findings.FrameTally.TheVariants as tally
 use Rattle.watch_commands.specs.declared.counts.WatchCounts.{WatchCounts}
 use Rattle.watch_commands.specs.declared.counts.LineCounts.{LineCounts}
+use Rattle.watch_commands.specs.declared.times.LogClock.{LogClock}
+use Rattle.watch_commands.specs.declared.times.HeardTimes.{HeardTimes}
+use Rattle.watch_commands.specs.declared.times.Silence.{Silence}
+use Rattle.watch_commands.specs.Silences.{endless_silence}
+use Rattle.watch_commands.specs.Times.{first_time, moment_after, time_found, clock_of, times_of, no_times, until, heard}
 use Rattle.secoc_words.specs.Counting.{last_accepted}
 use Rattle.watch_commands.specs.WatchedMaps.{WatchedMap}
 use Rattle.can_logs.specs.Findings.{Finding, tally_of, finding_accepts, first_counters, counter_of_place, is_accepted_tally}
@@ -16,13 +21,16 @@ use Rattle.watch_commands.specs.Watching.{Found, stamped, findings_of, WatchesLi
 use Rattle.watch_commands.specs.WatchTotals.{counted_of, counts_of, is_failed_tally, is_accepted_at, is_failed_at, is_other_of, is_unmapped_line, is_other_frame, is_malformed_line, totals_text_of, status_of}
 
 -- the map; for each of its lines the counter, how many frames it accepted, and how many it didn't; the numbers of the
--- log so far; what was found of the last lines, as it is printed
+-- log so far, its moments, and for each line of the map when it was heard; what was found of the last lines, as it is
+-- printed
 pub record WatchState : Type 0 where
   pub mapping : WatchedMap
   pub counters : List ℕ
   pub accepted : List ℕ
   pub failed : List ℕ
   pub counts : WatchCounts
+  pub clock : LogClock
+  pub times : List HeardTimes
   pub text : List ℕ
 
 -- nothing was looked at yet
@@ -31,6 +39,8 @@ pub record IsFreshWatch (state : WatchState) : Type 0 where
   pub accepted_are : state.accepted ≡ replicate (length state.mapping.lines) 0
   pub failed_are : state.failed ≡ replicate (length state.mapping.lines) 0
   pub counts_are : state.counts ≡ counts_of []
+  pub clock_is : state.clock ≡ clock_of []
+  pub times_are : state.times ≡ replicate (length state.mapping.lines) no_times
   pub no_text : state.text ≡ []
 
 -- for each line of the map the number of findings that pass for it
@@ -50,22 +60,31 @@ pub record Watched (state : WatchState) (lines : List (List ℕ)) (findings : Li
   pub accepted_are : AreCounted is_accepted_at state.mapping state.accepted findings
   pub failed_are : AreCounted is_failed_at state.mapping state.failed findings
   pub counts_are : state.counts ≡ counts_of (findings_of findings)
+  pub clock_is : state.clock ≡ clock_of findings
+  pub times_many : length state.times ≡ length state.mapping.lines
+  pub times_are : (place : ℕ) → place < length state.mapping.lines → slice_get state.times place ≡ Some (times_of place findings)
 
 -- what found findings, of one line, count as: nothing if it was skipped
 abbrev pub tally_found : List Finding → Option FrameTally
 tally_found [] = None
 tally_found (finding ∷ _) = Some (tally_of finding)
 
--- what is found of the line with this number was added, the counters are those after it, and the answer is what it
--- counts as
-abbrev pub JudgesLine : WatchState → ℕ → List ℕ → WatchState → Option FrameTally → Type 0
-JudgesLine old number line new counts =
+-- the time of what found findings, of one line
+abbrev pub time_told : List Found → Option ℕ
+time_told [] = None
+time_told (f ∷ _) = time_found f
+
+-- what is found of the line with this number was added, the counters are those after it, and the answers are what it
+-- counts as, and its time
+abbrev pub JudgesLine : WatchState → ℕ → List ℕ → WatchState → Option FrameTally → Option ℕ → Type 0
+JudgesLine old number line new counts time =
     (findings : List Finding) × WatchesLine old.mapping.lines (slice_index old.counters) number line findings
     × (new ≡ record old {
       counters = new.counters;
       text = old.text ++ found_text old.mapping (stamped line findings);
     })
     × (length new.counters ≡ length old.counters) × (counts ≡ tally_found findings)
+    × (time ≡ time_told (stamped line findings))
     × ((place : ℕ) → place < length old.counters → slice_index new.counters place
     ≡ last_accepted place (slice_index old.counters place) (map finding_accepts findings))
 
@@ -108,6 +127,29 @@ abbrev pub raised_at : Option ℕ → List ℕ → List ℕ
 raised_at None numbers = numbers
 raised_at (Some place) numbers = set numbers place (counted (slice_index numbers place))
 
+-- the moments after one more line
+abbrev pub clock_after : Option ℕ → LogClock → LogClock
+clock_after time old =
+    record { begin = first_time old.begin time; moment = moment_after old.moment time }
+
+-- a line of the map is heard that accepted a frame with a time
+abbrev pub heard_at : ℕ → Option ℕ → Option ℕ → List HeardTimes → List HeardTimes
+heard_at place (Some begin) (Some moment) times =
+    set times place (heard begin moment (unwrap_or (slice_get times place) no_times))
+heard_at place (Some begin) None times = times
+heard_at place None moment times = times
+
+abbrev pub times_after : Option ℕ → Option ℕ → LogClock → List HeardTimes → List HeardTimes
+times_after None time clock times = times
+times_after (Some place) None clock times = times
+times_after (Some place) (Some time) clock times = heard_at place clock.begin clock.moment times
+
+abbrev pub heard_after : Option FrameTally → Option ℕ → WatchState → WatchState
+heard_after tally time old = record old {
+  clock = clock_after time old.clock;
+  times = times_after (accepted_place tally) time (clock_after time old.clock) old.times;
+}
+
 -- what is found of the line with this number was added and counted
 pub record WatchesNext (old : WatchState) (number : ℕ) (line : List ℕ) (new : WatchState) : Type 0 where
   pub findings : List Finding
@@ -121,8 +163,21 @@ pub record WatchesNext (old : WatchState) (number : ℕ) (line : List ℕ) (new 
     accepted = raised_at (accepted_place (tally_found findings)) old.accepted;
     failed = raised_at (failed_place (tally_found findings)) old.failed;
     counts = counts_after (tally_found findings) old.counts;
+    clock = clock_after (time_told (stamped line findings)) old.clock;
+    times = times_after (accepted_place (tally_found findings)) (time_told (stamped line findings))
+        (clock_after (time_told (stamped line findings)) old.clock) old.times;
     text = old.text ++ found_text old.mapping (stamped line findings);
   }
+
+-- the longest silence of a line of the map, if the log ends here
+abbrev pub silence_until : Option ℕ → Option ℕ → HeardTimes → Silence
+silence_until (Some begin) (Some moment) times = until begin moment times
+silence_until (Some begin) None times = endless_silence
+silence_until None moment times = endless_silence
+
+abbrev pub silence_at : WatchState → ℕ → Silence
+silence_at state place =
+    silence_until state.clock.begin state.clock.moment (unwrap_or (slice_get state.times place) no_times)
 
 -- what a state has of the lines of its map
 abbrev pub totals_in : WatchState → ℕ → LineCounts
@@ -131,6 +186,7 @@ totals_in state place = record {
   accepted = slice_index state.accepted place;
   failed = slice_index state.failed place;
   last = slice_index state.counters place;
+  silence = silence_at state place;
 }
 
 -- the text and the status at the end of a log, of a state

@@ -13,8 +13,8 @@ use Rattle.can_logs.specs.MapFaults.{map_input_row, map_line_row}
 use Rattle.watch_commands.specs.OptionWords.{watch_options}
 use Rattle.watch_commands.specs.Words.{watch_usage, AsksWatch, text_asked}
 use Rattle.watch_commands.specs.WatchedMaps.{WatchedMap, IsWatchedMap}
-use Rattle.watch_commands.specs.Watching.{Found, findings_of, found_text, FindsComplete, FindsAll}
-use Rattle.watch_commands.specs.WatchTotals.{totals_text, watch_status}
+use Rattle.watch_commands.specs.Watching.{Found, found_text, FindsComplete, FindsAll}
+use Rattle.watch_commands.specs.LogTotals.{totals_text, watch_status}
 
 -- the map was read whole, and has these lines with these numbers; what is found is printed as the
 -- words say
@@ -28,8 +28,8 @@ ReadsWatchMap i mapping =
 pub data ComesOfLog (mapping : WatchedMap) (log : Reading) : Row → Type 0 where
   done : (bytes : List ℕ) (findings : List Found) → ReadsToEnd log bytes → FindsAll mapping.lines bytes findings
       → ComesOfLog mapping log
-      (row_of (watch_status mapping (findings_of findings))
-      (found_text mapping findings ++ totals_text mapping (findings_of findings)))
+      (row_of (watch_status mapping findings)
+      (found_text mapping findings ++ totals_text mapping findings))
 
 -- the rows of a log that failed, or of which 2^64 - 1 bytes and more came: what is found of the complete lines of all
 -- that came stands on standard output

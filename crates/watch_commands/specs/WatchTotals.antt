@@ -1,5 +1,5 @@
 -- The numbers at the end of a log: those of each line of the map, and those of the whole log
-use Rattle.std.specs.Prelude.{ℕ, ◌-◌, ◌==◌, ◌&&◌, ◌||◌, nat_lt, Bool, true, false, if◌then◌else◌, List, [], ◌++◌, length, filter, slice_index, codes, Option, None, Some, option_map, unwrap_or}
+use Rattle.std.specs.Prelude.{ℕ, ◌-◌, ◌==◌, ◌&&◌, ◌||◌, nat_lt, Bool, true, false, if◌then◌else◌, List, [], ◌++◌, length, filter, codes, Option, None, Some, is_none, option_map, unwrap_or}
 use Rattle.std.specs.List.{flat_map, list_all, range_with_len, slice_get}
 use Rattle.std.specs.Fmt.{decimal}
 use Rattle.basics.specs.Numbers.{bytes_of}
@@ -14,11 +14,14 @@ use Rattle.watch_commands.specs.declared.counts.WatchCounts.{WatchCounts}
 use Rattle.watch_commands.specs.declared.counts.LineCounts.{LineCounts}
 use Rattle.watch_commands.specs.declared.limits.Limits.{Limits}
 use Rattle.watch_commands.specs.declared.options.WatchOptions.{WatchOptions}
-use Rattle.watch_commands.specs.Limits.{limit_over, is_within, share_of, limits_in}
+use Rattle.watch_commands.specs.declared.times.Silence.{Silence}
+use Rattle.watch_commands.specs.Seconds.{seconds_text}
+use Rattle.watch_commands.specs.Silences.{lasts}
+use Rattle.watch_commands.specs.Limits.{limit_over, limit_reached, is_within, share_of, limits_in}
 use Rattle.can_logs.specs.MapLines.{row_head}
 use Rattle.line_stream.specs.Pieces.{in_64_bits}
 use Rattle.watch_commands.specs.WatchedMaps.{WatchedMap}
-use Rattle.can_logs.specs.Findings.{Finding, is_accepted_tally, tally_of, counter_of_place}
+use Rattle.can_logs.specs.Findings.{Finding, is_accepted_tally, tally_of}
 
 -- ---- what is counted
 
@@ -179,9 +182,33 @@ line_over options counts entry =
     ++ over_text options.json (over_head options.json counts.number entry) (codes "missed-share")
     (missed_share_of entry counts) (limit_over (limits_in options).missed_share (missed_share_of entry counts))
 
+-- from when to when a silence lasts, and its limit
+abbrev pub silence_end : Bool → Silence → ℕ → List ℕ
+silence_end json silence limit =
+    before_value json (codes "\"from\":\"") (codes "from ") ++ seconds_text silence.from
+    ++ before_value json (codes "\",\"to\":\"") (codes " to ") ++ seconds_text silence.to
+    ++ before_value json (codes "\",\"limit\":\"") (codes " limit ") ++ seconds_text limit
+    ++ before_value json (line (codes "\"}")) (line [])
+
+-- a line for a silence that reaches its limit, behind the head of its line; none of a line that is optional
+abbrev pub silence_text : Bool → List ℕ → Silence → Option ℕ → List ℕ
+silence_text json head silence None = []
+silence_text json head silence (Some limit) =
+    before_value json (codes "{\"kind\":\"silent\",") (codes "silent ") ++ head ++ silence_end json silence limit
+
+abbrev pub line_silence : WatchOptions → LineCounts → MapLine → List ℕ
+line_silence options counts entry =
+    if entry.optional then []
+    else silence_text options.json (over_head options.json counts.number entry) counts.silence
+    (limit_reached (limits_in options).silent (lasts counts.silence))
+
+-- all of it of a line of the map
+abbrev pub line_beyond : WatchOptions → LineCounts → MapLine → List ℕ
+line_beyond options counts entry = line_over options counts entry ++ line_silence options counts entry
+
 abbrev pub line_over_at : WatchedMap → (ℕ → LineCounts) → ℕ → List ℕ
 line_over_at mapping totals place =
-    unwrap_or (option_map (line_over mapping.options (totals place)) (slice_get mapping.lines place)) []
+    unwrap_or (option_map (line_beyond mapping.options (totals place)) (slice_get mapping.lines place)) []
 
 -- and of the whole log: malformed lines, and data frames that no line of the map hears
 abbrev pub log_over : WatchOptions → WatchCounts → List ℕ
@@ -199,18 +226,6 @@ totals_text_of mapping totals counts =
     flat_map (total_line_at mapping totals) (map_places mapping) ++ counts_text mapping.options.json counts
     ++ flat_map (line_over_at mapping totals) (map_places mapping) ++ log_over mapping.options counts
 
--- the totals of what was found
-abbrev pub totals_of : WatchedMap → List Finding → ℕ → LineCounts
-totals_of mapping findings place = record {
-  number = slice_index mapping.numbers place;
-  accepted = counted_of (is_accepted_at place) findings;
-  failed = counted_of (is_failed_at place) findings;
-  last = counter_of_place mapping.lines findings place;
-}
-
-abbrev pub totals_text : WatchedMap → List Finding → List ℕ
-totals_text mapping findings = totals_text_of mapping (totals_of mapping findings) (counts_of findings)
-
 -- ---- the status at the end of a log
 
 -- a line of the map is optional, or one frame at least was accepted for it; and it is within its limits
@@ -221,6 +236,7 @@ abbrev pub does_pass : Limits → LineCounts → MapLine → Bool
 does_pass limits counts entry =
     is_heard counts.accepted entry && is_within limits.missed (missed_of entry counts)
     && is_within limits.missed_share (missed_share_of entry counts)
+    && (entry.optional || is_none (limit_reached limits.silent (lasts counts.silence)))
 
 abbrev pub passes_at : WatchedMap → (ℕ → LineCounts) → ℕ → Bool
 passes_at mapping totals place =
@@ -242,6 +258,3 @@ status_of mapping totals counts =
     if nat_lt 0 counts.failed then 1
     else if all_pass mapping totals && log_passes (limits_in mapping.options) counts then 0
     else 3
-
-abbrev pub watch_status : WatchedMap → List Finding → ℕ
-watch_status mapping findings = status_of mapping (totals_of mapping findings) (counts_of findings)

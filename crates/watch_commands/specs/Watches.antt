@@ -16,15 +16,15 @@ use Rattle.watch_commands.specs.Words.{watch_usage, AsksWatch, text_asked}
 use Rattle.watch_commands.specs.WatchedMaps.{WatchedMap}
 use Rattle.can_logs.specs.WatchMaps.{watch_map_of}
 use Rattle.watch_commands.specs.Watching.{Found, findings_of, FindsComplete, FindsAll, found_text}
-use Rattle.watch_commands.specs.WatchTotals.{totals_text, watch_status}
+use Rattle.watch_commands.specs.LogTotals.{totals_text, watch_status}
 use Rattle.watch_commands.specs.WatchRows.{Stops, FailsBoth, OverMap, ComesOnOutput, ComesOnErrors, EndsWatch}
 
 -- the whole log was read, exactly what is found of its lines and the totals were printed, and these findings give the
 -- status
 abbrev pub AnswersLog : LogInputs → WatchEnding → Type 0
 AnswersLog i e = OverMap i (λ mapping. (log : List ℕ) × (findings : List Found) × ReadsToEnd i.log log
-    × FindsAll mapping.lines log findings × (e.status ≡ watch_status mapping (findings_of findings))
-    × WritesWhole e.output (found_text mapping findings ++ totals_text mapping (findings_of findings))
+    × FindsAll mapping.lines log findings × (e.status ≡ watch_status mapping findings)
+    × WritesWhole e.output (found_text mapping findings ++ totals_text mapping findings)
     × IsUnwritten e.errors)
 
 -- exactly what is found of every complete line of the bytes that came was printed
@@ -43,7 +43,7 @@ pub record PrintsRising (mapping : WatchedMap) (log : Reading) (output : Writing
   pub finds : FindsComplete mapping.lines bytes findings ⊎ FindsAll mapping.lines bytes findings
   pub rise : AcceptedRise (map finding_accepts (findings_of findings))
   pub last : List ℕ
-  pub last_is : (last ≡ totals_text mapping (findings_of findings)) ⊎ (last ≡ [])
+  pub last_is : (last ≡ totals_text mapping findings) ⊎ (last ≡ [])
   pub size : ℕ
   pub prints : Appended output.before output.after (take size (found_text mapping findings ++ last))
 
@@ -56,7 +56,8 @@ pub record Watches (i : LogInputs) (e : WatchEnding) : Type 0 where
   pub told : (text : List ℕ) → text_asked i.words ≡ Some text → IsUnread i.map × IsUnread i.log
       × IsUnwritten e.errors × EndingTold e.output.before e.output.after text 0 e.status
   -- 0, 1 and 3: the log was read to its end, and all that is found of it was printed, with the numbers of each line of
-  -- the map. 1 if a mapped frame wasn't accepted, 3 if a line of the map that isn't optional accepted none, else 0.
+  -- the map. 1 if a mapped frame wasn't accepted, 3 if a line of the map that isn't optional
+  -- accepted none, or a limit is exceeded, else 0.
   pub answered : AsksWatch i.words → IsAnswer e.status → AnswersLog i e
   -- At every status: nothing was asked of the log; or of two frames that the same line of the map accepted in what was
   -- printed, the later has the greater freshness.

@@ -6,7 +6,8 @@ ghost use Rattle.watch_commands.specs.WatchTotals.{counts_of, named, before_valu
 ghost use Rattle.watch_commands.specs.WatchTotals.{can_text, line_head, last_text, total_line};
 ghost use Rattle.watch_commands.specs.WatchTotals.{values_counted, missed_of, missed_share_of, does_pass};
 
-use crate::limits::{Limits, is_within, share_of};
+use crate::limits::{Limits, is_within, limit_reached, share_of};
+use crate::times::Silence;
 use can_logs::{FrameTally, MapLine, OtherLine};
 use itoa::Buffer;
 use line_stream::add_bytes;
@@ -155,6 +156,8 @@ pub struct LineCounts {
     pub failed: u64,
     /// The freshness that it accepted last.
     pub last: u64,
+    /// Its longest silence.
+    pub silence: Silence,
 }
 
 impl LineCounts {
@@ -186,6 +189,7 @@ impl LineCounts {
         (entry.optional || self.accepted > 0)
             && is_within(limits.missed, self.missed(entry))
             && is_within(limits.missed_share, self.missed_share(entry))
+            && (entry.optional || limit_reached(limits.silent, self.silence.lasts()).is_none())
     }
 }
 

@@ -20,6 +20,7 @@ mod stamps;
 mod start;
 mod state;
 mod task;
+mod times;
 
 pub use limits::Limits;
 pub use options::{WatchOptions, inputs_of, kept_file};

@@ -1,6 +1,6 @@
 //! What a log may have at most if it is to pass.
 ghost use Rattle.std.specs.Prelude.{◌≡◌, ◌≤◌};
-ghost use Rattle.watch_commands.specs.Limits.{no_limits, limit_over, is_within, share_of};
+ghost use Rattle.watch_commands.specs.Limits.{no_limits, limit_over, limit_reached, is_within, share_of};
 
 /// What a log may have at most. What has no limit may be any number.
 #[derive(Clone, Copy, Debug)]
@@ -13,6 +13,8 @@ pub struct Limits {
     pub malformed: Option<u64>,
     /// Data frames that no line of the map hears.
     pub unmapped: Option<u64>,
+    /// Microseconds in which a line of the map that isn't optional accepted nothing: as many are too many.
+    pub silent: Option<u64>,
 }
 
 impl Limits {
@@ -25,6 +27,7 @@ impl Limits {
             missed_share: None,
             malformed: None,
             unmapped: None,
+            silent: None,
         }
     }
 }
@@ -35,6 +38,16 @@ pub fn limit_over(limit: Option<u64>, number: u64) -> Option<u64>
 {
     match limit {
         Some(most) => { if most < number { Some(most) } else { None } }
+        None => None,
+    }
+}
+
+/// The limit that a time reaches, if it does.
+pub fn limit_reached(limit: Option<u64>, time: u64) -> Option<u64>
+    ensures { result ≡ limit_reached limit time }
+{
+    match limit {
+        Some(least) => { if time < least { None } else { Some(least) } }
         None => None,
     }
 }

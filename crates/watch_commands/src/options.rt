@@ -1,14 +1,18 @@
 //! What the words of the command line ask for.
 ghost use Rattle.std.specs.Prelude.{◌≡◌, ◌≤◌, ◌-◌, ◌^◌, length, map as each, drop, string_bytes, option_map};
-ghost use Rattle.watch_commands.specs.Limits.{or_none, limits_in};
+ghost use Rattle.watch_commands.specs.Limits.{or_strict, limits_in};
 ghost use Rattle.watch_commands.specs.OptionWords.{option_of, valued_option_of, nothing_asked, with_option};
-ghost use Rattle.watch_commands.specs.OptionWords.{is_expect, new_limit, limits_with, with_kept, with_value, step_of};
+ghost use Rattle.watch_commands.specs.OptionWords.{is_expect, new_limit, new_silence, limits_with, with_kept, with_value, step_of};
 ghost use Rattle.watch_commands.specs.OptionWords.{TakesWord, SetsValue, asked_words};
 ghost use Rattle.watch_commands.specs.OptionWords.{watch_options, watch_inputs, kept_file};
 
 use crate::limits::Limits;
+use crate::times::seconds;
 use std::marker::Model;
 use text_lines::forms;
+
+/// The silence that is too long if all is strict, in microseconds.
+const STRICT_SILENCE: u64 = 5_000_000;
 
 /// How findings are printed, and what passes.
 #[derive(Clone, Copy, Debug)]
@@ -40,25 +44,30 @@ impl WatchOptions {
     {
         let limits = self.limits;
         Limits {
-            missed: or_none(self.strict && limits.missed_share.is_none(), limits.missed),
+            missed: or_strict(
+                self.strict && limits.missed_share.is_none(),
+                0,
+                limits.missed,
+            ),
             missed_share: limits.missed_share,
-            malformed: or_none(self.strict, limits.malformed),
-            unmapped: or_none(self.strict, limits.unmapped),
+            malformed: or_strict(self.strict, 0, limits.malformed),
+            unmapped: or_strict(self.strict, 0, limits.unmapped),
+            silent: or_strict(self.strict, STRICT_SILENCE, limits.silent),
         }
     }
 }
 
-/// A limit, or if it isn't given and all is strict, 0.
-fn or_none(strict: bool, limit: Option<u64>) -> Option<u64>
-    ensures { result ≡ or_none strict limit }
+/// A limit, or if it isn't given and all is strict, this one.
+fn or_strict(strict: bool, most: u64, limit: Option<u64>) -> Option<u64>
+    ensures { result ≡ or_strict strict most limit }
 {
     match limit {
-        Some(most) => Some(most),
-        None => { if strict { Some(0) } else { None } }
+        Some(given) => Some(given),
+        None => { if strict { Some(most) } else { None } }
     }
 }
 
-/// An option. The last four have a value, which is the next word.
+/// An option. The last five have a value, which is the next word.
 #[derive(Clone, Copy, Debug)]
 enum WatchOption {
     Quiet,
@@ -70,6 +79,7 @@ enum WatchOption {
     Missed,
     MissedShare,
     Malformed,
+    Silent,
 }
 
 /// The option that a word is.
@@ -109,6 +119,9 @@ fn valued_option(word: &str) -> Option<WatchOption>
     }
     if word == "--malformed" {
         return Some(WatchOption::Malformed);
+    }
+    if word == "--silent" {
+        return Some(WatchOption::Silent);
     }
     None
 }
@@ -192,6 +205,7 @@ impl<'a> Asked<'a> {
             WatchOption::Missed => self.waiting = Some(WatchOption::Missed),
             WatchOption::MissedShare => self.waiting = Some(WatchOption::MissedShare),
             WatchOption::Malformed => self.waiting = Some(WatchOption::Malformed),
+            WatchOption::Silent => self.waiting = Some(WatchOption::Silent),
         }
     }
 
@@ -244,6 +258,7 @@ fn limits_with(mut limits: Limits, option: WatchOption, word: &[u8]) -> Option<L
         WatchOption::Malformed => {
             limits.malformed = Some(new_limit(limits.malformed, u64::MAX, word)?);
         }
+        WatchOption::Silent => limits.silent = Some(new_silence(limits.silent, word)?),
         WatchOption::Quiet
         | WatchOption::Json
         | WatchOption::Time
@@ -262,6 +277,19 @@ fn new_limit(given: Option<u64>, most: u64, word: &[u8]) -> Option<u64>
         return None;
     }
     forms::number(word, 0, most)
+}
+
+/// A silence that isn't given yet: a time of at least a microsecond.
+fn new_silence(given: Option<u64>, word: &[u8]) -> Option<u64>
+    ensures { result ≡ new_silence given word.now }
+{
+    if given.is_some() {
+        return None;
+    }
+    match seconds(word) {
+        Some(0) => None,
+        time => time,
+    }
 }
 
 /// What words ask for, the program's name left out, and how many of them stand before the inputs; all, if an option has

@@ -1,11 +1,14 @@
 //! What is printed of a number that is more than it may be.
 ghost use Rattle.std.specs.Prelude.{◌≡◌, ◌≤◌, ◌+◌, ◌++◌, [], length, vec_len, vec_capacity};
-ghost use Rattle.watch_commands.specs.Limits.{limit_over};
+ghost use Rattle.watch_commands.specs.Limits.{limit_over, limit_reached};
+ghost use Rattle.watch_commands.specs.Silences.{lasts};
+ghost use Rattle.watch_commands.specs.WatchTotals.{silence_end, silence_text, line_silence, line_beyond};
 ghost use Rattle.watch_commands.specs.WatchTotals.{over_head, over_end, over_text, line_over, log_over};
 
 use crate::counts::{LineCounts, WatchCounts, add_line_head, add_number, before_value};
-use crate::limits::limit_over;
+use crate::limits::{limit_over, limit_reached};
 use crate::options::WatchOptions;
+use crate::times::{Silence, add_seconds};
 use can_logs::MapLine;
 use line_stream::add_bytes;
 
@@ -76,14 +79,71 @@ fn add_measure(text: &mut Vec<u8>, json: bool, measure: Measure)
     add_over_end(text, json, measure.name, measure.number, most);
 }
 
-/// Adds a line for each number of a line of a map that is more than it may be, in room for 600 bytes. It takes no
-/// memory.
-pub fn add_line_over(
+/// Adds what a silence says behind its line of the map, in room for 300 bytes. It takes no memory.
+fn add_silence_end(text: &mut Vec<u8>, json: bool, silence: Silence, limit: u64)
+    requires { vec_len text.old + 300 ≤ vec_capacity text.old }
+    ensures end { text.new.items ≡ text.old.items ++ silence_end json silence limit }
+    ensures few { vec_len text.new ≤ vec_len text.old + 300 }
+    ensures capacity { vec_capacity text.old ≤ vec_capacity text.new }
+{
+    add_bytes(text, before_value(json, b"\"from\":\"", b"from "));
+    add_seconds(text, silence.from);
+    add_bytes(text, before_value(json, b"\",\"to\":\"", b" to "));
+    add_seconds(text, silence.to);
+    add_bytes(text, before_value(json, b"\",\"limit\":\"", b" limit "));
+    add_seconds(text, limit);
+    add_bytes(text, before_value(json, b"\"}\n", b"\n"));
+}
+
+/// Adds a line for a silence of a line of a map, if it reaches its limit, in room for 460 bytes. It takes no memory.
+fn add_silence(
     text: &mut Vec<u8>,
-    options: WatchOptions,
+    json: bool,
     entry: &MapLine,
     counts: &LineCounts,
+    limit: Option<u64>,
 )
+    requires { vec_len text.old + 460 ≤ vec_capacity text.old }
+    ensures silence { text.new.items ≡ text.old.items ++ silence_text json
+        (over_head json counts.now.number entry.now) counts.now.silence
+        (limit_reached limit (lasts counts.now.silence)) }
+    ensures few { vec_len text.new ≤ vec_len text.old + 460 }
+    ensures capacity { vec_capacity text.old ≤ vec_capacity text.new }
+{
+    let Some(limit) = limit_reached(limit, counts.silence.lasts()) else {
+        return;
+    };
+    add_bytes(
+        text,
+        before_value(json, b"{\"kind\":\"silent\",", b"silent "),
+    );
+    add_over_head(text, json, counts.number, entry);
+    add_silence_end(text, json, counts.silence, limit);
+}
+
+/// Adds a line for the longest silence of a line of a map that isn't optional, if it reaches its limit, in room for 460
+/// bytes. It takes no memory.
+fn add_line_silence(text: &mut Vec<u8>, options: WatchOptions, entry: &MapLine, counts: &LineCounts)
+    requires { vec_len text.old + 460 ≤ vec_capacity text.old }
+    ensures silence { text.new.items ≡ text.old.items ++ line_silence options counts.now entry.now }
+    ensures few { vec_len text.new ≤ vec_len text.old + 460 }
+    ensures capacity { vec_capacity text.old ≤ vec_capacity text.new }
+{
+    if entry.optional {
+        return;
+    }
+    add_silence(
+        text,
+        options.json,
+        entry,
+        counts,
+        options.limits_in().silent,
+    );
+}
+
+/// Adds a line for each number of a line of a map that is more than it may be, in room for 600 bytes. It takes no
+/// memory.
+fn add_line_over(text: &mut Vec<u8>, options: WatchOptions, entry: &MapLine, counts: &LineCounts)
     requires room { vec_len text.old + 600 ≤ vec_capacity text.old }
     ensures over { text.new.items ≡ text.old.items ++ line_over options counts.now entry.now }
     ensures few { vec_len text.new ≤ vec_len text.old + 600 }
@@ -102,6 +162,22 @@ pub fn add_line_over(
         limit: limits.missed_share,
     };
     add_measure_of(text, options.json, counts.number, entry, share);
+}
+
+/// Adds these lines of a line of a map, and that of its silence, in room for 1,060 bytes. It takes no memory.
+pub fn add_line_beyond(
+    text: &mut Vec<u8>,
+    options: WatchOptions,
+    entry: &MapLine,
+    counts: &LineCounts,
+)
+    requires room { vec_len text.old + 1060 ≤ vec_capacity text.old }
+    ensures beyond { text.new.items ≡ text.old.items ++ line_beyond options counts.now entry.now }
+    ensures few { vec_len text.new ≤ vec_len text.old + 1060 }
+    ensures capacity { vec_capacity text.old ≤ vec_capacity text.new }
+{
+    add_line_over(text, options, entry, counts);
+    add_line_silence(text, options, entry, counts);
 }
 
 /// Adds a line for each number of a whole log that is more than it may be, in room for 310 bytes. It takes no memory.

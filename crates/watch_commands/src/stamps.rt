@@ -3,8 +3,10 @@ ghost use Rattle.std.specs.Prelude.{◌≡◌, ◌≤◌, ◌<◌, ◌+◌, ◌*
 ghost use Rattle.text_lines.specs.Readings.{nth_word};
 ghost use Rattle.watch_commands.specs.Stamps.{stamp_of, within_ends, is_plain_ascii, escaped_byte, escaped};
 ghost use Rattle.watch_commands.specs.Stamps.{stamp_words, stamp_object, lead_text};
+ghost use Rattle.watch_commands.specs.Seconds.{seconds_form};
 
 use crate::options::WatchOptions;
+use crate::times::seconds;
 use line_stream::add_bytes;
 use std::marker::Model;
 use text_lines::pushing::push_digits;
@@ -35,6 +37,13 @@ impl<'a> Stamp<'a> {
             time: word_or_empty(words, 1),
             channel: word_or_empty(words, 2),
         }
+    }
+
+    /// The time in microseconds, if it is one of seconds.
+    pub fn seconds(&self) -> Option<u64>
+        ensures { result ≡ seconds_form (within_ends self.now.time) }
+    {
+        seconds(inside_ends(self.time))
     }
 }
 

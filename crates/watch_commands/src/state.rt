@@ -5,6 +5,8 @@ ghost use Rattle.std.specs.List.{position_or_len};
 ghost use Rattle.text_lines.specs.Lines.{is_line_feed};
 ghost use Rattle.std.specs.List.{flat_map};
 ghost use Rattle.watch_commands.specs.Limits.{limits_in};
+ghost use Rattle.watch_commands.specs.Times.{no_times, time_by};
+ghost use Rattle.watch_commands.specs.States.{heard_after, silence_at};
 ghost use Rattle.watch_commands.specs.WatchTotals.{total_line_at, map_places, counts_text, line_over_at, log_over};
 ghost use Rattle.watch_commands.specs.WatchTotals.{passes_at, all_pass, log_passes};
 ghost use Rattle.watch_commands.specs.States.{IsFreshWatch, WatchesNext, JudgesLine, IsPlaced, counts_after};
@@ -13,9 +15,10 @@ ghost use Rattle.watch_commands.specs.States.{raised_at, accepted_place, failed_
 use crate::answers::add_answer;
 use crate::counts::{LineCounts, WatchCounts, add_counts, add_line_counts};
 use crate::limits::is_within;
-use crate::over::{add_line_over, add_log_over};
+use crate::over::{add_line_beyond, add_log_over};
 use crate::stamps::Stamp;
 use crate::task::WatchTask;
+use crate::times::{HeardTimes, LogClock, Silence};
 use can_logs::{FrameTally, OtherLine, counters_of, push_finding};
 use line_stream::PIECE;
 use std::alloc::{AllocError, Global};
@@ -50,6 +53,8 @@ pub struct Watch {
     accepted: Vec<u64>,
     failed: Vec<u64>,
     counts: WatchCounts,
+    clock: LogClock,
+    times: Vec<HeardTimes>,
     text: Vec<u8>,
     answer: Vec<u8>,
     spans: Vec<Span>,
@@ -67,11 +72,14 @@ impl Model for Watch {
       accepted = w.accepted.items;
       failed = w.failed.items;
       counts = w.counts;
+      clock = w.clock;
+      times = w.times.items;
       text = w.text.items;
     } };
 
     ghost invariant = { λ w. (length w.counters.items ≡ length w.map.lines)
         × (length w.accepted.items ≡ length w.map.lines) × (length w.failed.items ≡ length w.map.lines)
+        × (length w.times.items ≡ length w.map.lines)
         × (1606012 ≤ vec_capacity w.text) × (232 ≤ vec_capacity w.answer) × (4097 ≤ vec_capacity w.spans) };
 }
 
@@ -84,6 +92,7 @@ impl Watch {
         let counters = counters_of(alloc, map.lines())?;
         let accepted = zeros(alloc, map.lines().len())?;
         let failed = zeros(alloc, map.lines().len())?;
+        let times = no_times(alloc, map.lines().len())?;
         let text = Vec::with_capacity(alloc, TEXT_ROOM)?;
         let answer = Vec::with_capacity(alloc, ANSWER_ROOM)?;
         let spans = Vec::with_capacity(alloc, LINE_LIMIT + 1)?;
@@ -93,6 +102,8 @@ impl Watch {
             accepted,
             failed,
             counts: WatchCounts::none(),
+            clock: LogClock::none(),
+            times,
             text,
             answer,
             spans,
@@ -107,8 +118,9 @@ impl Watch {
         ensures few { length self.new.text ≤ length self.old.text + 12 * length line.now + 368 }
         ensures takes { WatchesNext self.old number line.now self.new }
     {
-        let tally = self.judge_line(number, line);
-        self.count(tally);
+        let judged = self.judge_line(number, line);
+        self.count(judged.tally);
+        self.hear(judged);
     }
 
     /// What was found of the last lines, or at the end of the log.
@@ -193,6 +205,7 @@ impl Watch {
             accepted: self.accepted[place],
             failed: self.failed[place],
             last: self.counters[place],
+            silence: self.silence_at(place),
         }
     }
 
@@ -217,21 +230,48 @@ impl Watch {
         }
     }
 
-    /// Adds what is found of a line, and tells what it counts as; `None` if it is skipped.
-    fn judge_line(&mut self, number: u64, line: &[u8]) -> Option<FrameTally>
+    /// The log's moments go on by a line, and a line of the map that accepted its frame was heard.
+    fn hear(&mut self, judged: Judged)
+        requires { IfSome judged.tally (IsPlaced (length self.old.mapping.lines)) }
+        ensures { self.new ≡ heard_after judged.tally judged.time self.old }
+    {
+        self.clock.see(judged.time);
+        let Some(FrameTally::Accepted(place)) = judged.tally else {
+            return;
+        };
+        if judged.time.is_none() {
+            return;
+        }
+        let Some(begin) = self.clock.begin else {
+            return;
+        };
+        let Some(moment) = self.clock.moment else {
+            return;
+        };
+        self.times[place] = self.times[place].heard(begin, moment);
+    }
+
+    /// Adds what is found of a line, and tells what it counts as and its time; neither if it is skipped.
+    fn judge_line(&mut self, number: u64, line: &[u8]) -> Judged
         requires one { position_or_len is_line_feed line.now ≡ length line.now }
         requires room { length self.old.text + 12 * length line.now + 368 ≤ 1606012 }
         ensures few { length self.new.text ≤ length self.old.text + 12 * length line.now + 368 }
-        ensures judges { JudgesLine self.old number line.now self.new result }
-        ensures placed { IfSome result (IsPlaced (length self.old.mapping.lines)) }
+        ensures judges { JudgesLine self.old number line.now self.new result.tally result.time }
+        ensures placed { IfSome result.tally (IsPlaced (length self.old.mapping.lines)) }
     {
         if line.len() > LINE_LIMIT {
-            return Some(FrameTally::Other(OtherLine::Malformed));
+            return Judged {
+                tally: Some(FrameTally::Other(OtherLine::Malformed)),
+                time: None,
+            };
         }
         put_words(&mut self.spans, line).unwrap();
         let words = Words::of(line, self.spans.as_slice());
         if words.is_skipped() {
-            return None;
+            return Judged {
+                tally: None,
+                time: None,
+            };
         }
         let stamp = Stamp::of(&words);
         self.answer.clear();
@@ -251,7 +291,24 @@ impl Watch {
             &stamp,
             self.answer.as_slice(),
         );
-        Some(tally)
+        Judged {
+            tally: Some(tally),
+            time: time_of(tally, &stamp),
+        }
+    }
+
+    /// The longest silence of the line of the map at a place, if the log ends here.
+    fn silence_at(&self, place: usize) -> Silence
+        requires { place < length self.now.mapping.lines }
+        ensures { result ≡ silence_at self.now place }
+    {
+        let Some(begin) = self.clock.begin else {
+            return Silence::endless();
+        };
+        let Some(moment) = self.clock.moment else {
+            return Silence::endless();
+        };
+        self.times[place].until(begin, moment)
     }
 
     /// Adds a line for each line of the map, and one for each number.
@@ -302,16 +359,42 @@ impl Watch {
     /// Adds a line for each number of the map's line at a place that is more than it may be.
     fn push_line_over(&mut self, place: usize)
         requires place { place < length self.old.mapping.lines }
-        requires room { length self.old.text + 600 ≤ 1606012 }
+        requires room { length self.old.text + 1060 ≤ 1606012 }
         ensures text { self.new ≡ record self.old {
           text = self.old.text ++ line_over_at self.old.mapping (totals_in self.old) place;
         } }
-        ensures few { length self.new.text ≤ length self.old.text + 600 }
+        ensures few { length self.new.text ≤ length self.old.text + 1060 }
     {
         let counts = self.counts_at(place);
         let options = self.map.options();
-        add_line_over(&mut self.text, options, &self.map.lines()[place], &counts);
+        add_line_beyond(&mut self.text, options, &self.map.lines()[place], &counts);
     }
+}
+
+/// What a line counts as, and its time in microseconds if it isn't malformed and has one.
+#[derive(Clone, Copy)]
+struct Judged {
+    tally: Option<FrameTally>,
+    time: Option<u64>,
+}
+
+/// The time of a line that isn't malformed.
+fn time_of(tally: FrameTally, stamp: &Stamp<'_>) -> Option<u64>
+    ensures { result ≡ time_by tally stamp.now }
+{
+    if let FrameTally::Other(OtherLine::Malformed) = tally {
+        return None;
+    }
+    stamp.seconds()
+}
+
+/// As many times of lines that weren't heard.
+fn no_times(alloc: Global, count: usize) -> Result<Vec<HeardTimes>, AllocError>
+    ensures { IfOk result (λ times. times.items ≡ replicate count no_times) }
+{
+    let mut times = Vec::new(alloc);
+    times.resize(count, HeardTimes::none())?;
+    Ok(times)
 }
 
 /// As many zeros.

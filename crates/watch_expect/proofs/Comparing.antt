@@ -18,8 +18,8 @@ use Rattle.line_stream.specs.declared.driver.StreamFault.TheVariants as stream
 use Rattle.line_stream.proofs.CallerLemmas.{TakesLines-keeps, Paused-keeps}
 use Rattle.watch_commands.specs.WatchedMaps.{WatchedMap}
 use Rattle.watch_commands.specs.States.{WatchState, IsFreshWatch, Watched, end_text}
-use Rattle.watch_commands.specs.Watching.{Found, findings_of, WatchesEach, FindsComplete, FindsAll, found_text, told_text}
-use Rattle.watch_commands.specs.WatchTotals.{totals_text}
+use Rattle.watch_commands.specs.Watching.{Found, WatchesEach, FindsComplete, FindsAll, found_text, told_text}
+use Rattle.watch_commands.specs.LogTotals.{totals_text}
 use Rattle.watch_commands.specs.Words.{AsksWatch, text_asked}
 use Rattle.watch_commands.specs.WatchRows.{OverMap, ComesOnErrors, no_form, no_map, map_fault, no_log, FailsOfLog, failed, too_long}
 use Rattle.watch_commands.proofs.CallerLemmas.{asks_no_text, Watched-none, Watched-text, WatchedMore, WatchedMore-none, WatchedMore-more, finds_lines, text_at_end}
@@ -140,7 +140,7 @@ module _ (fresh : WatchState) (text : List ℕ) (is_fresh : IsFreshWatch fresh) 
           let (w, text_is, at_is) = lines_held d.lines (d.last ∷ []) d.bytes d.before taken so_far (taken, takes_last, refl) in
           let all : List (List ℕ) = d.lines ++ d.last ∷ [] in
           let findings : List Found = so_far.findings ++ w.found in
-          let totals : List ℕ = totals_text mapping (findings_of findings) in
+          let totals : List ℕ = totals_text mapping findings in
           let found : List ℕ = found_text mapping w.found ++ totals in
           let kept : EndsAsKept text d.before.at found end =
           subst (λ (f : List ℕ). EndsAsKept text d.before.at f end) (text_at_end mapping so_far.findings all taken.watch w)

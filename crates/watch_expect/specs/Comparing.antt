@@ -7,8 +7,8 @@ use Rattle.text_lines.specs.Lines.{is_line_feed}
 use Rattle.text_lines.specs.Texts.{line}
 use Rattle.program_edge.specs.Inputs.{Reading}
 use Rattle.watch_commands.specs.WatchedMaps.{WatchedMap}
-use Rattle.watch_commands.specs.Watching.{Found, findings_of, FindsComplete, FindsAll, found_text}
-use Rattle.watch_commands.specs.WatchTotals.{totals_text}
+use Rattle.watch_commands.specs.Watching.{Found, FindsComplete, FindsAll, found_text}
+use Rattle.watch_commands.specs.LogTotals.{totals_text}
 use Rattle.can_logs.specs.LogRuns.{Writing, ReadsToEnd, HasCome}
 
 -- two texts go on in different ways
@@ -32,7 +32,7 @@ LeavesAt text other n =
 abbrev pub PrintsAll : WatchedMap → Reading → List ℕ → Type 0
 PrintsAll mapping log text = (bytes : List ℕ) × (findings : List Found) × ReadsToEnd log bytes
     × FindsAll mapping.lines bytes findings
-    × (text ≡ found_text mapping findings ++ totals_text mapping (findings_of findings))
+    × (text ≡ found_text mapping findings ++ totals_text mapping findings)
 
 -- behind its first n bytes a kept text isn't what is printed of a log. Of what came of the log another byte is printed
 -- there, or all that is printed ends there; and the log didn't fail

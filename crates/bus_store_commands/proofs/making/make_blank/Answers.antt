@@ -38,4 +38,5 @@ returns-in-Ok-false-clause-refused g c =
 
 pub returns-in-Err-clause-refused : goal.returns-in-Err-clause-refused
 returns-in-Err-clause-refused g c =
-    zeros_unread c.args.kind c.args.version c.args.config.now (g.D.Disk.state c.args.disk) (g.D.Disk.state c.is_zeroed.new.disk) c.in-Err.fault c.in-Err.ensures.refused
+    rw c.look_fault.ensures
+    (zeros_unread c.args.kind c.args.version c.args.config.now 1 (g.D.Disk.state c.args.disk) (g.D.Disk.state c.is_zeroed.new.disk) c.in-Err.fault c.in-Err.ensures.refused)

@@ -18,8 +18,8 @@ remove-disk-requires g c =
     let same : vec_len c.args.disks.now ≡ length c.args.disks.now.items = search rules in
     omega (arith, some, same)
 
-pub look_at-outcome-requires-clause-room : goal.look_at-outcome-requires-clause-room
-look_at-outcome-requires-clause-room g c =
+pub look_at-disk-requires-clause-room : goal.look_at-disk-requires-clause-room
+look_at-disk-requires-clause-room g c =
     let test : IsTrue c.has_room.result ↔ HasStoreRoom c.args.bus.now (map g.D.Disk.state c.args.disks.now.items) =
     subst (λ (ds : List _). IsTrue c.has_room.result ↔ HasStoreRoom c.args.bus.now (map g.D.Disk.state ds)) c.as_slice.ensures.value c.has_room.ensures in
     fits_there g.D.Disk.state c.args.bus.now c.args.disks.now.items c.remove-disk.result c.has_room.result test c.if-not-has_room.false c.remove-disk.ensures.value
@@ -28,15 +28,15 @@ pub returns-clause-looked : goal.returns-clause-looked
 returns-clause-looked g c =
     let test : IsTrue c.has_room.result ↔ HasStoreRoom c.args.bus.now (map g.D.Disk.state c.args.disks.now.items) =
     subst (λ (ds : List _). IsTrue c.has_room.result ↔ HasStoreRoom c.args.bus.now (map g.D.Disk.state ds)) c.as_slice.ensures.value c.has_room.ensures in
-    first_looked g.D.Disk.state c.args.bus.now c.args.disks.now.items c.remove-disk.new.self.items c.put_first.new.disks.items c.remove-disk.result c.look_at-outcome.new.disk
-    c.look_at-outcome.result (some_there g.D.Disk.state c.args.bus.now c.args.disks.now.items c.has_room.result test c.if-not-has_room.false)
+    first_looked g.D.Disk.state c.args.bus.now c.args.disks.now.items c.remove-disk.new.self.items c.put_first.new.disks.items c.remove-disk.result c.look_at-disk.result.0
+    c.look_at-disk.result.1 (some_there g.D.Disk.state c.args.bus.now c.args.disks.now.items c.has_room.result test c.if-not-has_room.false)
     c.remove-disk.ensures.value c.remove-disk.ensures.by_index.2 c.put_first.ensures.items
     (room_there g.D.Disk.state c.args.bus.now c.args.disks.now.items c.requires c.has_room.result test c.if-not-has_room.false)
-    c.look_at-outcome.ensures.as_before c.look_at-outcome.ensures.keeps
+    c.look_at-disk.ensures.as_before c.look_at-disk.ensures.keeps c.look_at-disk.ensures.keeps_older
 
 pub returns-clause-unlooked : goal.returns-clause-unlooked
 returns-clause-unlooked g c =
     let test : IsTrue c.has_room.result ↔ HasStoreRoom c.args.bus.now (map g.D.Disk.state c.args.disks.now.items) =
     subst (λ (ds : List _). IsTrue c.has_room.result ↔ HasStoreRoom c.args.bus.now (map g.D.Disk.state ds)) c.as_slice.ensures.value c.has_room.ensures in
-    unlooked_room c.look_at-outcome.result c.args.bus.now (map g.D.Disk.state c.args.disks.now.items) c.put_first.new.disks c.args.disks.now
+    unlooked_room c.look_at-disk.result.1 c.args.bus.now (map g.D.Disk.state c.args.disks.now.items) c.put_first.new.disks c.args.disks.now
     (room_there g.D.Disk.state c.args.bus.now c.args.disks.now.items c.requires c.has_room.result test c.if-not-has_room.false)

@@ -8,10 +8,10 @@ returns-clause-serves g c = record {
   origin = refl;
   survives = c.serve_issue-served.ensures.survives;
   ends = ends_of g.S.Store
-      (record { conn = c.args.conn.now; origin = c.args.origin.now; sink = g.K.Sink.state c.args.sink.now })
-      (record { conn = c.serve_issue-served.new.conn; origin = c.args.origin.now; sink = g.K.Sink.state c.tell_served.new.sink })
+      (record { conn = c.args.conn.now; origin = c.args.origin.now; noted = c.args.noted.now; sink = g.K.Sink.state c.args.sink.now })
+      (record { conn = c.serve_issue-served.new.conn; origin = c.args.origin.now; noted = c.note_served.new.noted; sink = g.K.Sink.state c.tell_served.new.sink })
       c.args.number (ask.Issue c.args.asked.now) c.serve_issue-served.result c.tell_served.result
-      c.serve_issue-served.ensures.answers c.serve_issue-served.ensures.failed c.serve_issue-served.ensures.undone c.tell_served.ensures;
+      c.serve_issue-served.ensures.answers c.serve_issue-served.ensures.failed c.serve_issue-served.ensures.undone c.note_served.ensures c.tell_served.ensures;
 }
 
 pub returns-clause-ready : goal.returns-clause-ready

@@ -1,17 +1,17 @@
 use Rattle.std.proofs.Common.{refl}
 use Rattle.ledger_shift.specs.declared.line.ShiftLine.TheVariants as ask
-use Rattle.ledger_shift.proofs.Served.{ends_of, served_if}
+use Rattle.ledger_shift.proofs.Served.{ends_of, noted_shown, served_if}
 use Rattle.ledger_shift.proofs.port.take_show.Goals as goal
 
 pub returns-clause-serves : goal.returns-clause-serves
-returns-clause-serves g c = record {
+returns-clause-serves g c noted = record {
   origin = refl;
   survives = c.serve_show-served.ensures.survives;
   ends = ends_of g.S.Store
-      (record { conn = c.args.conn.now; origin = c.args.origin.now; sink = g.K.Sink.state c.args.sink.now })
-      (record { conn = c.serve_show-served.new.conn; origin = c.args.origin.now; sink = g.K.Sink.state c.tell_served.new.sink })
+      (record { conn = c.args.conn.now; origin = c.args.origin.now; noted = noted; sink = g.K.Sink.state c.args.sink.now })
+      (record { conn = c.serve_show-served.new.conn; origin = c.args.origin.now; noted = noted; sink = g.K.Sink.state c.tell_served.new.sink })
       c.args.number (ask.Show c.args.uid.now c.args.id) c.serve_show-served.result c.tell_served.result
-      c.serve_show-served.ensures.answers c.serve_show-served.ensures.failed c.serve_show-served.ensures.undone c.tell_served.ensures;
+      c.serve_show-served.ensures.answers c.serve_show-served.ensures.failed c.serve_show-served.ensures.undone (noted_shown noted c.serve_show-served.result c.serve_show-served.ensures.calm) c.tell_served.ensures;
 }
 
 pub returns-clause-ready : goal.returns-clause-ready

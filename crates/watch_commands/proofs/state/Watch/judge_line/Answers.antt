@@ -10,6 +10,7 @@ use Rattle.can_logs.proofs.CallerLemmas.{put_back}
 use Rattle.can_logs.specs.Findings.{finding_text}
 use Rattle.watch_commands.specs.Stamps.{LineStamp, stamp_of}
 use Rattle.watch_commands.specs.Watching.{told_text}
+use Rattle.watch_commands.specs.Times.{time_by}
 use Rattle.watch_commands.proofs.Answering.{answer_in}
 use Rattle.watch_commands.proofs.WordSizes.{stamp_fits}
 use Rattle.watch_commands.specs.States.{WatchState, JudgesLine}
@@ -84,6 +85,7 @@ returns-clause-judges c =
     let told_is : told ≡ old.text ++ told_text old.mapping.options (record { finding = finding; stamp = stamp_of (words_of line) }) =
     subst (λ (s : LineStamp). told ≡ old.text ++ told_text old.mapping.options (record { finding = finding; stamp = s })) stamp_is
     (c.add_answer.ensures.told finding (answer_in old.mapping.lines (slice_index old.counters) (record { number = c.args.number; words = words_of line }) c.unwrap-tally.result shown finding audits counts_is is_text)) in
-    subst (λ (s : WatchState). JudgesLine s c.args.number line (record old { counters = left; text = told }) (Some c.unwrap-tally.result)) c.self.view_is
-    (subst (λ cs. JudgesLine old c.args.number line (record old { counters = cs; text = told }) (Some c.unwrap-tally.result)) (sym counters_are)
-    (JudgesLine-found old c.args.number line new told c.unwrap-tally.result finding few kept audits counts_is as_many after told_is))
+    let time_is : c.time_of.result ≡ time_by c.unwrap-tally.result (stamp_of (words_of line)) = c.time_of.ensures ∙ ap (time_by c.unwrap-tally.result) stamp_is in
+    subst (λ (s : WatchState). JudgesLine s c.args.number line (record old { counters = left; text = told }) (Some c.unwrap-tally.result) c.time_of.result) c.self.view_is
+    (subst (λ cs. JudgesLine old c.args.number line (record old { counters = cs; text = told }) (Some c.unwrap-tally.result) c.time_of.result) (sym counters_are)
+    (JudgesLine-found old c.args.number line new told c.unwrap-tally.result c.time_of.result finding few kept audits counts_is time_is as_many after told_is))

@@ -10,5 +10,5 @@ invariant-loop-place l = record {
   so_far : l.self ≡ record l.initial.self {
     text = l.initial.self.text ++ flat_map (line_over_at l.initial.self.mapping (totals_in l.initial.self)) (range_with_len 0 l.place);
   };
-  room : length l.self.text ≤ 142048 + 600 * l.place;
+  room : length l.self.text ≤ 142048 + 1060 * l.place;
 }

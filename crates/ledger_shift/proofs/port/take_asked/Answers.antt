@@ -1,0 +1,4 @@
+use Rattle.ledger_shift.proofs.port.take_asked.Goals as goal
+
+pub returns-in-Show-clause-serves : goal.returns-in-Show-clause-serves
+returns-in-Show-clause-serves g c = rw c.in-Show.is (c.take_show.ensures.serves c.args.noted.now)

@@ -1,0 +1,11 @@
+pub mod WriteLaws
+pub mod DeedLaws
+pub mod CopyLaws
+pub mod OpenLaws
+pub mod MoveLaws
+pub mod UnitReads
+pub mod PlaceReads
+pub mod StartReads
+pub mod StartWrites
+pub mod StoreStages
+pub mod CallerLemmas
