@@ -1,5 +1,6 @@
 """Questions and answers of two units: their bytes beside the model, what ends a question, and what comes of an answer."""
 
+import doctest
 import os
 import time
 
@@ -8,6 +9,7 @@ import pytest
 import model
 import rathonsi
 from memories import KEY, CutMemory, Memory, PowerWent, opened
+from rathonsi import _answers
 
 SENDS, RECEIVES = rathonsi.SENDS, rathonsi.RECEIVES
 A, B = 0x120E, 0x120F
@@ -15,6 +17,18 @@ NONCES = 0x7F0
 ONE, TWO = 0x1122_3344, 7
 LABEL = b"RATHONSI COUNTER OF A ROUTE, IN ANSWER TO A QUESTION:"
 NONCE_LABEL = b"RATHONSI NONCE OF THIS UNIT: A COUNT THAT IS DURABLE BEFORE IT IS."
+
+
+@pytest.fixture(autouse=True)
+def clock(monkeypatch: pytest.MonkeyPatch) -> list[float]:
+    """The time, which passes only as a test says."""
+    now = [1000.0]
+    monkeypatch.setattr(time, "monotonic", lambda: now[0])
+    return now
+
+
+def test_the_example() -> None:
+    assert doctest.testmod(_answers) == (0, 8)
 
 
 def routes(start: int = 0, reserve: int = 8, turned: bool = False) -> tuple[rathonsi.Route, ...]:
@@ -76,9 +90,7 @@ def test_a_receiver_rejoins_after_a_reset_and_no_pdu_comes_twice() -> None:
         one.rejoin(B, two.answer(B, SENDS, one.ask(B, RECEIVES, of=TWO)))
 
 
-def test_what_ends_a_question(monkeypatch: pytest.MonkeyPatch) -> None:
-    now = 1000.0
-    monkeypatch.setattr(time, "monotonic", lambda: now)
+def test_what_ends_a_question(clock: list[float]) -> None:
     _, one, _, two, _ = units(0, 5000)
 
     def refused(answer: bytes, why: str) -> None:
@@ -89,7 +101,7 @@ def test_what_ends_a_question(monkeypatch: pytest.MonkeyPatch) -> None:
     first = two.answer(B, SENDS, one.ask(B, RECEIVES, of=TWO))
     second = two.answer(B, SENDS, one.ask(B, RECEIVES, of=TWO))
     refused(first, "isn't the answer")
-    now += 1.0
+    clock[0] += 1.0
     refused(second, "no question")
     third = two.answer(B, SENDS, one.ask(B, RECEIVES, of=TWO))
     for _ in range(8):
@@ -98,7 +110,7 @@ def test_what_ends_a_question(monkeypatch: pytest.MonkeyPatch) -> None:
     fourth = two.answer(B, SENDS, one.ask(B, RECEIVES, of=TWO))
     for _ in range(7):
         refused(first, "isn't the answer")
-    now += 0.9
+    clock[0] += 0.9
     assert one.take(B, RECEIVES, fourth) == 5000
     refused(fourth, "no question")
     fifth = two.answer(B, SENDS, one.ask(B, RECEIVES, of=TWO))

@@ -58,7 +58,7 @@ def _struct_of(question: Question) -> _library.QuestionStruct:
     if not isinstance(question, Question):
         raise TypeError(f"question: a Question is wanted, not {type(question).__name__}")
     struct = _library.QuestionStruct(asker=question.asker, answerer=question.answerer)
-    struct.nonce[:] = question.nonce
+    struct.nonce[:] = list(question.nonce)
     return struct
 
 
