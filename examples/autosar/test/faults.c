@@ -221,10 +221,10 @@ static void refusing_memory(void)
 /* The tables are those of secoc.arxml. */
 static void look_at_tables(void)
 {
-    static const uint16 ids[FVM_ROUTES] = {10u, 11u, 12u, 13u, 14u, 13u};
-    static const uint8 bits[FVM_ROUTES] = {64u, 64u, 32u, 64u, 32u, 64u};
+    static const uint16 ids[FVM_ROUTES] = {10u, 11u, 12u, 13u, 14u, 13u, 98u};
+    static const uint8 bits[FVM_ROUTES] = {64u, 64u, 32u, 64u, 32u, 64u, 64u};
     for (uint32 i = 0u; i < FVM_ROUTES; i++) {
-        const boolean sends = i == SPEED || i == SHORT_ONE || i == ECHO;
+        const boolean sends = i == SPEED || i == SHORT_ONE || i == ECHO || i == NONCE;
         if (FvM_Routes[i].freshnessId != ids[i] || FvM_Routes[i].bits != bits[i]
             || (FvM_Routes[i].direction == RATHONSI_SENDS) != sends)
             fail("play_secoc plays the routes of test/secoc.arxml only, not ID", FvM_Routes[i].freshnessId);

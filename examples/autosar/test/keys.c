@@ -45,6 +45,19 @@ Std_ReturnType Csm_MacGenerate(uint32 jobId, Crypto_OperationModeType mode, cons
 }
 #endif
 
+#ifdef FVM_NONCE_JOB
+Std_ReturnType Csm_RandomGenerate(uint32 jobId, uint8 *resultPtr, uint32 *resultLengthPtr)
+{
+    if (jobId != FVM_NONCE_JOB || *resultLengthPtr != RATHONSI_NONCE)
+        fail("Csm is asked wrongly, job", jobId);
+    if (below(8u) == 0u)
+        return CRYPTO_E_BUSY;
+    for (uint32 i = 0u; i < RATHONSI_NONCE; i++)
+        resultPtr[i] = (uint8)below(256u);
+    return E_OK;
+}
+#endif
+
 /* Loads the key for answers, which the Crypto driver can't reach. */
 void load_answer_key(void)
 {
