@@ -1,4 +1,4 @@
-/* Questions and answers of a receiver that fell behind or rejoins, and of a sender that was replaced: see FvM_Rathonsi.h. */
+/* Questions and answers of a receiver that fell behind or rejoins, and of a sender that was replaced. */
 #include "FvM_Rathonsi.h"
 
 #include <string.h>
@@ -81,7 +81,8 @@ static Std_ReturnType answer_mac(uint32 i, const RathonsiAnswerInput *input, uin
 #endif
 }
 
-Std_ReturnType FvM_MakeAnswer(uint16 freshnessId, uint8 direction, uint32 asker, const uint8 nonce[16], uint8 answer[24])
+Std_ReturnType FvM_MakeAnswer(uint16 freshnessId, uint8 direction, uint32 asker, const uint8 nonce[16],
+                              uint8 answer[24])
 {
     Std_ReturnType result = E_NOT_OK;
     const uint32 i = FvM_RouteOf(freshnessId, direction);
@@ -169,8 +170,8 @@ Std_ReturnType FvM_MakeQuestion(uint16 freshnessId, uint8 direction, uint32 answ
     return result;
 }
 
-/* What a call on an answer says before it looks at the answer: E_OK if all routes are open, this unit asked, and no verdict is
- * out on a candidate of the route. */
+/* What a call on an answer says before it looks at the answer: E_OK if all routes are open, this unit asked, and no
+ * verdict is out on a candidate of the route. */
 static Std_ReturnType answer_ready(uint32 i)
 {
     Std_ReturnType result = E_OK;

@@ -27,7 +27,7 @@ RathonsiRoute FvM_Route[FVM_ROUTES];
 uint64 FvM_Candidate[FVM_ROUTES];
 /* A freshness that no bound covered when it was asked for. */
 static uint64 FvM_Wanted[FVM_ROUTES];
-/* SecOC asked for a freshness of the route in this life. Before that nothing is reserved: each power-up would skip it. */
+/* SecOC asked for a freshness of the route in this life. Before that nothing is reserved: each start would skip it. */
 boolean FvM_Asked[FVM_ROUTES];
 /* How many PDUs were refused in a row, FVM_MISSES at most. */
 uint8 FvM_Missed[FVM_ROUTES];
@@ -53,7 +53,7 @@ static void stop(int32_t status)
     FvM_StopCell(status, FVM_NO_CELL);
 }
 
-/* ---- Bits: the most significant bit of a value is the highest bit of byte 0 ----------------------------------- */
+/* ---- Bits: the most significant bit of a value is the highest bit of byte 0 ------------------------------------ */
 
 static uint64 value_of(const uint8 *bytes, uint32 bits)
 {
@@ -84,7 +84,7 @@ boolean FvM_Fits(uint64 value, uint32 bits)
     return ((bits >= 64u) || ((value >> bits) == 0u)) ? 1u : 0u;
 }
 
-/* ---- Routes ------------------------------------------------------------------------------------------------------- */
+/* ---- Routes ---------------------------------------------------------------------------------------------------- */
 
 /* The route of an ID in a direction, or FVM_ROUTES. */
 uint32 FvM_RouteOf(uint16 freshnessId, uint8 direction)
@@ -152,7 +152,7 @@ static uint64 due(uint32 i)
     return freshness;
 }
 
-/* ---- The memory ----------------------------------------------------------------------------------------------------- */
+/* ---- The memory ------------------------------------------------------------------------------------------------ */
 
 /* The store has all cells: all routes are opened. */
 static void open_routes(void)
@@ -187,9 +187,9 @@ static boolean is_planned(void)
             || (FvM_Plan.writes[2].length != 0u)) ? 1u : 0u;
 }
 
-/* Mends the number of cells: a cut may leave anything of it, also one within the growth of newer software. Then it asks for
- * each cell that the production line didn't make, at each start. A cell that is there plans nothing. Says whether there is a
- * plan; if none is left, all opens. */
+/* Mends the number of cells: a cut may leave anything of it, also one within the growth of newer software. Then it asks
+ * for each cell that the production line didn't make, at each start. A cell that is there plans nothing. Says whether
+ * there is a plan; if none is left, all opens. */
 static boolean make_growth(void)
 {
     int32_t status = rathonsi_store_mend(FvM_Image, sizeof FvM_Image, &FvM_Plan);
@@ -224,8 +224,8 @@ static int32_t plan_bound(uint32 i, uint64 freshness)
     return status;
 }
 
-/* The next route that is due, and its freshness, or FVM_ROUTES. The routes take turns. One that somebody waits for comes before
- * those that are reserved ahead. */
+/* The next route that is due, and its freshness, or FVM_ROUTES. The routes take turns. One that somebody waits for
+ * comes before those that are reserved ahead. */
 static uint32 next_due(uint32 turn, uint64 *freshness)
 {
     uint32 found = FVM_ROUTES;
@@ -286,10 +286,9 @@ static void take_outcome(FvM_MemoryState memory)
     }
 }
 
-void FvM_Init(void)
+/* All routes, the plan and the image are as before the first read. */
+static void begin_anew(void)
 {
-    FVM_ENTER();
-    stop(RATHONSI_OK);
     (void)memset(&FvM_Plan, 0, sizeof FvM_Plan);
     /* Bytes that the memory doesn't read, of a block that is too short, are no erased ones: no cell is added there. */
     (void)memset(FvM_Image, 0x55, sizeof FvM_Image);
@@ -297,9 +296,22 @@ void FvM_Init(void)
     FvM_Size = sizeof FvM_Image;
     FvM_Cell = FVM_MADE;
     FvM_KeyWaits = 0u;
+}
+
+void FvM_Init(void)
+{
+    /* A job of before has the plan or the image until it ends. */
+    const boolean is_busy = FvM_Memory_IsBusy();
+    FVM_ENTER();
+    stop((is_busy != 0u) ? RATHONSI_BUSY : RATHONSI_OK);
+    if (is_busy == 0u) {
+        begin_anew();
+    }
     FVM_LEAVE();
     /* The read is begun before FvM_MainFunction asks what became of it. */
-    if (FvM_Memory_Read(FvM_Image, sizeof FvM_Image) == E_OK) {
+    if (is_busy != 0u) {
+        /* It stays stopped. */
+    } else if (FvM_Memory_Read(FvM_Image, sizeof FvM_Image) == E_OK) {
         FvM_State = FVM_READING;
     } else {
         FvM_Fault = RATHONSI_FAILED;
@@ -350,7 +362,7 @@ uint16 FvM_GetFaultCell(void)
     return FvM_FaultCell;
 }
 
-/* ---- The callouts of SecOC ------------------------------------------------------------------------------------------ */
+/* ---- The callouts of SecOC ------------------------------------------------------------------------------------- */
 
 /* What a callout answers for a status of Rathonsi. */
 Std_ReturnType FvM_AnswerOf(int32_t status)
@@ -531,7 +543,7 @@ void FvM_VerificationStatus(SecOC_VerificationStatusType status)
     }
 }
 
-/* ---- Keys, for the Crypto driver -------------------------------------------------------------------------------------- */
+/* ---- Keys, for the Crypto driver ------------------------------------------------------------------------------- */
 
 int32_t FvM_LoadKey(const RathonsiRequest *request)
 {
@@ -578,7 +590,7 @@ int32_t FvM_MakeMac(uint8 slot, const uint8 *message, uint32 length, uint8 mac[1
     return status;
 }
 
-/* ---- The production line -------------------------------------------------------------------------------------------- */
+/* ---- The production line --------------------------------------------------------------------------------------- */
 
 Std_ReturnType FvM_MakeStore(void)
 {

@@ -177,11 +177,73 @@ void replace_sender(void)
         fail("a sender stays behind its receiver, ID", FvM_Routes[SPEED].freshnessId);
 }
 
+#ifdef FVM_ANSWER_JOB
+static uint32 verified;
+
+/* SecOC asks for the freshness of the next PDU of the other unit. */
+static void begin_verifying(void)
+{
+    const uint8 truncated = (uint8)(other[verified].counter + 1u);
+    uint8 freshness[8];
+    uint32 length = 64u;
+    if (SecOC_GetRxFreshness(FvM_Routes[verified].freshnessId, &truncated, 8u, 0u, freshness, &length) != E_OK)
+        fail("no candidate, ID", FvM_Routes[verified].freshnessId);
+}
+
+/* While a job of Csm makes the MAC of an answer, all begins again, or SecOC begins to verify a PDU: the answer isn't
+ * taken. Nor is one made of a part of a MAC. */
+void within_a_job(uint32 route)
+{
+    const uint16 id = FvM_Routes[route].freshnessId;
+    const SecOC_VerificationStatusType failure = {id, SECOC_VERIFICATIONFAILURE, id};
+    uint8 answer[RATHONSI_ANSWER];
+    RathonsiQuestion question;
+    make_question(route, &question);
+    answer_of(route, &question, answer);
+    within_csm = power_up;
+    if (FvM_Rejoin(id, answer) != E_NOT_OK || within_csm != NULL)
+        fail("an answer to another life is taken, ID", id);
+    for (uint32 i = 0u; i < 2u * FvM_Routes[route].reserve && !hear_at_once(route); i++) {}
+    make_question(route, &question);
+    answer_of(route, &question, answer);
+    verified = route;
+    within_csm = begin_verifying;
+    if (FvM_Rejoin(id, answer) != E_BUSY || within_csm != NULL)
+        fail("an answer is taken while SecOC verifies, ID", id);
+    FvM_VerificationStatus(failure);
+    csm_is_short = 1u;
+    if (make_answer(route, RATHONSI_RECEIVES, OTHER, question.nonce, answer) != E_NOT_OK)
+        fail("an answer is made of a part of a MAC, ID", id);
+    csm_is_short = 0u;
+}
+#endif
+
+/* An answer was found right, and its bound isn't written yet. A new question forgets it. The counters of both units are at
+ * the bound of the unit. */
+static void ask_anew(uint32 route)
+{
+    const uint16 id = FvM_Routes[route].freshnessId;
+    uint8 answer[RATHONSI_ANSWER];
+    RathonsiQuestion question;
+    Std_ReturnType result = E_BUSY;
+    make_question(route, &question);
+    answer_of(route, &question, answer);
+    /* Csm may be busy: then the answer isn't found right yet. */
+    for (uint32 i = 0u; i < PATIENCE; i++)
+        result = FvM_Rejoin(id, answer);
+    if (result != E_BUSY)
+        fail("an answer is taken before its bound, ID", id);
+    make_question(route, &question);
+    if (take_answer(route, 1u, answer) != E_NOT_OK)
+        fail("an answer to another question is taken, ID", id);
+}
+
 /* A right answer isn't taken before there is a question, after the cycles that one lives, after the eighth wrong answer, and in
  * the next life; but it is before, and after seven wrong ones. The memory neither fails nor loses its power. */
 void questions_end(uint32 route)
 {
     enum { NONE, OLD, ALMOST_OLD, WRONG_EIGHT, WRONG_SEVEN, RESET };
+    ask_anew(route);
     for (uint32 way = NONE; way <= RESET; way++) {
         uint8 answer[RATHONSI_ANSWER], forged[RATHONSI_ANSWER];
         RathonsiQuestion question = {.asker = FVM_NAME, .answerer = OTHER};

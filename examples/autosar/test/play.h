@@ -24,10 +24,15 @@ extern RathonsiPlan other_plan;
 void other_done(void);
 void other_power_up(void);
 
-/* keys.c: the key of the PDUs. A new key for answers, and one for the slot of a key ID, whose proof is compared. */
+/* keys.c: the key of the PDUs. A new key for answers, and one for the slot of a key ID, whose proof is compared. What the
+ * next job of Csm that makes a MAC does, and whether it tells a part of it alone. */
 extern uint8 key[16];
 void load_answer_key(void);
 void load_key(uint32 keyId, uint32 counter);
+#ifdef FVM_ANSWER_JOB
+extern void (*within_csm)(void);
+extern boolean csm_is_short;
+#endif
 
 /* The last freshness of a route that its bits can tell. */
 uint64 last_of(uint32 route);
@@ -56,6 +61,9 @@ void ask(uint32 route, boolean rejoins);
 void answer_other(uint32 route);
 void replace_sender(void);
 void questions_end(uint32 route);
+#ifdef FVM_ANSWER_JOB
+void within_a_job(uint32 route);
+#endif
 void no_answers_without_key(void);
 uint64 questions_asked(void);
 uint64 answers_taken(void);

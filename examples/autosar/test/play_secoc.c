@@ -24,7 +24,7 @@
 enum { PAYLOAD = 8, KEPT = 64, BUILD_ATTEMPTS = 8, A_UNIT = 2000, CHANCES = 3 };
 
 const uint8 FvM_Uid[15] = {0u, 0u, 0u, 0u, 0u, 0u, 0u, 0u, 0u, 0u, 0u, 0u, 0u, 0u, 1u};
-const uint8 FvM_SlotOfKey[FVM_KEYS] = {4u, 5u};
+const uint8 FvM_SlotOfKey[FVM_KEYS] = {4u, 5u, FVM_ANSWER_SLOT};
 
 /* ---- Numbers at random, always the same ones ---------------------------------------------------------------------- */
 
@@ -652,6 +652,10 @@ static void new_pair(void)
         questions_end(BRAKE);
     load_key(0u, 1u);
     load_key(0u, 2u);
+#ifdef FVM_ANSWER_JOB
+    if (units % 10u == 4u)
+        within_a_job(BRAKE);
+#endif
     if (units % 10u == 0u)
         send_calmly();
     if (units % 10u == 1u && !is_near_end)
