@@ -204,7 +204,7 @@
  *   - A reset loop: each start without BLANK is an erase and n + 1 PROGRAMs, also if nothing was put
  *     since the last one. 1,000 starts are 1,000 erases, which the banks share. Two banks of 10^4
  *     cycles are worn out in 33 minutes at ten starts a second. Of 10^5 cycles they last 5.6 hours.
- *   - RAM: RathonsiFlash 216 bytes, an operation 144, cells and scratch 64 * n, the image
+ *   - RAM: RathonsiFlash 224 bytes, an operation 144, cells and scratch 64 * n, the image
  *     32 + 68 * n.
  *
  *   At most, with 16 cells, 15 years, 10 starts and 200 puts a day, units of 8, if no copy is lost. If
@@ -269,7 +269,7 @@ typedef struct RathonsiFlashOperation {
 
 /* The state of the store. It isn't for the caller, and has no meaning on another processor. */
 typedef struct RathonsiFlash {
-    uint64_t state[27];
+    uint64_t state[28];
 } RathonsiFlash;
 
 /* Begins at power-up, over so many banks of bank_size bytes. Its operations read the flash, and make
@@ -304,7 +304,8 @@ int32_t rathonsi_flash_take(RathonsiFlash *flash, uint16_t unit, uint8_t banks, 
 
 /* Says which operation comes next; the same until its outcome is reported. kind is
  * RATHONSI_FLASH_NONE if the store is ready, or is made.
- * RATHONSI_BAD_VALUE: the numbers of the struct are no plan of a store of so many cells.
+ * RATHONSI_BAD_VALUE: the numbers of the struct are no plan of a store of so many cells: they were
+ * begun with another number, say.
  * RATHONSI_NO_STORE: no bank holds a store of so many cells.
  * RATHONSI_EXHAUSTED: the generation of the store is 2^64 - 1, so that it can't be copied again.
  * RATHONSI_FAILED: an operation failed. A put that was under way may be there after the next start, or

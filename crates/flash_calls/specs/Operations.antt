@@ -21,11 +21,12 @@ use Rattle.flash_calls.specs.Numbers.{plan_in}
 abbrev pub IsProgramUnit : ℕ → Type 0
 IsProgramUnit unit = (size : UnitSize) × (unit_bytes size ≡ unit)
 
--- these numbers are a plan of a store of n cells, over banks that a number of 32 bits counts the bytes of
+-- these numbers are a plan of a store of n cells, and say so, over banks that a number of 32 bits counts the bytes of
 pub record IsCallOf (n : ℕ) (flash : FlashNumbers) : Type 0 where
   pub unit : IsProgramUnit flash.unit
   pub plan : IsPlanOf n (plan_in flash)
   pub small : flash.places * line_length flash.unit < 2 ^ 32
+  pub cells_is : flash.cells ≡ n
 
 -- a flash of so many banks of so many bytes has room for a store of n cells
 pub record FitsPart (unit banks bank_size n : ℕ) : Type 0 where

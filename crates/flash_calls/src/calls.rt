@@ -44,6 +44,9 @@ fn call_size(flash: &FlashNumbers, cells: usize) -> Option<usize>
         (λ size. IsLineSize flash.now.unit size × IsCallOf cells flash.now) }
 {
     let size = size_of(flash.unit)?;
+    if flash.cells != cells as u64 {
+        return None;
+    }
     if flash.places as u64 * size as u64 >= 4_294_967_296 {
         return None;
     }
@@ -95,7 +98,7 @@ pub fn begin(
     let Some(places) = places_of(unit, banks, bank_size, cells) else {
         return Err(FlashRefusal::BadValue);
     };
-    *flash = numbers_of(&FlashPlan::start(banks, places), unit);
+    *flash = numbers_of(&FlashPlan::start(banks, places), unit, cells as u64);
     Ok(())
 }
 
@@ -114,7 +117,7 @@ pub fn take(
     let Some(places) = places_of(unit, banks, bank_size, cells) else {
         return Err(FlashRefusal::BadValue);
     };
-    *flash = numbers_of(&FlashPlan::format(banks, places), unit);
+    *flash = numbers_of(&FlashPlan::format(banks, places), unit, cells as u64);
     Ok(())
 }
 
@@ -179,7 +182,7 @@ pub fn did(
         scratch,
         outcome_of(&operation, outcome, &bytes[..size]),
     );
-    *flash = numbers_of(&plan, flash.unit);
+    *flash = numbers_of(&plan, flash.unit, flash.cells);
     Ok(())
 }
 
@@ -203,7 +206,7 @@ pub fn put(
     let mut plan = plan_of(flash);
     match plan.put(cells, cell, payload) {
         Ok(()) => {
-            *flash = numbers_of(&plan, flash.unit);
+            *flash = numbers_of(&plan, flash.unit, flash.cells);
             Ok(())
         }
         Err(PlanPutFault::NotIdle) => Err(FlashRefusal::Busy),

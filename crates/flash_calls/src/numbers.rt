@@ -52,6 +52,8 @@ pub struct FlashNumbers {
     pub unit: u16,
     pub banks: u8,
     pub unused: u8,
+    /// How many cells the store has.
+    pub cells: u64,
 }
 
 fn step_of(n: &StepNumbers) -> PlanStep
@@ -276,10 +278,11 @@ pub fn plan_of(n: &FlashNumbers) -> FlashPlan
     }
 }
 
-/// A plan as numbers, for a part of this unit.
-pub fn numbers_of(plan: &FlashPlan, unit: u16) -> FlashNumbers
+/// A plan as numbers, for a part of this unit and a store of so many cells.
+pub fn numbers_of(plan: &FlashPlan, unit: u16, cells: u64) -> FlashNumbers
     ensures plan { plan_in result ≡ plan.now }
     ensures unit { result.unit ≡ unit }
+    ensures cells { result.cells ≡ cells }
 {
     let latest = plan.latest;
     FlashNumbers {
@@ -291,5 +294,6 @@ pub fn numbers_of(plan: &FlashPlan, unit: u16) -> FlashNumbers
         unit,
         banks: plan.banks,
         unused: 0,
+        cells,
     }
 }

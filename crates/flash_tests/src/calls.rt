@@ -122,7 +122,7 @@ const PARTS: [(u16, u8, u32, usize, bool); 16] = [
 
 /// Numbers of some plan.
 fn some_numbers() -> FlashNumbers {
-    numbers_of(&FlashPlan::start(2, 20), 8)
+    numbers_of(&FlashPlan::start(2, 20), 8, CELLS as u64)
 }
 
 /// A line that was erased.
@@ -265,6 +265,15 @@ fn reported_with_other_scratch() -> Result<(), FlashRefusal> {
     did(&mut flash, &mut cells, &mut scratch, 2, &[0; 128])
 }
 
+/// What an outcome that is reported with one cell less than the store was begun with is answered.
+fn reported_with_fewer_cells() -> Result<(), FlashRefusal> {
+    let mut flash = some_numbers();
+    let mut cells = [[0; 32]; 13];
+    let mut scratch = [[0; 32]; 13];
+    begin(&mut flash, 8, 2, 864, CELLS)?;
+    did(&mut flash, &mut cells, &mut scratch, 2, &[0; 128])
+}
+
 #[test]
 fn a_part_that_no_store_fits_is_refused(rt: HostRuntime) -> Result<(), Fail> {
     for (unit, banks, bank_size, cells, fits) in PARTS {
@@ -310,5 +319,11 @@ fn bytes_that_are_no_lines_are_no_store(rt: HostRuntime) -> Result<(), Fail> {
 #[test]
 fn scratch_of_another_length_is_refused(rt: HostRuntime) -> Result<(), Fail> {
     assert_eq!(rt; reported_with_other_scratch(), Err(FlashRefusal::BadLength));
+    Ok(())
+}
+
+#[test]
+fn another_number_of_cells_is_refused(rt: HostRuntime) -> Result<(), Fail> {
+    assert_eq!(rt; reported_with_fewer_cells(), Err(FlashRefusal::BadValue));
     Ok(())
 }

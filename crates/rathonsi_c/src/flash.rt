@@ -89,7 +89,8 @@ pub extern "C" fn rathonsi_flash_take(
     OK
 }
 
-/// Says which operation comes next. `BAD_VALUE`: the struct is none that these calls leave for so many cells.
+/// Says which operation comes next. `BAD_VALUE`: the struct is none that these calls leave for so many cells, as one
+/// that was begun with another number.
 /// `NO_STORE`, `EXHAUSTED`, `FAILED`: the plan has ended so.
 #[unsafe(no_mangle)]
 pub extern "C" fn rathonsi_flash_next(

@@ -28,7 +28,7 @@ returns-in-Ok-clause-answer c =
           let at : IsIdle c.plan_of-plan.result × IsFullAt c.plan_of-plan.result.places c.plan_of-plan.result.step =
           subst (λ (p : FlashPlan). IsIdle p × IsFullAt p.places p.step) (sym was) (idle, full) in
           let e : c.put.result ≡ Err put_exhausted = c.put.ensures.exhausted.1 at in absurd (cc);
-      call = still_call n old new now c.in-Some.ensures.1 is c.numbers_of.ensures.unit c.put.ensures.plan sizes;
+      call = still_call n old new now c.in-Some.ensures.1 is c.numbers_of.ensures.unit c.numbers_of.ensures.cells c.put.ensures.plan sizes;
       unit_is = c.numbers_of.ensures.unit;
       banks_is = ap (λ (p : FlashPlan). p.banks) is ∙ sizes.banks;
       places_is = ap (λ (p : FlashPlan). p.places) is ∙ sizes.places;
