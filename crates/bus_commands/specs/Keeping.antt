@@ -101,8 +101,8 @@ pub record TellsKeptNode (same : Type 0) (i : BusInputs) (d : DiskStates) (e : E
   pub disks_refused : e.status ≡ 9 → OverReplayOf Attach i (λ bus events. ((fault : StartFault)
       × FindsRoom bus d.before fault × (d.after ≡ d.before) × PrintsWhole e (start_row fault).text) × same)
   pub disks_refused_only : (bus : NamedBus) → OffersBus i.config bus → ¬ HasRoom bus d.before → MayEndIn 9 e
-  -- 10, both ways: the disk failed, or its bytes are refused. Another store is named. At a look that is refused nothing
-  -- was written; else the disk is left as an unfinished start leaves it.
+  -- 10, both ways: the disk failed, or its bytes are refused. Another store is named, and so is a cell that isn't the
+  -- node's. If the disk didn't fail, no byte of a disk in use changed (`RefusedStartsWriteNothing` of kept_starts).
   pub store_refused : e.status ≡ 10
       → OverReplayOf Attach i (λ bus events. RefusesStart bus d (λ text. PrintsWhole e text))
   pub store_refused_only : (bus : NamedBus) → OffersBus i.config bus → HasRoom bus d.before

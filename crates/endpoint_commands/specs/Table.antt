@@ -173,7 +173,8 @@ pub record TellsEndpointDisk (same : Type 0) (i : EndpointInputs) (d : DiskState
   pub disks_refused_only : (bus : NamedBus) (rules : List FrameRule) (image : Option (List ℕ))
       → OffersEndpoint i bus rules image → ¬ HasRoom bus d.before → MayEndIn 9 (on_errors e)
   -- 10, both ways: the disk failed, and wasn't quiet; or it didn't fail, and its bytes are refused. Another store is
-  -- named. At a look that is refused nothing was written; else it is left as an unfinished start leaves it.
+  -- named, and so is a cell that isn't the node's. If the disk didn't fail, no byte of a disk in use changed
+  -- (`RefusedStartsWriteNothing` of kept_starts).
   pub store_refused : e.status ≡ 10 → IsUnread i.log
       × OverEndpoint i (λ bus rules image. RefusesStart bus d (λ text. TellsText e text))
   pub store_refused_only : (bus : NamedBus) (rules : List FrameRule) (image : Option (List ℕ))

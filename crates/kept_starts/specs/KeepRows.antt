@@ -25,22 +25,10 @@ keep_row (keep.BadBound cell) = start_row (fault.BadBound 1 cell)
 keep_row keep.DiskFailed = start_row (fault.Store 1 reread.DiskFailed)
 keep_row keep.Memory = memory_row
 
--- its text names a store, or a place of one, and is made when it is printed
-abbrev pub NamesStore : KeepFault → Type 0
-NamesStore (keep.OtherStore there) = Unit {0}
-NamesStore (keep.Damaged place) = Unit {0}
-NamesStore (keep.BadSlot slot) = Unit {0}
-NamesStore (keep.BadBound cell) = Unit {0}
-NamesStore fault = ⊥
-
--- that row; or out of memory, if its text is made
-abbrev pub IsKeepRow : KeepFault → Row → Type 0
-IsKeepRow fault row = (row ≡ keep_row fault) ⊎ (NamesStore fault × (row ≡ memory_row))
-
 -- The row of a start that doesn't go on: of the look at the disk; or of the start after it, over the disk as it was
 -- then. If it is that of 9 every disk is as before, and `same` says so of the disks themselves.
 pub data ComesKept (same : Type 0) (bus : NamedBus) (d : DiskStates) (row : Row) : Type 0 where
-  of_look : (fault : KeepFault) → NotKept bus d.before d.after fault → IsKeepRow fault row → ComesKept same bus d row
+  of_look : (fault : KeepFault) → NotKept bus d.before d.after fault → row ≡ keep_row fault → ComesKept same bus d row
   of_start : (seen : List DiskState) → LookedAt bus d.before seen
       → ComesUnstarted same Attach bus (record { before = seen; after = d.after }) row → ComesKept same bus d row
 
@@ -50,9 +38,10 @@ abbrev pub BusKeepsDisk : NamedBus → DiskStates → Type 0
 BusKeepsDisk bus d = BusHasDisks Attach bus d × ((disk : DiskState) → KeepsTold bus (get_or d.before 0 disk))
 
 -- Why a start of the bus refuses what stands on its disk, in a row of 10, and this of the text that tells it. There is
--- room for the store. At the look: another store's header stands, or none does and a byte isn't zero, or the disk
--- failed; it was only read. Or at the start after the look: the disk failed, or its bytes are refused, and it is left as
--- an unfinished start leaves it.
+-- room for the store. At the look: another store's header stands, or none does and a byte isn't zero, or a store in
+-- version 1 that would be moved is damaged or a cell of it isn't the node's, or the disk failed; it was only read. Or at
+-- the start after the look: the disk failed, or its bytes are refused. If the disk didn't fail, no byte of a disk that
+-- was in use changed (`RefusedStartsWriteNothing`).
 pub data RefusesStart (bus : NamedBus) (d : DiskStates) (Tells : List ℕ → Type 0) : Type 0 where
   at_look : (fault : KeepFault) → NotKept bus d.before d.after fault → (keep_row fault).status ≡ 10
       → Tells (keep_row fault).text → RefusesStart bus d Tells

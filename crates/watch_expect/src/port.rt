@@ -21,8 +21,7 @@ impl<'a> LineTaker for ExpectPort<'a> {
 
     ghost state = { λ port. record { watch = port.watch.now; text = port.text.now; at = port.at } };
 
-    ghost ready = { λ port bytes feeds. (length port.watch.now.text + 12 * bytes + 368 * feeds ≤ 1606012)
-        × (port.at ≤ length port.text.now) };
+    ghost ready = { λ port bytes feeds. length port.watch.now.text + 12 * bytes + 368 * feeds ≤ 1606012 };
 
     ghost borrows = { λ port. port.watch.ghost_name ∷ [] };
 

@@ -23,19 +23,18 @@ fn count_same(text: &[u8], other: &[u8]) -> usize
 /// Follows a text behind its first bytes by what is found: how many first bytes are the same then, or behind how many
 /// the texts part.
 pub fn follow(text: &[u8], at: usize, found: &[u8]) -> Result<usize, usize>
-    requires { at ≤ length text.now }
     ensures { FollowsKept text.now at found.now result }
 {
-    let count = count_same(&text[at..], found);
+    let first = at.min(text.len());
+    let count = count_same(&text[first..], found);
     if count < found.len() {
-        return Err(at + count);
+        return Err(first + count);
     }
-    Ok(at + count)
+    Ok(first + count)
 }
 
 /// The same if nothing is found behind it: where the texts part, if they do.
 pub fn follow_to_end(text: &[u8], at: usize, found: &[u8]) -> Option<usize>
-    requires { at ≤ length text.now }
     ensures { EndsAsKept text.now at found.now result }
 {
     match follow(text, at, found) {
