@@ -75,9 +75,9 @@ but_at : (bank at : ℕ) (f g : Flash) (generation : ℕ) → SameButAt bank at 
     → HadHead generation (f x 0) (g x 0)
 but_at bank at f g generation same here x = elim (cases_eq x bank) [
   | inl is ↦ subst (λ z. HadHead generation (f z 0) (g z 0)) (sym is) (elim (cases_eq 0 at) [
-      | inl first ↦ subst (λ k. HadHead generation (f bank k) (g bank k)) (sym first) here
-      | inr later ↦ same_place (f bank 0) (g bank 0) generation (same.rest 0 later)
-    ])
+    | inl first ↦ subst (λ k. HadHead generation (f bank k) (g bank k)) (sym first) here
+    | inr later ↦ same_place (f bank 0) (g bank 0) generation (same.rest 0 later)
+  ])
   | inr other ↦ same_place (f x 0) (g x 0) generation (same.others x other 0)
 ]
 
@@ -101,9 +101,9 @@ erase_stays bank f g erases x generation = elim (cases_eq x bank) [
 cut_stays : (bank : ℕ) (f g : Flash) → CutsErase bank f g → (x generation : ℕ) → HadHead generation (f x 0) (g x 0)
 cut_stays bank f g cuts x generation = elim (cases_eq x bank) [
   | inl is ↦ subst (λ z. HadHead generation (f z 0) (g z 0)) (sym is) (elim (cuts.left 0) [
-      | inl same ↦ λ now. sym same ∙ now
-      | inr none ↦ λ now. absurd (none-some (Head generation) (sym none ∙ now))
-    ])
+    | inl same ↦ λ now. sym same ∙ now
+    | inr none ↦ λ now. absurd (none-some (Head generation) (sym none ∙ now))
+  ])
   | inr other ↦ same_place (f x 0) (g x 0) generation (cuts.others x other 0)
 ]
 
@@ -116,14 +116,14 @@ programs_from : (told : FlashSizes) (bank place : ℕ) (line : FlashLine) (heads
     → HeadsFrom told (Program bank place line) heads f g
 programs_from told bank place line heads f g same x generation now = elim (cases_Bool (nat_eq place 0)) [
   | inl zero ↦ elim (cases_Bool (nat_eq bank x)) [
-      | inl here ↦ inr (ap (λ (b : Bool). if b then (if nat_eq bank x then told else heads x) else heads x) zero
-          ∙ ap (λ (b : Bool). if b then told else heads x) here)
-      | inr there ↦ inl (
-        same_place (f x 0) (g x 0) generation (same.others x (λ e. eqb-false bank x there (sym e)) 0) now,
-        ap (λ (b : Bool). if b then (if nat_eq bank x then told else heads x) else heads x) zero
-        ∙ ap (λ (b : Bool). if b then told else heads x) there,
-      )
-    ]
+    | inl here ↦ inr (ap (λ (b : Bool). if b then (if nat_eq bank x then told else heads x) else heads x) zero
+        ∙ ap (λ (b : Bool). if b then told else heads x) here)
+    | inr there ↦ inl (
+      same_place (f x 0) (g x 0) generation (same.others x (λ e. eqb-false bank x there (sym e)) 0) now,
+      ap (λ (b : Bool). if b then (if nat_eq bank x then told else heads x) else heads x) zero
+          ∙ ap (λ (b : Bool). if b then told else heads x) there,
+    )
+  ]
   | inr later ↦ inl (
     elim (cases_eq x bank) [
       | inl is ↦ subst (λ z. HadHead generation (f z 0) (g z 0)) (sym is)

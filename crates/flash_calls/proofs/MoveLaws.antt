@@ -117,9 +117,14 @@ pub moves_other : (l : FlashLayout) (put : Option WaitingPut) (next : Option Ope
     → IfSome next (λ it. P it → (came : FlashOutcome) × (Comes it outcome came × PlanMovesOn l put came new cells scratch at g))
 moves_other l put None P outcome now new cells scratch at g none is steps = tt
 moves_other l put (Some it) P outcome now new cells scratch at g none is steps = λ p.
-    let m = steps p in
-    (m.0, (m.1.0, subst (λ (q : FlashPlan). PlanMovesOn l put m.0 q cells scratch at g) (sym is)
-    (other_moves l put m.0 now cells scratch at g none m.1.1)))
+    let m = steps p in (
+      m.0,
+      (
+        m.1.0,
+        subst (λ (q : FlashPlan). PlanMovesOn l put m.0 q cells scratch at g) (sym is)
+            (other_moves l put m.0 now cells scratch at g none m.1.1),
+      ),
+    )
 
 -- what holds of the operation that comes next
 pub some_if : (P : Operation → Type 0) (next : Option Operation) (it : Operation) → next ≡ Some it → P it → IfSome next P

@@ -10,9 +10,7 @@ ghost use Rattle.flash_calls.specs.Calls.{FlashNextRefused, FlashDidRefused, Fla
 ghost use Rattle.flash_calls.specs.declared.calls.FlashRefusal.TheVariants.{BadValue};
 
 use crate::numbers::{FlashNumbers, head_sizes, numbers_of, plan_of, sizes_of};
-use crate::operations::{
-    FlashOperation, is_other, is_untold, outcome_of, say_operation, told_by,
-};
+use crate::operations::{FlashOperation, is_other, is_untold, outcome_of, say_operation, told_by};
 use flash_lines::{FlashSizes, UnitSize};
 use flash_plan::{FlashPlan, PlanEnd, PlanPutFault, PlanStep};
 

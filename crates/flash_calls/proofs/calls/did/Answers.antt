@@ -56,8 +56,8 @@ returns-clause-answer c =
                 (subst (λ k. TakesHead c.args.outcome (take k c.args.bytes.now) old c.in-Some-next.operation new) c.in-Some.ensures.0.is (record {
                   other = (
                     (λ ended. absurd (next_not_ended (plan_in old).banks (plan_in old).put c.args.cells.now c.in-Some-next.operation OtherSizes (plan_in old).step next
-                    (subst (λ (p : FlashPlan). now.step ≡ Ended OtherSizes → p.step ≡ Ended OtherSizes) was c.did.ensures.other
-                    (sym (ap (λ (p : FlashPlan). p.step) is) ∙ ended)))),
+                        (subst (λ (p : FlashPlan). now.step ≡ Ended OtherSizes → p.step ≡ Ended OtherSizes) was c.did.ensures.other
+                        (sym (ap (λ (p : FlashPlan). p.step) is) ∙ ended)))),
                     (λ r. absurd (went.0 (others.1 r))),
                   );
                   noted = noted.0;
