@@ -156,9 +156,12 @@ does_from told (Read bank place) heads Failed f g does x generation now = inl (s
 does_from told (Erase bank) heads (Answered answer) f g does x generation now = inl (cut_stays bank f g does x generation now, refl)
 does_from told (Erase bank) heads Done f g does x generation now = inl (erase_stays bank f g does x generation now, refl)
 does_from told (Erase bank) heads Failed f g does x generation now = inl (cut_stays bank f g does x generation now, refl)
-does_from told (Program bank place line) heads (Answered answer) f g does = programs_from told bank place line heads f g does.same
-does_from told (Program bank place line) heads Done f g does = programs_from told bank place line heads f g does.same
-does_from told (Program bank place line) heads Failed f g does = programs_from told bank place line heads f g does.same
+does_from told (Program bank place line) heads (Answered answer) f g does x generation now =
+    programs_from told bank place line heads f g does.same x generation now
+does_from told (Program bank place line) heads Done f g does x generation now =
+    programs_from told bank place line heads f g does.same x generation now
+does_from told (Program bank place line) heads Failed f g does x generation now =
+    programs_from told bank place line heads f g does.same x generation now
 
 -- ---- what each head tells
 
@@ -505,7 +508,7 @@ step_makes s cells put outcome bytes a b (Erasing bank generation) h d at f made
 step_makes s cells put outcome bytes a b (Copying bank generation done) h d at f made = absurd f
 step_makes s cells put outcome bytes a b (Ready bank generation next) h d at f made = absurd f
 step_makes s cells put outcome bytes a b (Clearing bank) h d at f made = absurd (d.reported.cleared bank at made)
-step_makes s cells put outcome bytes a b (Filling done) h d at f made x generation inside now =
+step_makes s cells put outcome bytes a b (Filling done) h d at f made = λ x generation inside now.
     elim (bytes_from (head_sizes a.numbers) d.comes.operation a.heads outcome (take (line_length a.numbers.unit) bytes) a.flash b.flash d.performed.does x generation now) [
       | inl had ↦ absurd (no_heads s done a h.sizes f x generation inside had.0)
       | inr new ↦ d.heads x ∙ new ∙ head_is_own s a.numbers h.sizes h.noted
