@@ -7,15 +7,16 @@ use Rattle.flash_laws.specs.Logs.{CellList}
 use Rattle.flash_laws.specs.Lives.{FlashMachine, off}
 use Rattle.flash_log.specs.Going.{machine}
 use Rattle.flash_lines.specs.Lines.{line_length}
+use Rattle.flash_lines.proofs.CallerLemmas.{same_sizes}
 use Rattle.flash_plan.specs.declared.plans.WaitingPut.{WaitingPut}
 use Rattle.flash_plan.specs.declared.plans.PlanStep.{PlanStep}
 use Rattle.flash_plan.specs.declared.plans.PlanStep.TheVariants.{Heading, Copied, Puts, Free, Erasing, Copying, Ready, Clearing, Filling, Ended}
 use Rattle.flash_plan.specs.declared.plans.FlashPlan.{FlashPlan}
-use Rattle.flash_plan.specs.Plans.{IsPlanOf, IsIdle, IsIdleStep, SameSizes, operations_left}
+use Rattle.flash_plan.specs.Plans.{IsPlanOf, IsIdle, IsIdleStep, SameSizes, FindsNothing, operations_left}
 use Rattle.flash_plan.specs.Formatting.{FormatsAt}
 use Rattle.flash_plan.specs.Standing.{plan_layout, StandsAt}
 use Rattle.flash_calls.specs.declared.numbers.FlashNumbers.{FlashNumbers}
-use Rattle.flash_calls.specs.Numbers.{plan_in}
+use Rattle.flash_calls.specs.Numbers.{plan_in, sizes_in}
 use Rattle.flash_calls.specs.Operations.{IsProgramUnit, IsCallOf, FitsPart}
 use Rattle.flash_calls.specs.Calls.{Begun, FormatBegun}
 
@@ -55,19 +56,22 @@ call_of_part unit banks bank_size places n new plan fits small rounded is unit_i
     }
 
 pub has_begun : (unit banks bank_size places n : ℕ) (new : FlashNumbers) (plan : FlashPlan) → FitsPart unit banks bank_size n
-    → bank_size < 2 ^ 32 → places ≡ bank_size / line_length unit → plan_in new ≡ plan → new.unit ≡ unit → new.cells ≡ n → plan.banks ≡ banks
-    → plan.places ≡ places
+    → bank_size < 2 ^ 32 → places ≡ bank_size / line_length unit → plan_in new ≡ plan → new.unit ≡ unit → new.bank_size ≡ bank_size → new.cells ≡ n → new.is_untold ≡ 0
+    → plan.banks ≡ banks → plan.places ≡ places
     → ((m : ℕ) → 0 < m → m < 2 ^ 16 → m + 1 < places → IsPlanOf m plan)
     → ((m : ℕ) → operations_left m plan ≤ banks * places + (m + 2))
-    → plan.put ≡ None → plan.step ≡ Heading 0
+    → plan.put ≡ None → plan.step ≡ Heading 0 → FindsNothing plan
     → ((m : ℕ) (cells scratch : CellList) (f : Flash) → StandsAt (plan_layout plan m) plan cells scratch (machine f off) f)
     → Begun unit banks bank_size n new
-has_begun unit banks bank_size places n new plan fits small rounded is unit_is cells_is banks_is places_is whole left none first stands = record {
+has_begun unit banks bank_size places n new plan fits small rounded is unit_is size_is cells_is tells banks_is places_is whole left none first nothing stands = record {
   fits = fits;
   unit_is = unit_is;
   banks_is = ap (λ (p : FlashPlan). p.banks) is ∙ banks_is;
   places_is = ap (λ (p : FlashPlan). p.places) is ∙ places_is ∙ rounded;
   call = call_of_part unit banks bank_size places n new plan fits small rounded is unit_is cells_is places_is whole;
+  sizes_are = same_sizes (sizes_in new) _ unit_is (ap (λ (p : FlashPlan). p.banks) is ∙ banks_is) size_is cells_is;
+  tells = tells;
+  nothing = subst FindsNothing (sym is) nothing;
   left = subst (λ k. operations_left n (plan_in new) ≤ banks * k + (n + 2)) (sym (ap (λ (p : FlashPlan). p.places) is ∙ places_is))
       (subst (λ (p : FlashPlan). operations_left n p ≤ banks * places + (n + 2)) (sym is) (left n));
   none = ap (λ (p : FlashPlan). p.put) is ∙ none;
@@ -76,17 +80,19 @@ has_begun unit banks bank_size places n new plan fits small rounded is unit_is c
 }
 
 pub has_format_begun : (unit banks bank_size places n : ℕ) (new : FlashNumbers) (plan : FlashPlan) → FitsPart unit banks bank_size n
-    → bank_size < 2 ^ 32 → places ≡ bank_size / line_length unit → plan_in new ≡ plan → new.unit ≡ unit → new.cells ≡ n → plan.banks ≡ banks
-    → plan.places ≡ places
+    → bank_size < 2 ^ 32 → places ≡ bank_size / line_length unit → plan_in new ≡ plan → new.unit ≡ unit → new.bank_size ≡ bank_size → new.cells ≡ n → new.is_untold ≡ 0
+    → plan.banks ≡ banks → plan.places ≡ places
     → ((m : ℕ) → 0 < m → m < 2 ^ 16 → m + 1 < places → IsPlanOf m plan)
     → ((cells : CellList) (f : Flash) → FormatsAt plan cells f) → plan.step ≡ Clearing (banks - 1)
     → FormatBegun unit banks bank_size n new
-has_format_begun unit banks bank_size places n new plan fits small rounded is unit_is cells_is banks_is places_is whole formats first = record {
+has_format_begun unit banks bank_size places n new plan fits small rounded is unit_is size_is cells_is tells banks_is places_is whole formats first = record {
   fits = fits;
   unit_is = unit_is;
   banks_is = ap (λ (p : FlashPlan). p.banks) is ∙ banks_is;
   places_is = ap (λ (p : FlashPlan). p.places) is ∙ places_is ∙ rounded;
   call = call_of_part unit banks bank_size places n new plan fits small rounded is unit_is cells_is places_is whole;
+  sizes_are = same_sizes (sizes_in new) _ unit_is (ap (λ (p : FlashPlan). p.banks) is ∙ banks_is) size_is cells_is;
+  tells = tells;
   first = ap (λ (p : FlashPlan). p.step) is ∙ first;
   formats = λ cells f. subst (λ (p : FlashPlan). FormatsAt p cells f) (sym is) (formats cells f);
 }

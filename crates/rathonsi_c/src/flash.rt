@@ -90,8 +90,8 @@ pub extern "C" fn rathonsi_flash_take(
 }
 
 /// Says which operation comes next. `BAD_VALUE`: the struct is none that these calls leave for so many cells, as one
-/// that was begun with another number.
-/// `NO_STORE`, `EXHAUSTED`, `FAILED`: the plan has ended so.
+/// that was begun with another number. `NO_STORE`: no store of so many cells was found, or the head of a bank tells
+/// another unit, number or size of banks, or number of cells. `EXHAUSTED`, `FAILED`: the plan has ended so.
 #[unsafe(no_mangle)]
 pub extern "C" fn rathonsi_flash_next(
     flash: &FlashNumbers,
