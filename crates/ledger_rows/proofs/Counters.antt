@@ -1,5 +1,5 @@
 -- The greatest counter of a unit and slot, and a row that is added
-use Rattle.std.proofs.Common.{◌≡◌, ◌∙◌, ℕ, ◌≤◌, Bool, true, false, cond, Option, None, Some, List, [], ◌∷◌, length, map, filter, All, Any, refl, ap, arith}
+use Rattle.std.proofs.Common.{◌≡◌, ◌∙◌, ℕ, ◌<◌, ◌≤◌, Bool, true, false, cond, Option, None, Some, List, [], ◌∷◌, length, map, filter, All, Any, refl, ap, subst, arith}
 use Rattle.std.specs.List.{AllByRecursion}
 use Rattle.std.specs.List.Sorted.{IsPermutation}
 use Rattle.std.proofs.Math.Nat.{le_refl, le-max_left, le-max_right, max-le}
@@ -10,8 +10,12 @@ use Rattle.key_campaign.specs.declared.lines.LedgerRefusal.{LedgerRefusal}
 use Rattle.key_campaign.specs.declared.lines.LedgerRefusal.TheVariants as refusal
 use Rattle.ledger_rows.specs.declared.kinds.RowKind.TheVariants.{Issued, Confirmed}
 use Rattle.ledger_rows.specs.declared.kinds.SlotRow.{SlotRow}
+use Rattle.ledger_rows.specs.declared.remarks.RemarkKind.{RemarkKind}
+use Rattle.ledger_rows.specs.declared.remarks.RemarkKind.TheVariants.{Raise, Fail}
+use Rattle.ledger_rows.specs.declared.remarks.RemarkRefusal.{RemarkRefusal}
+use Rattle.ledger_rows.specs.declared.remarks.RemarkRefusal.TheVariants as unsaid
 use Rattle.ledger_rows.specs.Rows.{LedgerRow, is_row_of, slot_row, greatest_in, last_counter}
-use Rattle.ledger_rows.specs.Steps.{AddsRow, AnswersRow, HasConfirmed, RefusesAnswer, IsShown}
+use Rattle.ledger_rows.specs.Steps.{AddsRow, AnswersRow, HasConfirmed, RefusesAnswer, HasIssued, MayRemark, RefusesRemark, IsShown}
 
 -- the greatest counter of the rows, with one before them if b holds
 abbrev greatest_if : Bool → LedgerRow → List LedgerRow → ℕ
@@ -103,6 +107,24 @@ refuses_permuted k xs ys same refusal.MemoryFailure h = absurd h
 refuses_permuted k xs ys same refusal.NotFormatted h = absurd h
 refuses_permuted k xs ys same (refusal.Damaged cell) h = absurd h
 refuses_permuted k xs ys same (refusal.BadEntry cell) h = absurd h
+
+-- ---- what an operator says
+
+issued_permuted : (counter : ℕ) (xs ys : List SlotRow) → IsPermutation xs ys → HasIssued counter xs → HasIssued counter ys
+issued_permuted counter xs ys same h = any_permuted (λ (row : SlotRow). (row.kind ≡ Issued) × (row.counter ≡ counter)) xs ys same h
+
+pub remark_permuted : (kind : RemarkKind) (counter : ℕ) (xs ys : List SlotRow) → IsPermutation xs ys → MayRemark kind counter xs → MayRemark kind counter ys
+remark_permuted Raise counter xs ys same h = subst (λ n. n < counter) (greatest_permuted xs ys same) h
+remark_permuted Fail counter xs ys same h = (issued_permuted counter xs ys same h.0, unconfirmed_permuted counter xs ys same h.1)
+
+pub refuses_remark_permuted : (kind : RemarkKind) (counter : ℕ) (xs ys : List SlotRow) → IsPermutation xs ys → (why : RemarkRefusal) → RefusesRemark kind counter xs why → RefusesRemark kind counter ys why
+refuses_remark_permuted Raise counter xs ys same (unsaid.Behind last) h = (h.0 ∙ greatest_permuted xs ys same, h.1)
+refuses_remark_permuted Raise counter xs ys same unsaid.Unknown h = absurd h
+refuses_remark_permuted Raise counter xs ys same unsaid.AlreadyConfirmed h = absurd h
+refuses_remark_permuted Fail counter xs ys same (unsaid.Behind last) h = absurd h
+refuses_remark_permuted Fail counter xs ys same unsaid.Unknown h = λ has. h (issued_permuted counter ys xs (IsPermutation-sym xs ys same) has)
+refuses_remark_permuted Fail counter xs ys same unsaid.AlreadyConfirmed h =
+    (issued_permuted counter xs ys same h.0, any_permuted (λ (row : SlotRow). (row.kind ≡ Confirmed) × (row.counter ≡ counter)) xs ys same h.1)
 
 -- ---- what is shown
 
