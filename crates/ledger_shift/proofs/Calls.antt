@@ -10,6 +10,7 @@ use Rattle.line_stream.specs.Streams.{TakesLines, kept_of}
 use Rattle.sqlite_trees.specs.declared.store.Store.{Ghosts}
 use Rattle.sqlite.specs.State.{HasCleanDisk}
 use Rattle.sqlite.specs.Effect.{Database}
+use Rattle.ledger_rows.specs.declared.lists.ListKind.{ListKind}
 use Rattle.ledger_rows.specs.declared.remarks.Remark.{Remark}
 use Rattle.ledger_rows.specs.Files.{FileMoment, FileStep, FilesCountersRise, IssueBy, ConfirmBy, RemarkBy}
 use Rattle.ledger_tables.specs.Held.{ledger_of}
@@ -50,6 +51,7 @@ module _ {S : Type 0} (g : Ghosts S) where
   issue_calls before after number i (told.Shown it) does wrote = absurd does
   issue_calls before after number i (told.Remarked kind counter) does wrote = absurd does
   issue_calls before after number i (told.Unremarked why) does wrote = absurd does
+  issue_calls before after number i (told.Listed rows) does wrote = absurd does
 
   confirm_calls : (before after : ShiftAt S) (number : ℕ) (k : Confirm) (it : ShiftTold) → AnswersAsk before.origin (conn_of g before) (conn_of g after) (ask.Confirm k) it
       → AppendedWell before.sink after.sink (shift_answer_text (printed_line_number number) it) → Calls before number after
@@ -61,6 +63,7 @@ module _ {S : Type 0} (g : Ghosts S) where
   confirm_calls before after number k (told.Shown it) does wrote = absurd does
   confirm_calls before after number k (told.Remarked kind counter) does wrote = absurd does
   confirm_calls before after number k (told.Unremarked why) does wrote = absurd does
+  confirm_calls before after number k (told.Listed rows) does wrote = absurd does
 
   remark_calls : (before after : ShiftAt S) (number : ℕ) (r : Remark) (it : ShiftTold) → AnswersAsk before.origin (conn_of g before) (conn_of g after) (ask.Remark r) it
       → AppendedWell before.sink after.sink (shift_answer_text (printed_line_number number) it) → Calls before number after
@@ -72,6 +75,7 @@ module _ {S : Type 0} (g : Ghosts S) where
   remark_calls before after number r (told.Confirmed counter) does wrote = absurd does
   remark_calls before after number r (told.Shown it) does wrote = absurd does
   remark_calls before after number r (told.Refused why) does wrote = absurd does
+  remark_calls before after number r (told.Listed rows) does wrote = absurd does
 
   show_calls : (before after : ShiftAt S) (number : ℕ) (uid : List ℕ) (id : ℕ) (it : ShiftTold) → AnswersAsk before.origin (conn_of g before) (conn_of g after) (ask.Show uid id) it → Calls before number after
   show_calls before after number uid id (told.Shown it) does = none_of before after number (same_rows before after does.1)
@@ -80,6 +84,16 @@ module _ {S : Type 0} (g : Ghosts S) where
   show_calls before after number uid id (told.Remarked kind counter) does = absurd does
   show_calls before after number uid id (told.Unremarked why) does = absurd does
   show_calls before after number uid id (told.Refused why) does = absurd does
+  show_calls before after number uid id (told.Listed rows) does = absurd does
+
+  list_calls : (before after : ShiftAt S) (number : ℕ) (kind : ListKind) (uid : List ℕ) (id : ℕ) (it : ShiftTold) → AnswersAsk before.origin (conn_of g before) (conn_of g after) (ask.List kind uid id) it → Calls before number after
+  list_calls before after number kind uid id (told.Listed rows) does = none_of before after number (same_rows before after does.1)
+  list_calls before after number kind uid id (told.Issued counter request) does = absurd does
+  list_calls before after number kind uid id (told.Confirmed counter) does = absurd does
+  list_calls before after number kind uid id (told.Shown it) does = absurd does
+  list_calls before after number kind uid id (told.Refused why) does = absurd does
+  list_calls before after number kind uid id (told.Remarked said counter) does = absurd does
+  list_calls before after number kind uid id (told.Unremarked why) does = absurd does
 
   abbrev pub Earlier : ShiftAt S → ℕ → ShiftAt S → Type 0
   Earlier before number after = IsClean before × Calls before number after
@@ -116,6 +130,13 @@ module _ {S : Type 0} (g : Ghosts S) where
           | inr failed ↦ absurd failed
         ],
       )
+  by_asked before after number (ask.List kind uid id) serves clean = (
+    omega (arith, serves.survives.clean),
+    elim serves.ends [
+      | inl answered ↦ list_calls before after number kind uid id answered.0 (answered.1 clean)
+      | inr failed ↦ absurd failed
+    ],
+  )
   by_asked before after number (ask.Show uid id) serves clean = (
     omega (arith, serves.survives.clean),
     elim serves.ends [

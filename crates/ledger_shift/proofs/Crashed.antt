@@ -10,6 +10,7 @@ use Rattle.line_stream.specs.Streams.{TakesLines, kept_of}
 use Rattle.sqlite_trees.specs.Tree.{Trees}
 use Rattle.sqlite_trees.specs.declared.store.Store.{Ghosts}
 use Rattle.ledger_rows.specs.Rows.{LedgerRow}
+use Rattle.ledger_rows.specs.declared.lists.ListKind.{ListKind}
 use Rattle.ledger_rows.specs.declared.remarks.Remark.{Remark}
 use Rattle.ledger_rows.specs.Files.{RowCommand, FileMoment, FileStep, IssueBy, ConfirmBy, RemarkBy}
 use Rattle.ledger_tables.specs.Held.{ledger_of}
@@ -89,6 +90,7 @@ module _ {S : Type 0} (g : Ghosts S) (left : Trees) where
   issue_left before after number i (told.Shown it) crash does wrote may = absurd does
   issue_left before after number i (told.Remarked kind counter) crash does wrote may = absurd does
   issue_left before after number i (told.Unremarked why) crash does wrote may = absurd does
+  issue_left before after number i (told.Listed rows) crash does wrote may = absurd does
 
   confirm_left : (before after : ShiftAt S) (number : ℕ) (k : Confirm) (it : ShiftTold) → Leaves before ⊎ MayAddRow before.origin (conn_of g before) (ask.Confirm k) left
       → AnswersAsk before.origin (conn_of g before) (conn_of g after) (ask.Confirm k) it
@@ -107,6 +109,7 @@ module _ {S : Type 0} (g : Ghosts S) (left : Trees) where
   confirm_left before after number k (told.Shown it) crash does wrote may = absurd does
   confirm_left before after number k (told.Remarked kind counter) crash does wrote may = absurd does
   confirm_left before after number k (told.Unremarked why) crash does wrote may = absurd does
+  confirm_left before after number k (told.Listed rows) crash does wrote may = absurd does
 
   remark_left : (before after : ShiftAt S) (number : ℕ) (r : Remark) (it : ShiftTold) → Leaves before ⊎ MayAddRow before.origin (conn_of g before) (ask.Remark r) left
       → AnswersAsk before.origin (conn_of g before) (conn_of g after) (ask.Remark r) it
@@ -125,6 +128,7 @@ module _ {S : Type 0} (g : Ghosts S) (left : Trees) where
   remark_left before after number r (told.Confirmed counter) crash does wrote may = absurd does
   remark_left before after number r (told.Shown it) crash does wrote may = absurd does
   remark_left before after number r (told.Refused why) crash does wrote may = absurd does
+  remark_left before after number r (told.Listed rows) crash does wrote may = absurd does
 
   show_left : (before after : ShiftAt S) (number : ℕ) (uid : List ℕ) (id : ℕ) (it : ShiftTold) → Leaves before ⊎ MayAddRow before.origin (conn_of g before) (ask.Show uid id) left
       → AnswersAsk before.origin (conn_of g before) (conn_of g after) (ask.Show uid id) it → LineLeft before number after
@@ -137,6 +141,20 @@ module _ {S : Type 0} (g : Ghosts S) (left : Trees) where
   show_left before after number uid id (told.Remarked kind counter) crash does = absurd does
   show_left before after number uid id (told.Unremarked why) crash does = absurd does
   show_left before after number uid id (told.Refused why) crash does = absurd does
+  show_left before after number uid id (told.Listed rows) crash does = absurd does
+
+  list_left : (before after : ShiftAt S) (number : ℕ) (kind : ListKind) (uid : List ℕ) (id : ℕ) (it : ShiftTold) → Leaves before ⊎ MayAddRow before.origin (conn_of g before) (ask.List kind uid id) left
+      → AnswersAsk before.origin (conn_of g before) (conn_of g after) (ask.List kind uid id) it → LineLeft before number after
+  list_left before after number kind uid id (told.Listed rows) crash does = elim crash [
+    | inl leaves ↦ kept_line before after number (same_rows g before after does.1) leaves
+    | inr adds ↦ absurd adds
+  ]
+  list_left before after number kind uid id (told.Issued counter request) crash does = absurd does
+  list_left before after number kind uid id (told.Confirmed counter) crash does = absurd does
+  list_left before after number kind uid id (told.Shown it) crash does = absurd does
+  list_left before after number kind uid id (told.Refused why) crash does = absurd does
+  list_left before after number kind uid id (told.Remarked said counter) crash does = absurd does
+  list_left before after number kind uid id (told.Unremarked why) crash does = absurd does
 
   asked_left : (before after : ShiftAt S) (number : ℕ) (asked : ShiftLine) → ServesAsk g before (printed_line_number number) asked after (Ok tt) → IsClean g after → Leaves after → LineLeft before number after
   asked_left before after number ask.Skipped (same, done) clean may = kept_line before after number (ap (rows_of g) same) (subst Leaves same may)
@@ -157,6 +175,11 @@ module _ {S : Type 0} (g : Ghosts S) (left : Trees) where
       let serves = was_named g before.noted.is_named before after (printed_line_number number) (ask.Remark r) named in
       elim serves.ends [
         | inl answered ↦ remark_left before after number r answered.0 (serves.survives.crash clean left may) (answered.1 clean) answered.3 may
+        | inr failed ↦ absurd failed
+      ]
+  asked_left before after number (ask.List kind uid id) serves clean may =
+      elim serves.ends [
+        | inl answered ↦ list_left before after number kind uid id answered.0 (serves.survives.crash clean left may) (answered.1 clean)
         | inr failed ↦ absurd failed
       ]
   asked_left before after number (ask.Show uid id) serves clean may =
@@ -241,6 +264,10 @@ module _ {S : Type 0} (g : Ghosts S) (left : Trees) where
   asked_cut before after number (ask.Issue i) result named clean may = issue_cut before.noted.is_named before after number i result named clean may
   asked_cut before after number (ask.Confirm k) result named clean may = confirm_cut before.noted.is_named before after number k result named clean may
   asked_cut before after number (ask.Remark r) result named clean may = remark_cut before.noted.is_named before after number r result named clean may
+  asked_cut before after number (ask.List kind uid id) result serves clean may = (
+    omega (arith, serves.survives.clean),
+    elim (serves.survives.crash clean left may) [ inl leaves ↦ inl leaves | inr adds ↦ absurd adds ],
+  )
   asked_cut before after number (ask.Show uid id) result serves clean may = (
     omega (arith, serves.survives.clean),
     elim (serves.survives.crash clean left may) [ inl leaves ↦ inl leaves | inr adds ↦ absurd adds ],

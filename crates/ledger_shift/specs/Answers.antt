@@ -5,6 +5,7 @@ use Rattle.key_campaign.specs.Steps.{update_for}
 use Rattle.sqlite_trees.specs.Tree.{Trees}
 use Rattle.sqlite.specs.State.{State}
 use Rattle.sqlite.specs.declared.error.Error.{Error}
+use Rattle.ledger_rows.specs.Lists.{ListsRows}
 use Rattle.ledger_rows.specs.Rows.{RowOrigin, slot_rows}
 use Rattle.ledger_rows.specs.Steps.{IssuesRow, RefusesRow, ConfirmsRow, RefusesAnswer, RemarksRow, RefusesRemark, IsShown}
 use Rattle.ledger_tables.specs.Held.{ledger_of, ledger_in}
@@ -35,6 +36,8 @@ AnswersAsk origin old new (ask.Remark r) (told.Unremarked why) =
     RefusesRemark r.kind r.counter (slot_rows r.uid r.id (ledger_in old)) why × (new.now ≡ old.now)
 AnswersAsk origin old new (ask.Show uid id) (told.Shown it) =
     IsShown (slot_rows uid id (ledger_in old)) it × (new.now ≡ old.now)
+AnswersAsk origin old new (ask.List kind uid id) (told.Listed rows) =
+    ListsRows kind (slot_rows uid id (ledger_in old)) rows.items × (new.now ≡ old.now)
 AnswersAsk origin old new _ _ = ⊥
 
 -- why a command isn't answered
@@ -42,6 +45,7 @@ abbrev pub FailsAsk : RowOrigin → State → State → ShiftLine → Error → 
 FailsAsk origin old new (ask.Issue i) e = FailsToIssue i origin old new e
 FailsAsk origin old new (ask.Confirm k) e = FailsToConfirm k origin old new e
 FailsAsk origin old new (ask.Remark r) e = FailsToRemark r origin old new e
+FailsAsk origin old new (ask.List kind uid id) e = FailsToLook uid id old new e
 FailsAsk origin old new (ask.Show uid id) e = FailsToLook uid id old new e
 FailsAsk origin old new _ e = ⊥
 

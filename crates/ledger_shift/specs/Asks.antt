@@ -10,6 +10,8 @@ use Rattle.text_lines.specs.Lines.{is_skipped}
 use Rattle.text_lines.specs.Readings.{◌>>=◌, nth_word, field, with_count}
 use Rattle.secoc_words.specs.KeyForms.{engine_uid_form, slot_form, counter_form}
 use Rattle.campaign_commands.specs.CommandForms.{ledger_command_of}
+use Rattle.ledger_rows.specs.declared.lists.ListKind.{ListKind}
+use Rattle.ledger_rows.specs.declared.lists.ListKind.TheVariants.{History, Open}
 use Rattle.ledger_rows.specs.declared.remarks.RemarkKind.{RemarkKind}
 use Rattle.ledger_rows.specs.declared.remarks.RemarkKind.TheVariants.{Raise, Fail}
 use Rattle.ledger_rows.specs.Rows.{RowOrigin}
@@ -44,6 +46,17 @@ remark_form kind words = do
   counter ← field 4 (counter_form (nth_word words 4))
   Ok (ask.Remark (record { uid = uid; id = id; counter = counter; kind = kind }))
 
+-- `history UID SLOT`, `open UID SLOT`
+abbrev pub list_kind_of : List ℕ → Option ListKind
+list_kind_of word =
+    if bytes_eq word (codes "history") then Some History else (if bytes_eq word (codes "open") then Some Open else None)
+
+unfoldable pub list_form : ListKind → List (List ℕ) → Result ShiftLine Cause
+list_form kind words = do
+  uid ← field 2 (engine_uid_form (nth_word words 2))
+  id ← field 3 (slot_form (nth_word words 3))
+  Ok (ask.List kind uid id)
+
 -- of campaign's commands those that aren't of a disk
 abbrev pub asked_by_command : LedgerCommand → Result ShiftLine Cause
 asked_by_command (command.Issue i) = Ok (ask.Issue i)
@@ -57,10 +70,15 @@ asked_by_command (command.Fail calls) = Err cause.Event
 abbrev pub command_asked : List (List ℕ) → Result ShiftLine Cause
 command_asked words = ledger_command_of words >>= asked_by_command
 
+-- what the words of a line ask, by the list that its first word names
+abbrev pub asked_by_list : Option ListKind → List (List ℕ) → Result ShiftLine Cause
+asked_by_list (Some kind) words = with_count 3 words (list_form kind words)
+asked_by_list None words = command_asked words
+
 -- what the words of a line ask, by the remark that its first word names
 abbrev pub asked_by_words : Option RemarkKind → List (List ℕ) → Result ShiftLine Cause
 asked_by_words (Some kind) words = with_count 4 words (remark_form kind words)
-asked_by_words None words = command_asked words
+asked_by_words None words = asked_by_list (list_kind_of (nth_word words 1)) words
 
 -- what the words of a line ask
 unfoldable pub shift_line_of : List (List ℕ) → Result ShiftLine Cause

@@ -22,6 +22,7 @@ counter_told (told.Shown it) = None
 counter_told (told.Refused why) = None
 counter_told (told.Remarked kind counter) = Some counter
 counter_told (told.Unremarked why) = None
+counter_told (told.Listed rows) = None
 
 module _ {S : Type 0} (g : Ghosts S) where
   abbrev pub rows_of : ShiftAt S → List LedgerRow

@@ -108,6 +108,8 @@ module _ {S : Type 0} (g : Ghosts S) where
       ServesNamed before.noted.is_named before number (ask.Confirm k) after result
   ServesAsk before number (ask.Remark r) after result =
       ServesNamed before.noted.is_named before number (ask.Remark r) after result
+  ServesAsk before number (ask.List kind uid id) after result =
+      ServesCommand before number (ask.List kind uid id) after result
   ServesAsk before number (ask.Show uid id) after result = ServesCommand before number (ask.Show uid id) after result
 
   -- A line that asks nothing by its form is refused, and nothing changes. Memory may be out for any line.

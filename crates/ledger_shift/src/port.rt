@@ -14,12 +14,12 @@ ghost use Rattle.ledger_shift.specs.Told.{shift_answer_text};
 
 use crate::line::{ShiftLine, read_shift_line};
 use crate::origin::Origin;
-use crate::serving::{serve_confirm, serve_issue, serve_remark, serve_show};
+use crate::serving::{serve_confirm, serve_issue, serve_list, serve_remark, serve_show};
 use crate::told::{ShiftTold, is_refusal, push_told};
 use bus_port::{PortFailed, Sink, write_all};
 use key_campaign::{Confirm, Issue};
 use key_slots::SlotId;
-use ledger_rows::Remark;
+use ledger_rows::{ListKind, Remark};
 use line_stream::LineTaker;
 use memory_update::Uid;
 use sqlite::{Alter, Connection, Error};
@@ -199,6 +199,29 @@ fn take_show<S: Alter, K: Sink>(
     tell_served(alloc, sink, number, served)
 }
 
+/// Serves a list, and answers it.
+fn take_list<S: Alter, K: Sink>(
+    alloc: Global,
+    conn: &mut Connection<S>,
+    origin: &Origin,
+    sink: &mut K,
+    number: u32,
+    kind: ListKind,
+    uid: &Uid,
+    id: SlotId,
+) -> Result<(), ShiftEnd>
+    requires { HasCleanDisk (state S.Store conn.old) → HasLedgerTable (state S.Store conn.old) }
+    ensures serves { (noted : Noted) → ServesCommand S.Store
+        (record { conn = conn.old; origin = origin.now; noted = noted; sink = K.state sink.old }) number
+        (ask.List kind uid.now id)
+        (record { conn = conn.new; origin = origin.now; noted = noted; sink = K.state sink.new }) result }
+    ensures ready { HasCleanDisk (state S.Store conn.new)
+        → OnOk result (HasLedgerTable (state S.Store conn.new)) }
+{
+    let served = serve_list(conn, alloc, kind, uid, id, origin);
+    tell_served(alloc, sink, number, served)
+}
+
 /// Serves what a line asks, and answers it.
 fn take_asked<S: Alter, K: Sink>(
     alloc: Global,
@@ -240,6 +263,9 @@ fn take_asked<S: Alter, K: Sink>(
                 return Err(ShiftEnd::Unnamed(number));
             }
             take_remark(alloc, conn, origin, noted, sink, number, &remark)
+        }
+        ShiftLine::List(kind, uid, id) => {
+            take_list(alloc, conn, origin, sink, number, kind, &uid, id)
         }
         ShiftLine::Show(uid, id) => take_show(alloc, conn, origin, sink, number, &uid, id),
     }

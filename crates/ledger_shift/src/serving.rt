@@ -14,8 +14,8 @@ use crate::origin::Origin;
 use crate::told::ShiftTold;
 use key_campaign::{Confirm, Issue};
 use key_slots::{Counter28, SlotId};
-use ledger_rows::Remark;
-use ledger_tables::{confirm, issue, remark, show};
+use ledger_rows::{ListKind, Remark};
+use ledger_tables::{confirm, issue, list, remark, show};
 use memory_update::{Request, Uid, Update, build};
 use sqlite::{Alter, Connection, Error};
 use std::alloc::Global;
@@ -160,6 +160,34 @@ pub(crate) fn serve_show<S: Alter>(
 {
     match show(conn, alloc, uid, id) {
         Ok(told) => Ok(ShiftTold::Shown(told)),
+        Err(error) => Err(error),
+    }
+}
+
+/// Lists rows of a unit's slot.
+pub(crate) fn serve_list<S: Alter>(
+    conn: &mut Connection<S>,
+    alloc: Global,
+    kind: ListKind,
+    uid: &Uid,
+    id: SlotId,
+    _origin: &Origin,
+) -> Result<ShiftTold, Error>
+    requires { HasCleanDisk (state S.Store conn.old) → HasLedgerTable (state S.Store conn.old) }
+    ensures answers { HasCleanDisk (state S.Store conn.new) → IfOk result
+        (AnswersAsk _origin.now (state S.Store conn.old) (state S.Store conn.new) (ask.List kind uid.now id)) }
+    ensures ready { HasCleanDisk (state S.Store conn.new)
+        → OnOk result (HasLedgerTable (state S.Store conn.new)) }
+    ensures failed { HasCleanDisk (state S.Store conn.new) → IfErr result
+        (FailsAsk _origin.now (state S.Store conn.old) (state S.Store conn.new) (ask.List kind uid.now id)) }
+    ensures undone { HasCleanDisk (state S.Store conn.new)
+        → OnErr result (IsUndone (state S.Store conn.old) (state S.Store conn.new)) }
+    ensures calm { IfOk result (λ told. tells_refusal told ≡ false) }
+    ensures survives { Survives (state S.Store conn.old) (state S.Store conn.new)
+        (MayAddRow _origin.now (state S.Store conn.old) (ask.List kind uid.now id)) }
+{
+    match list(conn, alloc, kind, uid, id) {
+        Ok(rows) => Ok(ShiftTold::Listed(rows)),
         Err(error) => Err(error),
     }
 }

@@ -1,22 +1,24 @@
 //! What a command of a shift is answered, as a line.
-ghost use Rattle.std.specs.Prelude.{◌≡◌, [], ◌∷◌, ◌++◌, codes, OnOk};
+ghost use Rattle.std.specs.Prelude.{◌≡◌, [], ◌∷◌, ◌++◌, codes, length, OnOk};
+ghost use Rattle.std.specs.List.{flat_map};
 ghost use Rattle.std.specs.Fmt.{decimal};
 ghost use Rattle.text_lines.specs.Spaced.{spaced};
 ghost use Rattle.text_lines.specs.Written.{written};
 ghost use Rattle.ledger_rows.specs.Kinds.{row_word};
 ghost use Rattle.ledger_rows.specs.Steps.{remarked_kind};
-ghost use Rattle.ledger_shift.specs.Told.{remark_refusal_words, shift_answer_text, tells_refusal};
+ghost use Rattle.ledger_shift.specs.Told.{remark_refusal_words, row_line, row_list_text, shift_answer_text, tells_refusal};
 
 use campaign_commands::push_ledger_line;
+use itoa::Buffer;
 use key_campaign::{LedgerLine, LedgerRefusal};
 use key_slots::Counter28;
-use ledger_rows::{RemarkKind, RemarkRefusal};
+use ledger_rows::{RemarkKind, RemarkRefusal, SlotRow};
 use memory_update::Request;
 use std::alloc::AllocError;
-use text_lines::pushing::{begin_line, end_line, push_numbered, push_word};
+use text_lines::pushing::{begin_line, end_line, push_hex, push_numbered, push_word};
 
 /// What came of a command of a shift.
-#[derive(Clone, Copy, Debug, PartialEq, Eq)]
+#[derive(Drop)]
 pub enum ShiftTold {
     /// A request was issued.
     Issued {
@@ -35,6 +37,8 @@ pub enum ShiftTold {
     Remarked(RemarkKind, Counter28),
     /// A remark was refused: nothing was done.
     Unremarked(RemarkRefusal),
+    /// Rows of a unit's slot.
+    Listed(Vec<SlotRow>),
 }
 
 /// Whether it tells that nothing was done.
@@ -48,6 +52,7 @@ pub(crate) fn is_refusal(told: &ShiftTold) -> bool
         ShiftTold::Confirmed(_) => false,
         ShiftTold::Shown(_) => false,
         ShiftTold::Remarked(..) => false,
+        ShiftTold::Listed(_) => false,
     }
 }
 
@@ -88,6 +93,46 @@ fn push_unremarked(text: &mut Vec<u8>, number: u32, why: &RemarkRefusal) -> Resu
     end_line(text)
 }
 
+/// Adds the line of a row.
+fn push_row(text: &mut Vec<u8>, number: u32, row: &SlotRow) -> Result<(), AllocError>
+    ensures { OnOk result (text.new.items ≡ text.old.items ++ row_line number row.now) }
+{
+    begin_line(text, number)?;
+    push_numbered(text, row.kind.word().as_bytes(), row.counter.number())?;
+    push_hex(text, row.check.as_slice())?;
+    end_line(text)
+}
+
+/// Adds the lines of rows.
+fn push_each_row(text: &mut Vec<u8>, number: u32, rows: &[SlotRow]) -> Result<(), AllocError>
+    ensures { OnOk result (text.new.items ≡ text.old.items ++ flat_map (row_line number) rows.now) }
+{
+    for row in rows {
+        push_row(text, number, row)?;
+    }
+    Ok(())
+}
+
+/// Adds the line that says how many rows there are.
+fn push_count(text: &mut Vec<u8>, number: u32, count: usize) -> Result<(), AllocError>
+    ensures { OnOk result (text.new.items
+        ≡ text.old.items ++ written (decimal number ∷ codes "end" ∷ decimal count ∷ [])) }
+{
+    let mut digits = Buffer::new();
+    begin_line(text, number)?;
+    push_word(text, b"end")?;
+    push_word(text, digits.format(count).as_bytes())?;
+    end_line(text)
+}
+
+/// Adds the lines of rows, and how many they are.
+fn push_rows(text: &mut Vec<u8>, number: u32, rows: &[SlotRow]) -> Result<(), AllocError>
+    ensures { OnOk result (text.new.items ≡ text.old.items ++ row_list_text number rows.now) }
+{
+    push_each_row(text, number, rows)?;
+    push_count(text, number, rows.len())
+}
+
 /// Adds the text of an answer to the line with this number. Without memory nothing is said of `text`.
 pub(crate) fn push_told(text: &mut Vec<u8>, number: u32, told: &ShiftTold) -> Result<(), AllocError>
     ensures { OnOk result (text.new.items ≡ text.old.items ++ shift_answer_text number told.now) }
@@ -107,5 +152,6 @@ pub(crate) fn push_told(text: &mut Vec<u8>, number: u32, told: &ShiftTold) -> Re
         ShiftTold::Refused(why) => push_ledger_line(text, number, &LedgerLine::Refused(*why)),
         ShiftTold::Remarked(kind, counter) => push_remarked(text, number, *kind, *counter),
         ShiftTold::Unremarked(why) => push_unremarked(text, number, why),
+        ShiftTold::Listed(rows) => push_rows(text, number, rows.as_slice()),
     }
 }

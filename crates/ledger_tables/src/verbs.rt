@@ -3,7 +3,10 @@
 ghost use Rattle.std.specs.Prelude.{◌≡◌, ℕ, IfOk, IfErr, OnErr, OnOk};
 ghost use Rattle.sqlite.specs.State.{HasCleanDisk, IsUnchanged, Survives};
 ghost use Rattle.sqlite.specs.Held.{state};
+ghost use Rattle.sqlite.specs.declared.error.ErrorCode.TheVariants.{OutOfMemory};
+ghost use Rattle.sqlite.specs.declared.error.Error.TheVariants.{SqliteFailure};
 ghost use Rattle.sqlite_trees.specs.Tree.{Trees};
+ghost use Rattle.ledger_rows.specs.Lists.{ListsRows};
 ghost use Rattle.ledger_rows.specs.Rows.{slot_rows as slot_rows_of};
 ghost use Rattle.ledger_rows.specs.Steps.{IssuesRow, RefusesRow, ConfirmsRow, RefusesAnswer, RemarksRow, RefusesRemark, IsShown};
 ghost use Rattle.ledger_tables.specs.Held.{ledger_of, ledger_in, HasLedgerTable};
@@ -15,7 +18,8 @@ use crate::reading::rows_for;
 use key_campaign::{Confirm, Issue, LedgerRefusal};
 use key_slots::{Counter28, SlotId, may_authorise};
 use ledger_rows::{
-    Remark, RemarkRefusal, RowKind, answered_row, check_value, next_counter, remarked, shown,
+    ListKind, Remark, RemarkRefusal, RowKind, SlotRow, answered_row, check_value, listed_rows,
+    next_counter, remarked, shown,
 };
 use memory_update::Uid;
 use sqlite::{Alter, Connection, Error};
@@ -198,4 +202,35 @@ pub fn show<S: Alter>(
 {
     let rows = rows_for(conn, alloc, uid, id)?;
     Ok(shown(rows.as_slice()))
+}
+
+/// Which of these rows are listed.
+fn listed(alloc: Global, kind: ListKind, rows: Vec<SlotRow>) -> Result<Vec<SlotRow>, Error>
+    ensures lists { IfOk result (λ listed. ListsRows kind rows.items listed.items) }
+    ensures failed { IfErr result (λ e. e ≡ SqliteFailure OutOfMemory) }
+{
+    Ok(listed_rows(alloc, kind, rows)?)
+}
+
+/// Lists rows of a unit's slot, in any order: all, or exactly those that were issued and not confirmed.
+pub fn list<S: Alter>(
+    conn: &mut Connection<S>,
+    alloc: Global,
+    kind: ListKind,
+    uid: &Uid,
+    id: SlotId,
+) -> Result<Vec<SlotRow>, Error>
+    requires { HasCleanDisk (state S.Store conn.old) → HasLedgerTable (state S.Store conn.old) }
+    ensures lists { HasCleanDisk (state S.Store conn.new) → IfOk result (λ listed.
+        ListsRows kind (slot_rows_of uid.now id (ledger_in (state S.Store conn.old))) listed.items) }
+    ensures same { HasCleanDisk (state S.Store conn.new)
+        → OnOk result (IsUnchanged (state S.Store conn.old) (state S.Store conn.new)) }
+    ensures failed { HasCleanDisk (state S.Store conn.new) → IfErr result
+        (FailsToLook uid.now id (state S.Store conn.old) (state S.Store conn.new)) }
+    ensures undone { HasCleanDisk (state S.Store conn.new)
+        → OnErr result (IsUndone (state S.Store conn.old) (state S.Store conn.new)) }
+    ensures survives { Survives (state S.Store conn.old) (state S.Store conn.new) (λ _. ⊥) }
+{
+    let rows = rows_for(conn, alloc, uid, id)?;
+    listed(alloc, kind, rows)
 }
