@@ -194,9 +194,9 @@ WatchesLine-kept mapping c number line rest found is (inr (inr (few, kept, finds
 JudgesLine-text : (s : WatchState) → s ≡ record s { counters = s.counters; text = s.text ++ [] }
 JudgesLine-text s = ap (λ t. record s { text = t }) (sym (append-nil s.text))
 
-none_wanted : {A : Type 0} (b : Bool) → (if b then None {A} else None) ≡ None
-none_wanted true = refl
-none_wanted false = refl
+none_wanted : (b : Bool) (time : Option ℕ) → time ≡ None → (if b then time else None) ≡ None
+none_wanted true time is = is
+none_wanted false time is = refl
 
 pub JudgesLine-long : (s : WatchState) (number : ℕ) (line : List ℕ) → line_limit < length line → JudgesLine s number line s (Some (tally.Other kind.Malformed)) None
 JudgesLine-long s number line long = (
@@ -205,13 +205,13 @@ JudgesLine-long s number line long = (
   JudgesLine-text s,
   refl,
   refl,
-  sym (none_wanted (wants_times s.mapping)),
+  sym (none_wanted (wants_times s.mapping) None refl),
   λ place inside. refl,
 )
 
 pub JudgesLine-skipped : (s : WatchState) (number : ℕ) (line : List ℕ) → length line ≤ line_limit → is_skipped (words_of line) ≡ true → JudgesLine s number line s None None
 JudgesLine-skipped s number line few skipped =
-    ([], inr (inl (few, skipped, refl)), JudgesLine-text s, refl, refl, sym (none_wanted (wants_times s.mapping)), λ place inside. refl)
+    ([], inr (inl (few, skipped, refl)), JudgesLine-text s, refl, refl, sym (none_wanted (wants_times s.mapping) None refl), λ place inside. refl)
 
 pub JudgesLine-found : (s : WatchState) (number : ℕ) (line counters text : List ℕ) (counts : FrameTally) (time : Option ℕ) (finding : Finding) → length line ≤ line_limit → is_skipped (words_of line) ≡ false
     → AuditsLine s.mapping.lines (slice_index s.counters) (record { number = number; words = words_of line }) finding

@@ -51,6 +51,13 @@ AreCounted passes mapping numbers findings =
     (place : ℕ) → place < length mapping.lines
     → slice_index numbers place ≡ counted_of (passes place) (findings_of findings)
 
+-- a line of the map has a limit of silence. Only then are times of the log looked at
+abbrev pub wants_times : WatchedMap → Bool
+wants_times mapping = list_any (λ entry. is_some (silence_limit (limits_in mapping.options) entry)) mapping.lines
+
+abbrev pub time_wanted : WatchedMap → Option ℕ → Option ℕ
+time_wanted mapping time = if wants_times mapping then time else None
+
 -- the state after these lines of a log, of which these are found, apart from its text
 pub record Watched (state : WatchState) (lines : List (List ℕ)) (findings : List Found) : Type 0 where
   pub finds : WatchesEach state.mapping.lines lines findings
@@ -76,13 +83,6 @@ tally_found (finding ∷ _) = Some (tally_of finding)
 abbrev pub time_told : List Found → Option ℕ
 time_told [] = None
 time_told (f ∷ _) = time_found f
-
--- a line of the map has a limit of silence. Only then are times of the log looked at
-abbrev pub wants_times : WatchedMap → Bool
-wants_times mapping = list_any (λ entry. is_some (silence_limit (limits_in mapping.options) entry)) mapping.lines
-
-abbrev pub time_wanted : WatchedMap → Option ℕ → Option ℕ
-time_wanted mapping time = if wants_times mapping then time else None
 
 -- what is found of the line with this number was added, the counters are those after it, and the answers are what it
 -- counts as, and its time, if times are looked at
