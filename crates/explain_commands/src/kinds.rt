@@ -139,7 +139,7 @@ pub struct Case<'a> {
 }
 
 impl<'a> Model for Case<'a> {
-    ghost use Rattle.std.specs.Prelude.{◌≡◌, ◌≤◌, length};
+    ghost use Rattle.std.specs.Prelude.{◌≡◌, ◌≤◌, ◌<◌, length};
     ghost use Rattle.secured_pdu.specs.declared.frame.TheConstants.{WIDEST_WINDOW};
     ghost use Rattle.explain_commands.specs.Reasons.{Failing};
 
@@ -157,7 +157,7 @@ impl<'a> Model for Case<'a> {
 
     ghost invariant = { λ c. (length c.numbers.now ≡ length c.lines.now) × (length c.counters.now ≡ length c.lines.now)
         × (length c.lines.now ≤ 256) × (length c.bytes.now ≤ 64)
-        × (c.receiver.size ≤ 60) × (c.receiver.window ≤ WIDEST_WINDOW) };
+        × (c.receiver.size ≤ 60) × (c.receiver.window ≤ WIDEST_WINDOW) × (c.place < length c.lines.now) };
 }
 
 /// What a receiver of a line of the map knows that accepted this freshness last.
@@ -447,10 +447,7 @@ impl<'a> Case<'a> {
     fn can_as_id(&self) -> Comparison
         ensures { result ≡ trial_of self.now kind.CanAsId 0 }
     {
-        match self.lines.get(self.place) {
-            Some(line) => self.with_can(line),
-            None => Comparison::Skipped,
-        }
+        self.with_can(&self.lines[self.place])
     }
 
     /// The CAN identifier of a line as the Data ID.
