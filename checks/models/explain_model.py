@@ -167,6 +167,9 @@ class Search:
         for bit in range(8 * (own.size + 4)):
             if bit // 8 < len(data):
                 self.within(f"bit {bit % 8} of byte {bit // 8} is flipped", own, data=inverted(data, bit))
+        can = int(own.can, 16) & 0xFFFF
+        if can != own.data_id:
+            self.within("verifies with the CAN identifier as Data ID", own, data_id=can)
 
     def reason(self):
         try:

@@ -143,7 +143,7 @@ module _ (fresh : WatchState) (text : List ℕ) (is_fresh : IsFreshWatch fresh) 
     log_ends : (end : Option Difference) → EndsStream ComparesLine FollowsFound EndsFound log begun now end → ComparesLog mapping log text now.watch.text (Ok end)
     log_ends end d = elim d.ended [
       | inr stopped ↦ absurd stopped
-      | inl (taken, takes_last, ended, left_is) ↦
+      | inl (taken, takes_last, (ended, left_is)) ↦
           let so_far = at_pause d.bytes d.lines d.before d.paused in
           let (w, text_is, at_is) = lines_held d.lines (d.last ∷ []) d.bytes d.before taken so_far (taken, takes_last, refl) in
           let all : List (List ℕ) = d.lines ++ d.last ∷ [] in

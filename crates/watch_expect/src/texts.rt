@@ -1,5 +1,5 @@
 //! How far one text is the same as another.
-ghost use Rattle.std.specs.Prelude.{◌≡◌, ◌≤◌, ◌<◌, ◌+◌, ◌==◌, ◌^◌, ◌++◌, if◌then◌else◌, length, take, drop, position};
+ghost use Rattle.std.specs.Prelude.{◌≡◌, ◌≤◌, ◌<◌, ◌+◌, ◌==◌, ◌^◌, ◌++◌, if◌then◌else◌, length, min, take, drop, position};
 ghost use Rattle.std.specs.Prelude.{IfSome, vec_len, vec_capacity};
 ghost use Rattle.std.specs.List.{slice_get};
 ghost use Rattle.watch_expect.specs.Comparing.{Parts, line_number, last_line, first_line, told_line, difference_text};
@@ -36,12 +36,22 @@ pub struct Difference {
     pub from: usize,
 }
 
+/// A place, or the end if it is less.
+fn within(at: usize, end: usize) -> usize
+    ensures { result ≡ min at end }
+{
+    if end < at {
+        return end;
+    }
+    at
+}
+
 /// Follows a text behind its first bytes by what is found: how many first bytes are the same then, or behind how many
 /// the texts part.
 pub fn follow(text: &[u8], at: usize, found: &[u8]) -> Result<usize, Difference>
     ensures { FollowsKept text.now at found.now result }
 {
-    let first = at.min(text.len());
+    let first = within(at, text.len());
     let count = count_same(&text[first..], found);
     if count < found.len() {
         return Err(Difference {

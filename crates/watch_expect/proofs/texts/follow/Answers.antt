@@ -14,10 +14,10 @@ pub returns-then-count-found : goal.returns-then-count-found
 returns-then-count-found c =
     let text : List ℕ = c.args.text.now in
     let found : List ℕ = c.args.found.now in
-    let at : ℕ = c.min-first.result in
+    let at : ℕ = c.within-first.result in
     let count : ℕ = c.count_same-count.result in
-    let within : at ≤ length text = omega (arith, c.min-first.ensures, c.len.ensures) in
-    let first_is : take at text ≡ take c.args.at text = first_of text c.args.at at (c.min-first.ensures ∙ ap (min c.args.at) c.len.ensures) in
+    let within : at ≤ length text = omega (arith, c.within-first.ensures) in
+    let first_is : take at text ≡ take c.args.at text = first_of text c.args.at at c.within-first.ensures in
     let rest_is : take (length text - at) (drop at text) ≡ drop at text = take_all (length text - at) (drop at text) (omega (arith, length-drop at text)) in
     let inside : count ≤ length (drop at text) = subst (λ (t : List ℕ). count ≤ length t) rest_is c.count_same-count.ensures.text in
     let same : take count (drop at text) ≡ take count found = subst (λ (t : List ℕ). take count t ≡ take count found) rest_is c.count_same-count.ensures.same in (
@@ -32,10 +32,10 @@ pub returns : goal.returns
 returns c =
     let text : List ℕ = c.args.text.now in
     let found : List ℕ = c.args.found.now in
-    let at : ℕ = c.min-first.result in
+    let at : ℕ = c.within-first.result in
     let count : ℕ = c.count_same-count.result in
-    let within : at ≤ length text = omega (arith, c.min-first.ensures, c.len.ensures) in
-    let first_is : take at text ≡ take c.args.at text = first_of text c.args.at at (c.min-first.ensures ∙ ap (min c.args.at) c.len.ensures) in
+    let within : at ≤ length text = omega (arith, c.within-first.ensures) in
+    let first_is : take at text ≡ take c.args.at text = first_of text c.args.at at c.within-first.ensures in
     let rest_is : take (length text - at) (drop at text) ≡ drop at text = take_all (length text - at) (drop at text) (omega (arith, length-drop at text)) in
     let inside : count ≤ length (drop at text) = subst (λ (t : List ℕ). count ≤ length t) rest_is c.count_same-count.ensures.text in
     let same : take count (drop at text) ≡ take count found = subst (λ (t : List ℕ). take count t ≡ take count found) rest_is c.count_same-count.ensures.same in (
