@@ -31,7 +31,7 @@ returns-in_err-target g c =
 
 pub returns-in-Ok : goal.returns-in-Ok
 returns-in-Ok g c =
-    subst (λ t. ComesOfDerivation _ (row_of 0 t)) (sym (c.in-Ok.ensures ∙ ap (λ k. line (encode_lower k)) c.unit_key-key.ensures.value))
+    rw (c.in-Ok.ensures ∙ ap (λ k. line (encode_lower k)) c.unit_key-key.ensures.value)
     (derived c.in_ok-master.master c.in_ok-target.target.0 c.in_ok-target.target.1 (record {
       call = has_file (map string_bytes c.args.words.now) (sym c.is_derivation.ensures ∙ c.if-not-is_derivation.false);
       key = c.in_ok-master.ensures;
