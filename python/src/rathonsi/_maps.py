@@ -68,7 +68,10 @@ class MapLine:
 
     @property
     def own_silence(self) -> float | None:
-        """How many seconds without an accepted frame are too many for this line; None if it doesn't say so."""
+        """How many seconds without an accepted frame are too many for this line; None if it doesn't say so.
+
+        If the line is optional it isn't judged.
+        """
         if self.silent is None and self.every is not None:
             return round(5 * self.every, 6)
         return self.silent
