@@ -21,6 +21,7 @@
  *   - Once the store is ready, its cells are what the puts that were done made of the first ones. A
  *     put that the power cut is there whole or not at all, and that stays so.
  *   - Each start finds the store: RATHONSI_NO_STORE never comes.
+ *   - A start with another geometry never takes an older store: see "Another geometry".
  *   - What rathonsi.h and rathonsi_store.h promise of routes and slots over all lives holds: freshness
  *     rises, and a key that was confirmed stays.
  *   - A line is programmed once between two erases of its bank, and only where all was erased.
@@ -79,8 +80,8 @@
  *     then rathonsi_store_done is called; or all begins again as at power-up. It isn't dropped, and
  *     no other plan is made before.
  *   - unit, banks, bank_size, the number of cells, and which sectors a bank is, are the same in every
- *     life, also after an update of the software. Exception: the number of
- *     cells may be another if rathonsi_flash_take makes the store anew.
+ *     life, also after an update of the software. Exception: they may be others if
+ *     rathonsi_flash_take makes the store anew.
  *   - If rathonsi_flash_next answers another status than RATHONSI_OK, all begins again as at
  *     power-up.
  *
@@ -160,6 +161,25 @@
  *   | disturb by reads, by neighbours' programs and   | whether a line needs an early copy: let |
  *   |   erases; data retention                        |   a start answer NOTHING, not BLANK     |
  *
+ * Another geometry. The head of a bank tells unit, banks, bank_size and cells. A start reads each head,
+ * and ends with RATHONSI_NO_STORE at the first that tells others than rathonsi_flash_begin got, whatever
+ * the other banks hold. It is proved of a flash whose heads all tell others: no start is ready, and
+ * nothing is erased or programmed. So stop there: the software is wrong, and the right one finds the
+ * store as it was.
+ *
+ *   | rathonsi_flash_begin gets    | A start                                                         |
+ *   |------------------------------|-----------------------------------------------------------------|
+ *   | another number of banks      | reads a head that tells so                                      |
+ *   | another number of cells      | the same                                                        |
+ *   | another unit                 | the same, if a line is as long; else it reads no head           |
+ *   | another bank_size            | the same, if a bank begins where one began; else it reads none  |
+ *   | other sectors for a bank     | isn't told: the store may be an older one                       |
+ *
+ *   A flash on which no head is read has no store either. A head that tells zeros tells nothing. A
+ *   version before 0.20 made such stores. They are opened as before, with no check of their geometry,
+ *   and their heads go on to tell nothing: so the version before can come back at any time. Only
+ *   rathonsi_flash_take makes a store that tells. A version before 0.20 finds no store there.
+ *
  * What isn't covered:
  *   - A part that loses a line which was whole, by age, by reads or by its neighbours.
  *   - A DONE that is wrong, as after a drop of the supply that the part doesn't report. Such a part
@@ -177,8 +197,9 @@
  *     hexadecimal. The CRC has the polynomial 42f0e1eba9ea3693, highest bit first; it begins with
  *     ones, and its bits are inverted at the end. That of the nine digits from 1 on is
  *     62ec59e3f1a4f00a.
- *   - The body of a head: 5a, the generation in eight bytes, zeros. That of an entry: a5, the number
- *     of a cell in two bytes, its 32 bytes.
+ *   - The body of a head: 5a, the generation in eight bytes, unit in two, banks in one, bank_size in
+ *     four, the number of cells in two, zeros. The last four numbers are 0 if it tells nothing. That of
+ *     an entry: a5, the number of a cell in two bytes, its 32 bytes.
  *   - A bank holds a log if its first line is a head and the next n lines are entries of the cells 0
  *     to n - 1. The lines after these change it in order, up to the first that is none. An entry of a
  *     number from n on, and a head, change nothing there.
@@ -204,7 +225,7 @@
  *   - A reset loop: each start without BLANK is an erase and n + 1 PROGRAMs, also if nothing was put
  *     since the last one. 1,000 starts are 1,000 erases, which the banks share. Two banks of 10^4
  *     cycles are worn out in 33 minutes at ten starts a second. Of 10^5 cycles they last 5.6 hours.
- *   - RAM: RathonsiFlash 216 bytes, an operation 144, cells and scratch 64 * n, the image
+ *   - RAM: RathonsiFlash 224 bytes, an operation 144, cells and scratch 64 * n, the image
  *     32 + 68 * n.
  *
  *   At most, with 16 cells, 15 years, 10 starts and 200 puts a day, units of 8, if no copy is lost. If
@@ -269,7 +290,7 @@ typedef struct RathonsiFlashOperation {
 
 /* The state of the store. It isn't for the caller, and has no meaning on another processor. */
 typedef struct RathonsiFlash {
-    uint64_t state[27];
+    uint64_t state[28];
 } RathonsiFlash;
 
 /* Begins at power-up, over so many banks of bank_size bytes. Its operations read the flash, and make
@@ -304,8 +325,9 @@ int32_t rathonsi_flash_take(RathonsiFlash *flash, uint16_t unit, uint8_t banks, 
 
 /* Says which operation comes next; the same until its outcome is reported. kind is
  * RATHONSI_FLASH_NONE if the store is ready, or is made.
- * RATHONSI_BAD_VALUE: the numbers of the struct are no plan of a store of so many cells.
- * RATHONSI_NO_STORE: no bank holds a store of so many cells.
+ * RATHONSI_BAD_VALUE: the numbers of the struct are no plan of a store of so many cells: they were
+ * begun with another number, say.
+ * RATHONSI_NO_STORE: no bank holds a store of so many cells, or the head of one tells another geometry.
  * RATHONSI_EXHAUSTED: the generation of the store is 2^64 - 1, so that it can't be copied again.
  * RATHONSI_FAILED: an operation failed. A put that was under way may be there after the next start, or
  * not. */

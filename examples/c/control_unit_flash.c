@@ -70,7 +70,7 @@ static uint32_t draw(uint32_t below) {
 
 static enum duty broken;
 static const char *harm;
-static long sent, accepted, done, loaded, cuts, failures, starts, puts_begun, erases, programs, reads;
+static long sent, accepted, done, loaded, cuts, failures, starts, others, puts_begun, erases, programs, reads;
 
 static void expect(int holds, const char *what) {
     if (!holds && harm == NULL)
@@ -537,12 +537,44 @@ static void move_store(void) {
     } while (status != RATHONSI_OK && harm == NULL);
 }
 
+/* Software with another table: another unit, number of banks, bank size or number of cells. It finds no store, and reads
+ * heads alone. */
+static void other_software(void) {
+    uint32_t which = draw(4), unit = part.unit, lines = part.lines;
+    uint8_t banks = part.banks;
+    size_t n = CELLS;
+    int32_t status;
+    if (which == 0)
+        unit = unit == 128u ? 64u : unit == 16u || unit == 64u ? unit / 2u : unit * 2u;
+    else if (which == 1)
+        banks = (uint8_t)(banks == MOST_BANKS ? banks - 1 : banks + 1);
+    else if (which == 2)
+        lines++;
+    else
+        n--;
+    forget();
+    expect(rathonsi_flash_begin(&flash, (uint16_t)unit, banks, lines * line_length, n) == RATHONSI_OK,
+           "a start of another table is refused");
+    while ((status = rathonsi_flash_next(&flash, cells, n, &operation)) == RATHONSI_OK && harm == NULL) {
+        expect(operation.kind == RATHONSI_FLASH_READ && operation.offset == 0, "another table does more than read heads");
+        if (harm == NULL) {
+            uint32_t outcome = perform();
+            expect(rathonsi_flash_did(&flash, cells, n, scratch, n, outcome, &operation) == RATHONSI_OK,
+                   "an outcome is refused");
+        }
+    }
+    expect(status == RATHONSI_NO_STORE, "a store of another table is taken");
+    others++;
+}
+
 static void one_event(void) {
     int which = (int)draw(ROUTES);
     uint64_t wanted = routes[which].counter + 1;
     int32_t status = RATHONSI_RESERVE;
     if (draw(300) == 0) {
         cuts++;
+        if (broken == KEEPS_ALL && draw(4) == 0)
+            other_software();
         power_up();
         return;
     }
@@ -600,10 +632,9 @@ int main(int count, char **words) {
         judge_wear();
     if (views != NULL)
         fclose(views);
-    printf("%ld events: sent %ld, accepted %ld, plans done %ld, keys loaded %ld; starts %ld, power cuts %ld, failures "
-           "%ld; reads %ld, "
-           "erases %ld, programs %ld\n",
-           n, sent, accepted, done, loaded, starts, cuts, failures, reads, erases, programs);
+    printf("%ld events: sent %ld, accepted %ld, plans done %ld, keys loaded %ld; starts %ld, of another table %ld, power "
+           "cuts %ld, failures %ld; reads %ld, erases %ld, programs %ld\n",
+           n, sent, accepted, done, loaded, starts, others, cuts, failures, reads, erases, programs);
     printf("%s%s%s\n", duty_names[broken], broken == KEEPS_ALL ? "" : ": ", harm != NULL ? harm : "no harm");
     return (harm != NULL) == (broken != KEEPS_ALL) ? 0 : 1;
 }

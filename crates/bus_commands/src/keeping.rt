@@ -227,7 +227,7 @@ fn keep_and_replay<K: Sink, D: CutDisk>(
     turns_leave_disks();
     turns_are_world_runs();
     if let Err(fault) = look_at_one(alloc, bus, disks) {
-        return tell_refusal(sink, &keep_refusal(alloc, fault));
+        return tell_refusal(sink, &keep_refusal(fault));
     }
     replay(alloc, bus, events, Start::Attach, sink, disks)
 }

@@ -53,7 +53,7 @@ pub fn replay<K: Sink, D: CutDisk>(
     let started = World::start(alloc, bus, disks, events.len() as u32, start);
     let mut world = match started {
         Ok(world) => world,
-        Err(fault) => return tell_refusal(sink, &start_refusal(alloc, &fault)),
+        Err(fault) => return tell_refusal(sink, &start_refusal(&fault)),
     };
     let printed = print_run::<World<D>, Texts, K>(alloc, &mut world, events, sink);
     world.finish(disks);

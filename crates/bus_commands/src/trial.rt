@@ -37,7 +37,7 @@ pub fn trial<K: Sink, D: CutDisk>(
     let started = World::start(alloc, bus, disks, events.len() as u32, Start::Format);
     let mut world = match started {
         Ok(world) => world,
-        Err(fault) => return tell_refusal(sink, &start_refusal(alloc, &fault)),
+        Err(fault) => return tell_refusal(sink, &start_refusal(&fault)),
     };
     let mut summary = Summary::none();
     count_run::<World<D>, Summary>(&mut world, events, &mut summary);

@@ -14,10 +14,10 @@ use Rattle.bus_world.specs.declared.start.Start.{Start}
 use Rattle.bus_world.specs.declared.start.StartFault.{StartFault}
 use Rattle.bus_world.specs.declared.start.StartFault.TheVariants.{TooFew, TooSmall, Store, BadSlot, BadBound, Memory}
 use Rattle.bus_world.specs.Starts.{NotStarted, HasRoom, OfNumber, RefusedAt}
-use Rattle.bus_world.specs.StartRows.{start_row, HasMadeText, IsStartRow, StoreCause, LeavesEach}
+use Rattle.bus_world.specs.StartRows.{start_row, StoreCause, LeavesEach}
 use Rattle.bus_world.proofs.StartRowLaws.{no_line, no_disk, refused_at_10, leaves_same, start_leaves, no_room_fault}
 use Rattle.bus_world.proofs.StartRowLaws.{no_store_cause}
-use Rattle.bus_world.specs.StartAnswers.{DiskStates, NoDiskFailed, CountsDiskFault, failed_row, MayWantMemory}
+use Rattle.bus_world.specs.StartAnswers.{DiskStates, NoDiskFailed, CountsDiskFault, failed_row}
 use Rattle.bus_world.specs.StartAnswers.{ComesOfStart, disks_refused, store_refused, start_without_memory, BusHasDisks}
 use Rattle.bus_world.specs.StartAnswers.{ComesUnstarted}
 
@@ -46,30 +46,10 @@ refused_calm start bus before after number f of i disk = elim (others_calm start
   | inr calm ↦ calm
 ]
 
--- if the text of a bus is made, none did
-made_calm : (start : Start) (bus : NamedBus) (d : DiskStates) (fault : StartFault) → length bus.nodes ≤ 8
-    → NotStarted start bus d.before d.after fault → HasMadeText fault → NoDiskFailed d
-made_calm start bus d TooFew few refused made = absurd made
-made_calm start bus d (TooSmall node) few refused made =
-    absurd (let no : ⊥ = omega (arith, few, refused.0.least, refused.0.most, made) in no)
-made_calm start bus d (Store node reread.DiskFailed) few refused made =
-    absurd (let no : ⊥ = omega (arith, few, refused.cause.least, refused.cause.most, made) in no)
-made_calm start bus d (Store node reread.NotFormatted) few refused made =
-    absurd (let no : ⊥ = omega (arith, few, refused.cause.least, refused.cause.most, made) in no)
-made_calm start bus d (Store node (reread.Damaged place)) few refused made =
-    refused_calm start bus d.before d.after node (open_fault.Store (reread.Damaged place)) refused.cause
-made_calm start bus d (BadSlot node slot) few refused made =
-    refused_calm start bus d.before d.after node (open_fault.BadSlot slot) refused.cause
-made_calm start bus d (BadBound node cell) few refused made =
-    refused_calm start bus d.before d.after node (open_fault.BadBound cell) refused.cause
-made_calm start bus d Memory few refused made = absurd made
-
 -- if there was no memory, none did
-none_failed : (start : Start) (bus : NamedBus) (d : DiskStates) (fault : StartFault) → MayWantMemory bus fault
-    → NotStarted start bus d.before d.after fault → NoDiskFailed d
-none_failed start bus d fault (inl is) refused =
-    (subst (λ (f : StartFault). NotStarted start bus d.before d.after f) is refused).memory refl
-none_failed start bus d fault (inr (few, made)) refused = made_calm start bus d fault few refused made
+none_failed : (start : Start) (bus : NamedBus) (d : DiskStates) → NotStarted start bus d.before d.after Memory
+    → NoDiskFailed d
+none_failed start bus d refused = refused.memory refl
 
 -- ---- the row
 
@@ -91,32 +71,16 @@ row_comes start bus d (BadSlot node slot) refused = store_row start bus d (BadSl
 row_comes start bus d (BadBound node cell) refused =
     store_row start bus d (BadBound node cell) refused refused.room refl
 row_comes start bus d Memory refused =
-    start_without_memory Memory (inl refl) refused (none_failed start bus d Memory (inl refl) refused)
+    start_without_memory Memory refl refused (none_failed start bus d refused)
 
--- a start of a bus that is refused ends in a row that comes
-pub Comes-not_started : (start : Start) (bus : NamedBus) (d : DiskStates) (fault : StartFault) (row : Row)
-    → length bus.nodes ≤ 8 → NotStarted start bus d.before d.after fault → IsStartRow fault row
-    → ComesOfStart start bus d row
-Comes-not_started start bus d fault row few refused (inl is) =
-    subst (ComesOfStart start bus d) (sym is) (row_comes start bus d fault refused)
-Comes-not_started start bus d fault row few refused (inr (made, memory)) =
-    let may : MayWantMemory bus fault = inr (few, made) in
-    subst (ComesOfStart start bus d) (sym memory)
-    (start_without_memory fault may refused (none_failed start bus d fault may refused))
-
--- a row of 9 is that of its fault
-status_9 : (fault : StartFault) (row : Row) → IsStartRow fault row → row.status ≡ 9 → (start_row fault).status ≡ 9
-status_9 fault row (inl is) nine = ap (λ (r : Row). r.status) (sym is) ∙ nine
-status_9 fault row (inr (made, memory)) nine =
-    let seven : row.status ≡ 7 = ap (λ (r : Row). r.status) memory in
-    absurd (let no : ⊥ = omega (arith, seven, nine) in no)
-
--- the same with what holds of the disks at 9
+-- a start of a bus that is refused ends in a row that comes, with what holds of the disks at 9
 pub Comes-unstarted : (same : Type 0) (start : Start) (bus : NamedBus) (d : DiskStates) (fault : StartFault) (row : Row)
     → length bus.nodes ≤ 8 → NotStarted start bus d.before d.after fault → ((start_row fault).status ≡ 9 → same)
-    → IsStartRow fault row → ComesUnstarted same start bus d row
-Comes-unstarted same start bus d fault row few refused unread is =
-    (Comes-not_started start bus d fault row few refused is, λ nine. unread (status_9 fault row is nine))
+    → row ≡ start_row fault → ComesUnstarted same start bus d row
+Comes-unstarted same start bus d fault row few refused unread is = (
+  subst (ComesOfStart start bus d) (sym is) (row_comes start bus d fault refused),
+  λ nine. unread (ap (λ (r : Row). r.status) (sym is) ∙ nine),
+)
 
 -- of the same disks the same is known
 module _ {D : Type 0} (state : D → DiskState) where

@@ -8,7 +8,7 @@ use Rattle.bus_world.specs.declared.start.Start.{Start}
 use Rattle.bus_world.specs.declared.start.StartFault.{StartFault}
 use Rattle.bus_world.specs.declared.start.StartFault.TheVariants as fault
 use Rattle.bus_world.specs.Starts.{NotStarted, HasRoom, FindsRoom}
-use Rattle.bus_world.specs.StartRows.{start_row, HasMadeText, StoreCause, LeavesEach, DisksDo}
+use Rattle.bus_world.specs.StartRows.{start_row, StoreCause, LeavesEach, DisksDo}
 
 -- what was known of the disks of a command before and after it
 pub record DiskStates : Type 0 where
@@ -27,10 +27,6 @@ CountsDiskFault d place = (disk : DiskState) → (get_or d.before place disk).fa
 abbrev pub failed_row : ℕ → Row
 failed_row place = start_row (fault.Store (place + 1) reread.DiskFailed)
 
--- memory may be out for a start itself; and for the row of a start over a bus, of 8 nodes at most, whose text is made
-abbrev pub MayWantMemory : NamedBus → StartFault → Type 0
-MayWantMemory bus cause = (cause ≡ fault.Memory) ⊎ ((length bus.nodes ≤ 8) × HasMadeText cause)
-
 -- the rows of a bus that doesn't start
 pub data ComesOfStart (start : Start) (bus : NamedBus) (d : DiskStates) : Row → Type 0 where
   -- the disks are fewer than the nodes, or that of a node is too small, and the first such node is named
@@ -39,8 +35,8 @@ pub data ComesOfStart (start : Start) (bus : NamedBus) (d : DiskStates) : Row �
   -- the disk of a node fails, or a node is refused for its bytes
   store_refused : (fault : StartFault) → HasRoom bus d.before → StoreCause start bus d.before d.after fault
       → LeavesEach start bus d.before d.after → ComesOfStart start bus d (row_of 10 (start_row fault).text)
-  -- there is no memory, and no disk failed
-  start_without_memory : (fault : StartFault) → MayWantMemory bus fault → NotStarted start bus d.before d.after fault
+  -- there is no memory for the start itself, and no disk failed
+  start_without_memory : (cause : StartFault) → cause ≡ fault.Memory → NotStarted start bus d.before d.after cause
       → NoDiskFailed d → ComesOfStart start bus d memory_row
 
 -- one of them comes; if it is that of 9 every disk is as before, and `same` says so of the disks themselves

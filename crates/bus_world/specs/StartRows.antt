@@ -39,26 +39,6 @@ start_row (fault.BadBound node cell) =
     row_of 10 (codes "store: node " ++ (decimal node ++ (codes ": BadBound " ++ (decimal cell ++ codes "\n"))))
 start_row fault.Memory = memory_row
 
--- a bus has 1 to 8 nodes, so none has this number
-abbrev pub IsOfNoBus : ℕ → Type 0
-IsOfNoBus number = (number < 1) ⊎ (8 < number)
-
--- The text of its row is made when it is printed, and takes memory: it says what is wrong in a node's cells, or names a
--- node that no bus has. All others are fixed, those of a failing disk among them.
-abbrev pub HasMadeText : StartFault → Type 0
-HasMadeText fault.TooFew = ⊥
-HasMadeText (fault.TooSmall node) = IsOfNoBus node
-HasMadeText (fault.Store node reread.DiskFailed) = IsOfNoBus node
-HasMadeText (fault.Store node reread.NotFormatted) = IsOfNoBus node
-HasMadeText (fault.Store node (reread.Damaged place)) = Unit {0}
-HasMadeText (fault.BadSlot node slot) = Unit {0}
-HasMadeText (fault.BadBound node cell) = Unit {0}
-HasMadeText fault.Memory = ⊥
-
--- that row; or out of memory, if its text is made
-abbrev pub IsStartRow : StartFault → Row → Type 0
-IsStartRow fault row = (row ≡ start_row fault) ⊎ (HasMadeText fault × (row ≡ memory_row))
-
 -- the disk of the named node failed in the call: its count rose, and it wasn't quiet; or the node is refused for its
 -- bytes
 abbrev pub StoreCause : Start → NamedBus → List DiskState → List DiskState → StartFault → Type 0

@@ -37,7 +37,7 @@ pub fn chart<K: Sink, D: CutDisk>(
     let started = World::start(alloc, bus, disks, events.len() as u32, Start::Format);
     let mut world = match started {
         Ok(world) => world,
-        Err(fault) => return tell_refusal(sink, &start_refusal(alloc, &fault)),
+        Err(fault) => return tell_refusal(sink, &start_refusal(&fault)),
     };
     let kept = lines_of_run(alloc, &mut world, events);
     world.finish(disks);

@@ -199,11 +199,11 @@ pub(crate) fn do_endpoint<T: Source, K: Sink, E: Sink, D: CutDisk>(
         image,
     } = job;
     if let Err(fault) = look_first(alloc, &bus, disks) {
-        return tell_refusal(errors, &keep_refusal(alloc, fault));
+        return tell_refusal(errors, &keep_refusal(fault));
     }
     let mut nodes = match open_nodes(alloc, &bus, disks, Start::Attach) {
         Ok(nodes) => nodes,
-        Err(fault) => return tell_refusal(errors, &start_refusal(alloc, &fault)),
+        Err(fault) => return tell_refusal(errors, &start_refusal(&fault)),
     };
     let node = nodes.take_last();
     let mut endpoint = Endpoint::new(node, rules, room);

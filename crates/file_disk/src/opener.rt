@@ -51,7 +51,10 @@ pub struct DiskPaths<'a> {
 
 impl<'a> DiskPaths<'a> {
     /// The files of this runtime; none was opened here.
-    pub fn of(rt: &'a HostRuntime) -> DiskPaths<'a> {
+    pub fn of(rt: &'a HostRuntime) -> DiskPaths<'a>
+        ensures opened { result.opened ≡ [] }
+        ensures made { result.made ≡ [] }
+    {
         DiskPaths {
             rt,
             opened: OpenedWords::none(),

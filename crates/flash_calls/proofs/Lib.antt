@@ -6,3 +6,4 @@ pub mod PutMoves
 pub mod PutLives
 pub mod CallerLemmas
 pub mod WearLives
+pub mod HeadLives

@@ -283,13 +283,13 @@ call_found s deeds first a b formatted begun lives is =
 
 -- ---- a store is made
 
-record Formats (s : FlashSizes) (cells : CellList) (a : CallState) : Type 0 where
-  banks_is : a.numbers.banks ≡ s.banks
-  count : length a.cells ≡ s.cells
-  kept : a.cells ≡ cells
-  formats : FormatsAt (plan_in a.numbers) a.cells a.flash
+pub record Formats (s : FlashSizes) (cells : CellList) (a : CallState) : Type 0 where
+  pub banks_is : a.numbers.banks ≡ s.banks
+  pub count : length a.cells ≡ s.cells
+  pub kept : a.cells ≡ cells
+  pub formats : FormatsAt (plan_in a.numbers) a.cells a.flash
 
-format_goes : (s : FlashSizes) (cells : CellList) (deed : CallDeed) (a b : CallState) → Formats s cells a → OperationDone deed a b → Formats s cells b
+pub format_goes : (s : FlashSizes) (cells : CellList) (deed : CallDeed) (a b : CallState) → Formats s cells a → OperationDone deed a b → Formats s cells b
 format_goes s cells (performs put outcome bytes) a b h d =
     let next = if_some (operation_of (plan_in a.numbers) a.cells)
     (λ it. PerformsBytes a.numbers.places (line_length a.numbers.unit) it outcome bytes a.flash b.flash

@@ -73,7 +73,7 @@ pub record ReadyStep (step : PlanStep) : Type 0 where
   pub next : ℕ
   pub is : step ≡ Ready bank generation next
 
-ready_step : (step : PlanStep) → IsIdleStep step → ReadyStep step
+pub ready_step : (step : PlanStep) → IsIdleStep step → ReadyStep step
 ready_step (Heading bank) idle = absurd idle
 ready_step (Copied bank generation done) idle = absurd idle
 ready_step (Puts bank generation place) idle = absurd idle

@@ -1,13 +1,16 @@
 -- All lives of a caller that keeps its duties: it performs what the calls say, and reports what came of it. The power
 -- may go at any time.
-use Rattle.std.specs.Prelude.{◌≡◌, ◌⊎◌, ℕ, nat_eq, if◌then◌else◌, Option, Some, List, [], ◌∷◌, ◌++◌, length}
+use Rattle.std.specs.Prelude.{◌≡◌, ◌⊎◌, ◌<◌, ℕ, nat_eq, if◌then◌else◌, Option, Some, List, [], ◌∷◌, ◌++◌, length, take}
 use Rattle.flash_places.specs.Places.{Flash}
 use Rattle.flash_laws.specs.Logs.{CellList}
 use Rattle.flash_laws.specs.Lives.{FlashLayout, FlashDeed, FlashFormatted, off}
 use Rattle.flash_laws.specs.CutFormats.{CutFormatted}
 use Rattle.flash_log.specs.Going.{machine}
-use Rattle.flash_lines.specs.Lines.{line_length}
+pub use Rattle.flash_lines.specs.declared.sizes.FlashSizes.{FlashSizes}
+use Rattle.flash_lines.specs.Lines.{line_length, untold}
+use Rattle.flash_places.specs.declared.FlashLine.TheVariants.{Head}
 use Rattle.flash_plan.specs.declared.operations.Operation.{Operation}
+use Rattle.flash_plan.specs.declared.operations.Operation.TheVariants.{Read, Erase, Program}
 use Rattle.flash_plan.specs.declared.operations.FlashOutcome.{FlashOutcome}
 use Rattle.flash_plan.specs.declared.operations.FlashOutcome.TheVariants.{Done, Failed}
 use Rattle.flash_plan.specs.declared.plans.WaitingPut.{WaitingPut}
@@ -15,26 +18,42 @@ use Rattle.flash_plan.specs.Performing.{DoesOperation}
 use Rattle.flash_plan.specs.Plans.{Fails, IsIdle, operation_of, put_in}
 use Rattle.flash_plan.specs.Turns.{deed_in}
 use Rattle.flash_calls.specs.declared.numbers.FlashNumbers.{FlashNumbers}
-use Rattle.flash_calls.specs.Numbers.{plan_in}
-use Rattle.flash_calls.specs.Operations.{PerformsBytes}
+use Rattle.flash_calls.specs.Numbers.{plan_in, head_sizes}
+use Rattle.flash_calls.specs.Operations.{PerformsBytes, ReadsHead, IsOtherSize}
 use Rattle.flash_calls.specs.Calls.{Begun, FormatBegun, DidMoves, PutTaken}
-
--- what the caller says of its part in every life: unit and bank_size in bytes, how many banks, how many cells
-pub record FlashSizes : Type 0 where
-  pub unit : ℕ
-  pub banks : ℕ
-  pub bank_size : ℕ
-  pub cells : ℕ
 
 abbrev pub sizes_layout : FlashSizes → FlashLayout
 sizes_layout s = record { banks = s.banks; cells = s.cells }
 
--- what the caller holds, and its flash
+-- what the head of each bank tells, if it has one
+abbrev pub ToldHeads : Type 0
+ToldHeads = ℕ → FlashSizes
+
+-- what the caller holds, its flash, and what heads tell there
 pub record CallState : Type 0 where
   pub numbers : FlashNumbers
   pub cells : CellList
   pub scratch : CellList
   pub flash : Flash
+  pub heads : ToldHeads
+
+-- a head that is programmed, done or cut, tells these sizes; nothing else changes what heads tell
+abbrev pub heads_after : FlashSizes → Operation → ToldHeads → ToldHeads
+heads_after told (Read bank place) heads x = heads x
+heads_after told (Erase bank) heads x = heads x
+heads_after told (Program bank place line) heads x =
+    if nat_eq place 0 then (if nat_eq bank x then told else heads x) else heads x
+
+-- no forged head: one that is read tells what that of its bank tells
+abbrev pub ReadsToldHeads : ToldHeads → Operation → ℕ → List ℕ → Type 0
+ReadsToldHeads heads it outcome line = (told : FlashSizes) (r : ReadsHead it outcome line told) → told ≡ heads r.bank
+
+-- what heads tell, and the caller's part, after an operation
+abbrev pub KeepsHeads : FlashNumbers → Operation → ToldHeads → ToldHeads → Type 0
+KeepsHeads numbers it old new = (x : ℕ) → new x ≡ heads_after (head_sizes numbers) it old x
+
+abbrev pub SameHeads : ToldHeads → ToldHeads → Type 0
+SameHeads old new = (x : ℕ) → new x ≡ old x
 
 -- What happens. The operation that comes next is performed, and its outcome is reported with these bytes; `put` is the
 -- put whose line it programs, if it is one. A put is taken. All begins again: as the caller likes, or since the power
@@ -55,6 +74,8 @@ pub record PerformsNext (put : Option WaitingPut) (outcome : ℕ) (bytes : List 
   pub comes : ComesNext put a
   pub performed : PerformsBytes a.numbers.places (line_length a.numbers.unit) comes.operation outcome bytes a.flash
       b.flash
+  pub told : ReadsToldHeads a.heads comes.operation outcome (take (line_length a.numbers.unit) bytes)
+  pub heads : KeepsHeads a.numbers comes.operation a.heads b.heads
   pub reported : DidMoves outcome bytes a.numbers a.cells a.scratch b.numbers b.cells b.scratch
 
 pub record TakesPut (cell : ℕ) (payload : List ℕ) (a b : CallState) : Type 0 where
@@ -62,6 +83,7 @@ pub record TakesPut (cell : ℕ) (payload : List ℕ) (a b : CallState) : Type 0
   pub cells : b.cells ≡ a.cells
   pub scratch : b.scratch ≡ a.scratch
   pub flash : b.flash ≡ a.flash
+  pub heads : SameHeads a.heads b.heads
 
 -- a plan was begun at power-up; cells and scratch have any bytes
 pub record CallBegun (s : FlashSizes) (a : CallState) : Type 0 where
@@ -71,6 +93,7 @@ pub record CallBegun (s : FlashSizes) (a : CallState) : Type 0 where
 pub record StartsAgain (s : FlashSizes) (a b : CallState) : Type 0 where
   pub begun : CallBegun s b
   pub flash : b.flash ≡ a.flash
+  pub heads : SameHeads a.heads b.heads
 
 -- the operation leaves what a failed one may leave, and then all begins again
 pub record IsCutNext (s : FlashSizes) (put : Option WaitingPut) (a b : CallState) : Type 0 where
@@ -78,6 +101,7 @@ pub record IsCutNext (s : FlashSizes) (put : Option WaitingPut) (a b : CallState
   pub outcome : FlashOutcome
   pub fails : Fails comes.operation outcome
   pub leaves : DoesOperation comes.operation outcome a.flash b.flash
+  pub heads : KeepsHeads a.numbers comes.operation a.heads b.heads
   pub begun : CallBegun s b
 
 abbrev pub DoesCall : FlashSizes → CallDeed → CallState → CallState → Type 0
@@ -152,3 +176,15 @@ IsPutOf cell payload i c = (i ≡ cell) × (c ≡ payload)
 -- no put is taken
 abbrev pub TakesNoPut : List CallDeed → Type 0
 TakesNoPut deeds = EachPutTaken (λ i c. ⊥) deeds
+
+-- each head of a bank of this part tells this
+abbrev pub EachHeadTells : FlashSizes → (FlashSizes → Type 0) → CallState → Type 0
+EachHeadTells s P a =
+    (bank generation : ℕ) → bank < s.banks → (a.flash bank 0).content ≡ Some (Head generation) → P (a.heads bank)
+
+-- it tells these sizes; or none, as a store that an earlier version made
+abbrev pub TellsOwn : FlashSizes → FlashSizes → Type 0
+TellsOwn s told = told ≡ s
+
+abbrev pub TellsOwnOrNone : FlashSizes → FlashSizes → Type 0
+TellsOwnOrNone s told = (told ≡ s) ⊎ (told ≡ untold)

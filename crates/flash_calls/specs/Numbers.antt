@@ -1,8 +1,11 @@
 -- A plan as numbers, in a struct that C keeps.
 use Rattle.std.specs.Prelude.{true, false, nat_eq, if◌then◌else◌, Option, Some, None}
+use Rattle.flash_lines.specs.declared.sizes.FlashSizes.{FlashSizes}
+use Rattle.flash_lines.specs.Lines.{untold}
 use Rattle.flash_log.specs.declared.scanning.Best.{Best}
 use Rattle.flash_log.specs.declared.scanning.Best.TheVariants.{NoLog, One, Tie}
 use Rattle.flash_plan.specs.declared.plans.PlanEnd.TheVariants.{NoStore, Exhausted, Formatted, Failed as end_failed}
+use Rattle.flash_plan.specs.declared.plans.PlanEnd.TheVariants.{OtherSizes}
 use Rattle.flash_plan.specs.declared.plans.WaitingPut.{WaitingPut}
 use Rattle.flash_plan.specs.declared.plans.PlanStep.{PlanStep}
 use Rattle.flash_plan.specs.declared.plans.PlanStep.TheVariants.{Heading, Copied, Puts, Free, Erasing, Copying}
@@ -27,7 +30,8 @@ step_in n =
     else (if nat_eq n.kind 9 then Clearing n.bank
     else (if nat_eq n.kind 10 then Filling n.done
     else (if nat_eq n.kind 11 then Ended Formatted
-    else Ended end_failed)))))))))))
+    else (if nat_eq n.kind 12 then Ended OtherSizes
+    else Ended end_failed))))))))))))
 
 abbrev pub best_in : BestNumbers → Best
 best_in n =
@@ -53,3 +57,11 @@ plan_in n = record {
   latest = n.latest;
   put = waiting_in n.put;
 }
+
+-- the sizes that these numbers say
+abbrev pub sizes_in : FlashNumbers → FlashSizes
+sizes_in n = record { unit = n.unit; banks = n.banks; bank_size = n.bank_size; cells = n.cells }
+
+-- what a head tells that is programmed: these sizes; none if this start has read a head that tells none
+abbrev pub head_sizes : FlashNumbers → FlashSizes
+head_sizes n = if nat_eq n.is_untold 0 then sizes_in n else untold

@@ -4,7 +4,8 @@ use Rattle.std.specs.Prelude.{Option, Some, None, List, take}
 use Rattle.flash_places.specs.declared.Answer.TheVariants.{Blank, Nothing}
 use Rattle.flash_places.specs.Places.{Flash, SameFlash, SameButAt, Erases, CutsErase, Programs, CutsProgram, LooksAt}
 use Rattle.flash_places.specs.State.{BlankBehind}
-use Rattle.flash_lines.specs.Lines.{line_bytes, line_length}
+use Rattle.flash_lines.specs.declared.sizes.FlashSizes.{FlashSizes}
+use Rattle.flash_lines.specs.Lines.{line_bytes, line_length, untold, TellsSizes}
 use Rattle.flash_lines.specs.Reading.{PlaceReads}
 use Rattle.flash_lines.specs.declared.units.UnitSize.{UnitSize}
 use Rattle.flash_lines.specs.Units.{unit_bytes}
@@ -21,11 +22,12 @@ use Rattle.flash_calls.specs.Numbers.{plan_in}
 abbrev pub IsProgramUnit : ℕ → Type 0
 IsProgramUnit unit = (size : UnitSize) × (unit_bytes size ≡ unit)
 
--- these numbers are a plan of a store of n cells, over banks that a number of 32 bits counts the bytes of
+-- these numbers are a plan of a store of n cells, and say so, over banks that a number of 32 bits counts the bytes of
 pub record IsCallOf (n : ℕ) (flash : FlashNumbers) : Type 0 where
   pub unit : IsProgramUnit flash.unit
   pub plan : IsPlanOf n (plan_in flash)
   pub small : flash.places * line_length flash.unit < 2 ^ 32
+  pub cells_is : flash.cells ≡ n
 
 -- a flash of so many banks of so many bytes has room for a store of n cells
 pub record FitsPart (unit banks bank_size n : ℕ) : Type 0 where
@@ -36,16 +38,16 @@ pub record FitsPart (unit banks bank_size n : ℕ) : Type 0 where
   pub routes : n ≤ 270
   pub room : n + 2 ≤ bank_size / line_length unit
 
--- the struct says this operation, on lines of so many bytes
-abbrev pub SaysOperation : ℕ → Option Operation → FlashOperation → Type 0
-SaysOperation size None o = o.kind ≡ 0
-SaysOperation size (Some (Read bank place)) o =
+-- the struct says this operation, on lines of so many bytes; a head tells these sizes
+abbrev pub SaysOperation : ℕ → FlashSizes → Option Operation → FlashOperation → Type 0
+SaysOperation size told None o = o.kind ≡ 0
+SaysOperation size told (Some (Read bank place)) o =
     (o.kind ≡ 1) × ((o.bank ≡ bank) × ((o.offset ≡ place * size) × (o.length ≡ size)))
-SaysOperation size (Some (Erase bank)) o =
+SaysOperation size told (Some (Erase bank)) o =
     (o.kind ≡ 2) × ((o.bank ≡ bank) × ((o.offset ≡ 0) × (o.length ≡ 0)))
-SaysOperation size (Some (Program bank place line)) o =
+SaysOperation size told (Some (Program bank place line)) o =
     (o.kind ≡ 3) × ((o.bank ≡ bank) × ((o.offset ≡ place * size) × ((o.length ≡ size)
-    × (take size o.bytes ≡ line_bytes size line))))
+    × (take size o.bytes ≡ line_bytes size told line))))
 
 -- what a read gave: bytes, blank, or nothing
 pub data GaveRead (bank place : ℕ) (outcome : ℕ) (bytes : List ℕ) (f g : Flash) : Type 0 where
@@ -92,3 +94,20 @@ abbrev pub IsPlaceBelow : ℕ → Operation → Type 0
 IsPlaceBelow places (Read bank place) = place < places
 IsPlaceBelow places (Erase bank) = Unit {0}
 IsPlaceBelow places (Program bank place line) = place < places
+
+-- the head of a bank was read, by this number and these bytes, and it tells these sizes
+pub record ReadsHead (operation : Operation) (outcome : ℕ) (line : List ℕ) (told : FlashSizes) : Type 0 where
+  pub bank : ℕ
+  pub is : operation ≡ Read bank 0
+  pub done : outcome ≡ 0
+  pub tells : TellsSizes line told
+
+-- a head that tells this is of another store than one of these sizes: it tells some, and others
+abbrev pub IsOtherSize : FlashSizes → FlashSizes → Type 0
+IsOtherSize own told = (told ≢ untold) × (told ≢ own)
+
+-- a head was read that is of another store
+pub record ReadsOtherHead (own : FlashSizes) (operation : Operation) (outcome : ℕ) (line : List ℕ) : Type 0 where
+  pub told : FlashSizes
+  pub reads : ReadsHead operation outcome line told
+  pub other : IsOtherSize own told

@@ -2,15 +2,16 @@
 ghost use Rattle.std.specs.Prelude.{◌≡◌, ◌<◌, ◌/◌, ◌↔◌, length, true, MatchOption, MatchResult, OnErr};
 ghost use Rattle.flash_lines.specs.Lines.{line_length};
 ghost use Rattle.flash_plan.specs.Plans.{IsIdle};
-ghost use Rattle.flash_calls.specs.Numbers.{plan_in};
+ghost use Rattle.flash_calls.specs.Numbers.{plan_in, sizes_in};
 ghost use Rattle.flash_calls.specs.Operations.{IsProgramUnit, IsCallOf, FitsPart};
+ghost use Rattle.flash_calls.specs.Calls.{EndsIfOther, IsUntoldAfter};
 ghost use Rattle.flash_calls.specs.Calls.{IsLineSize, Begun, FormatBegun, refusal_of, SaysNext, DidMoves, PutTaken};
 ghost use Rattle.flash_calls.specs.Calls.{FlashNextRefused, FlashDidRefused, FlashPutRefused};
 ghost use Rattle.flash_calls.specs.declared.calls.FlashRefusal.TheVariants.{BadValue};
 
-use crate::numbers::{FlashNumbers, numbers_of, plan_of};
-use crate::operations::{FlashOperation, outcome_of, say_operation};
-use flash_lines::UnitSize;
+use crate::numbers::{FlashNumbers, head_sizes, numbers_of, plan_of, sizes_of};
+use crate::operations::{FlashOperation, is_other, is_untold, outcome_of, say_operation, told_by};
+use flash_lines::{FlashSizes, UnitSize};
 use flash_plan::{FlashPlan, PlanEnd, PlanPutFault, PlanStep};
 
 /// Why a call does nothing, or that the plan has ended.
@@ -20,7 +21,7 @@ pub enum FlashRefusal {
     BadLength,
     /// The numbers are no plan of so many cells, or no part that a store fits.
     BadValue,
-    /// No bank holds a store of so many cells.
+    /// No bank holds a store of so many cells, or the head of one tells other sizes.
     NoStore,
     /// The plan isn't idle.
     Busy,
@@ -44,6 +45,9 @@ fn call_size(flash: &FlashNumbers, cells: usize) -> Option<usize>
         (λ size. IsLineSize flash.now.unit size × IsCallOf cells flash.now) }
 {
     let size = size_of(flash.unit)?;
+    if flash.cells as usize != cells {
+        return None;
+    }
     if flash.places as u64 * size as u64 >= 4_294_967_296 {
         return None;
     }
@@ -95,7 +99,13 @@ pub fn begin(
     let Some(places) = places_of(unit, banks, bank_size, cells) else {
         return Err(FlashRefusal::BadValue);
     };
-    *flash = numbers_of(&FlashPlan::start(banks, places), unit);
+    let sizes = FlashSizes {
+        unit,
+        banks,
+        bank_size,
+        cells: cells as u16,
+    };
+    *flash = numbers_of(&FlashPlan::start(banks, places), &sizes, 0);
     Ok(())
 }
 
@@ -114,7 +124,13 @@ pub fn take(
     let Some(places) = places_of(unit, banks, bank_size, cells) else {
         return Err(FlashRefusal::BadValue);
     };
-    *flash = numbers_of(&FlashPlan::format(banks, places), unit);
+    let sizes = FlashSizes {
+        unit,
+        banks,
+        bank_size,
+        cells: cells as u16,
+    };
+    *flash = numbers_of(&FlashPlan::format(banks, places), &sizes, 0);
     Ok(())
 }
 
@@ -124,6 +140,7 @@ fn refusal_of(step: &PlanStep) -> Option<FlashRefusal>
 {
     match *step {
         PlanStep::Ended(PlanEnd::NoStore) => Some(FlashRefusal::NoStore),
+        PlanStep::Ended(PlanEnd::OtherSizes) => Some(FlashRefusal::NoStore),
         PlanStep::Ended(PlanEnd::Exhausted) => Some(FlashRefusal::Exhausted),
         PlanStep::Ended(PlanEnd::Failed) => Some(FlashRefusal::Failed),
         _ => None,
@@ -147,8 +164,30 @@ pub fn next(
     if let Some(refusal) = refusal_of(&plan.step) {
         return Err(refusal);
     }
-    *operation = say_operation(plan.next(cells), size, plan.places);
+    let told = head_sizes(flash);
+    *operation = say_operation(plan.next(cells), &told, size, plan.places);
     Ok(())
+}
+
+/// The numbers of a plan after an operation, with what a head told that was read. A head of other sizes ends the plan.
+fn numbers_after(flash: &FlashNumbers, plan: &FlashPlan, told: Option<FlashSizes>) -> FlashNumbers
+    ensures plan { EndsIfOther (sizes_in flash.now) told plan.now (plan_in result) }
+    ensures unit { result.unit ≡ flash.now.unit }
+    ensures bank_size { result.bank_size ≡ flash.now.bank_size }
+    ensures cells { result.cells ≡ flash.now.cells }
+    ensures untold { IsUntoldAfter flash.now.is_untold told result.is_untold }
+{
+    let sizes = sizes_of(flash);
+    let Some(told) = told else {
+        return numbers_of(plan, &sizes, flash.is_untold);
+    };
+    if is_other(&told, &sizes) {
+        let mut ended = *plan;
+        ended.step = PlanStep::Ended(PlanEnd::OtherSizes);
+        return numbers_of(&ended, &sizes, flash.is_untold);
+    }
+    let untold = if is_untold(&told) { 1 } else { flash.is_untold };
+    numbers_of(plan, &sizes, untold)
 }
 
 /// Takes the outcome of the operation that comes next.
@@ -179,7 +218,8 @@ pub fn did(
         scratch,
         outcome_of(&operation, outcome, &bytes[..size]),
     );
-    *flash = numbers_of(&plan, flash.unit);
+    let told = told_by(&operation, outcome, &bytes[..size]);
+    *flash = numbers_after(flash, &plan, told);
     Ok(())
 }
 
@@ -203,7 +243,7 @@ pub fn put(
     let mut plan = plan_of(flash);
     match plan.put(cells, cell, payload) {
         Ok(()) => {
-            *flash = numbers_of(&plan, flash.unit);
+            *flash = numbers_of(&plan, &sizes_of(flash), flash.is_untold);
             Ok(())
         }
         Err(PlanPutFault::NotIdle) => Err(FlashRefusal::Busy),

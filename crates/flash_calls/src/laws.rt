@@ -3,12 +3,13 @@
 //! A caller begins a plan at power-up ([`begin`](crate::begin)), performs each operation that [`next`](crate::next)
 //! says, and reports its outcome to [`did`](crate::did). It hands in a put by [`put`](crate::put). The power may go
 //! between two operations or within one, and then all begins again (`CallLives`).
-ghost use Rattle.std.specs.Prelude.{◌≡◌, ◌⊎◌, ◌+◌, ◌*◌, ◌≤◌, ℕ, suc, List, Some, length, set};
+ghost use Rattle.std.specs.Prelude.{◌≡◌, ◌⊎◌, ◌+◌, ◌*◌, ◌≤◌, ℕ, suc, List, Some, None, length, set};
+ghost use Rattle.flash_plan.specs.declared.operations.Operation.TheVariants.{Read};
 ghost use Rattle.flash_laws.specs.Logs.{CellList};
 ghost use Rattle.flash_laws.specs.CutFormats.{CutFormatted};
 ghost use Rattle.flash_laws.specs.Lives.{FlashFormatted, Possible, off};
 ghost use Rattle.flash_log.specs.Going.{machine};
-ghost use Rattle.flash_plan.specs.declared.plans.PlanEnd.TheVariants.{NoStore, Formatted, Failed as end_failed};
+ghost use Rattle.flash_plan.specs.declared.plans.PlanEnd.TheVariants.{NoStore, Formatted, Failed as end_failed, OtherSizes};
 ghost use Rattle.flash_plan.specs.declared.plans.PlanStep.TheVariants.{Ended};
 ghost use Rattle.flash_plan.specs.declared.operations.Operation.{Operation};
 ghost use Rattle.flash_plan.specs.Performing.{MayBegin};
@@ -17,6 +18,10 @@ ghost use Rattle.flash_calls.specs.Numbers.{plan_in};
 ghost use Rattle.flash_calls.specs.CallLives.{FlashSizes, CallState, CallDeed, CallLives, OperationsDone};
 ghost use Rattle.flash_calls.specs.CallLives.{CallBegun, CallFormatBegun, sizes_layout, puts_made, IsFoundStore};
 ghost use Rattle.flash_calls.specs.CallLives.{TakesPut, EachPutTaken, IsPutOf, TakesNoPut};
+ghost use Rattle.flash_calls.specs.CallLives.{EachHeadTells, TellsOwn, TellsOwnOrNone};
+ghost use Rattle.flash_calls.specs.Operations.{IsOtherSize};
+ghost use Rattle.flash_calls.specs.Calls.{refusal_of};
+ghost use Rattle.flash_calls.specs.declared.calls.FlashRefusal.TheVariants.{NoStore as no_store};
 ghost use Rattle.flash_calls.specs.CallWear.{LivesErasing, starts_in, bank_puts, ReportsFailure};
 
 /// A put is there whole or not at all over all lives. The cells of an idle plan are what the puts that were done made
@@ -98,4 +103,37 @@ pub fn a_plan_fails_only_by_a_report()
 pub fn a_start_skips_older_banks()
     ensures { (s : FlashSizes) (deeds : List CallDeed) (a b : CallState) → CallBegun s a → CallLives s deeds a b
         → SkipsOlder (plan_in b.numbers).best (plan_in b.numbers).step }
+{}
+
+/// A start over the store of another part, or of other sizes, ends without one. If each head on the flash tells other
+/// sizes than those with which the calls begin, then over any number of starts no plan is idle, and nothing but heads
+/// is read: nothing is erased or programmed. So no older store is taken for it. If no operation failed, each start ends
+/// in `NoStore` (`ends`).
+pub fn a_start_over_another_geometry_is_refused()
+    ensures idle { (s : FlashSizes) (deeds : List CallDeed) (a b : CallState) → CallBegun s a
+        → EachHeadTells s (IsOtherSize s) a → CallLives s deeds a b → IsIdle (plan_in b.numbers) → ⊥ }
+    ensures reads { (s : FlashSizes) (deeds : List CallDeed) (a b : CallState) (it : Operation) → CallBegun s a
+        → EachHeadTells s (IsOtherSize s) a → CallLives s deeds a b
+        → operation_of (plan_in b.numbers) b.cells ≡ Some it → (bank : ℕ) × (it ≡ Read bank 0) }
+    ensures ends { (s : FlashSizes) (deeds : List CallDeed) (a b : CallState) → CallBegun s a
+        → EachHeadTells s (IsOtherSize s) a → CallLives s deeds a b → operation_of (plan_in b.numbers) b.cells ≡ None
+        → (refusal_of (plan_in b.numbers).step ≡ Some no_store) ⊎ ((plan_in b.numbers).step ≡ Ended end_failed) }
+{}
+
+/// No start is refused for its sizes over a flash whose heads tell these sizes or none, and over all lives they go on
+/// so: a store that an earlier version made tells none.
+pub fn a_start_over_its_own_geometry_is_not_refused()
+    ensures goes { (s : FlashSizes) (deeds : List CallDeed) (a b : CallState) → CallBegun s a
+        → EachHeadTells s (TellsOwnOrNone s) a → CallLives s deeds a b
+        → (plan_in b.numbers).step ≡ Ended OtherSizes → ⊥ }
+    ensures stays { (s : FlashSizes) (deeds : List CallDeed) (a b : CallState) → CallBegun s a
+        → EachHeadTells s (TellsOwnOrNone s) a → CallLives s deeds a b → EachHeadTells s (TellsOwnOrNone s) b }
+{}
+
+/// Each head of a store that [`take`](crate::take) made tells its sizes, and over all lives each head goes on so.
+pub fn a_store_tells_its_geometry()
+    ensures made { (s : FlashSizes) (deeds : List CallDeed) (a b : CallState) → CallFormatBegun s a
+        → OperationsDone deeds a b → (plan_in b.numbers).step ≡ Ended Formatted → EachHeadTells s (TellsOwn s) b }
+    ensures stays { (s : FlashSizes) (deeds : List CallDeed) (a b : CallState) → CallBegun s a
+        → EachHeadTells s (TellsOwn s) a → CallLives s deeds a b → EachHeadTells s (TellsOwn s) b }
 {}

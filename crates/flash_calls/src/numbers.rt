@@ -1,11 +1,20 @@
 //! A plan as numbers.
 ghost use Rattle.std.specs.Prelude.{◌≡◌};
-ghost use Rattle.flash_calls.specs.Numbers.{step_in, best_in, waiting_in, plan_in};
+ghost use Rattle.flash_calls.specs.Numbers.{step_in, best_in, waiting_in, plan_in, sizes_in, head_sizes};
 
+use flash_lines::FlashSizes;
 use flash_log::{Best, FoundLog};
 use flash_plan::{FlashPlan, PlanEnd, PlanStep, WaitingPut};
 
-/// A step as numbers: its kind, 0 to 11, and what it has. Every other kind is a plan that has failed.
+/// Sizes that say nothing.
+pub(crate) const UNTOLD: FlashSizes = FlashSizes {
+    unit: 0,
+    banks: 0,
+    bank_size: 0,
+    cells: 0,
+};
+
+/// A step as numbers: its kind, 0 to 12, and what it has. Every other kind is a plan that has failed.
 #[derive(Clone, Copy)]
 #[repr(C)]
 pub struct StepNumbers {
@@ -48,10 +57,17 @@ pub struct FlashNumbers {
     pub best: BestNumbers,
     pub put: PutNumbers,
     pub places: u32,
+    /// How many bytes a bank has.
+    pub bank_size: u32,
     /// The unit of the part, in bytes.
     pub unit: u16,
+    /// How many cells the store has.
+    pub cells: u16,
     pub banks: u8,
-    pub unused: u8,
+    /// 0 unless this start has read a head that tells no sizes. Heads that are programmed then tell none either, so
+    /// that software which knows of no sizes still reads them.
+    pub is_untold: u8,
+    pub unused: [u8; 6],
 }
 
 fn step_of(n: &StepNumbers) -> PlanStep
@@ -96,6 +112,7 @@ fn step_of(n: &StepNumbers) -> PlanStep
         9 => PlanStep::Clearing { bank },
         10 => PlanStep::Filling { done },
         11 => PlanStep::Ended(PlanEnd::Formatted),
+        12 => PlanStep::Ended(PlanEnd::OtherSizes),
         _ => PlanStep::Ended(PlanEnd::Failed),
     }
 }
@@ -182,7 +199,8 @@ fn step_numbers(step: &PlanStep) -> StepNumbers
         PlanStep::Ended(PlanEnd::NoStore) => n.kind = 7,
         PlanStep::Ended(PlanEnd::Exhausted) => n.kind = 8,
         PlanStep::Ended(PlanEnd::Formatted) => n.kind = 11,
-        PlanStep::Ended(PlanEnd::Failed) => n.kind = 12,
+        PlanStep::Ended(PlanEnd::OtherSizes) => n.kind = 12,
+        PlanStep::Ended(PlanEnd::Failed) => n.kind = 13,
     }
     n
 }
@@ -276,10 +294,36 @@ pub fn plan_of(n: &FlashNumbers) -> FlashPlan
     }
 }
 
-/// A plan as numbers, for a part of this unit.
-pub fn numbers_of(plan: &FlashPlan, unit: u16) -> FlashNumbers
+/// The sizes of a part and its store, as these numbers say them.
+pub fn sizes_of(n: &FlashNumbers) -> FlashSizes
+    ensures { result ≡ sizes_in n.now }
+{
+    FlashSizes {
+        unit: n.unit,
+        banks: n.banks,
+        bank_size: n.bank_size,
+        cells: n.cells,
+    }
+}
+
+/// What a head tells that is programmed.
+pub(crate) fn head_sizes(n: &FlashNumbers) -> FlashSizes
+    ensures { result ≡ head_sizes n.now }
+{
+    if n.is_untold == 0 {
+        sizes_of(n)
+    } else {
+        UNTOLD
+    }
+}
+
+/// A plan as numbers, for a part and a store of these sizes. The banks are those of the plan.
+pub fn numbers_of(plan: &FlashPlan, sizes: &FlashSizes, is_untold: u8) -> FlashNumbers
     ensures plan { plan_in result ≡ plan.now }
-    ensures unit { result.unit ≡ unit }
+    ensures unit { result.unit ≡ sizes.now.unit }
+    ensures bank_size { result.bank_size ≡ sizes.now.bank_size }
+    ensures cells { result.cells ≡ sizes.now.cells }
+    ensures untold { result.is_untold ≡ is_untold }
 {
     let latest = plan.latest;
     FlashNumbers {
@@ -288,8 +332,11 @@ pub fn numbers_of(plan: &FlashPlan, unit: u16) -> FlashNumbers
         best: best_numbers(&plan.best),
         put: put_numbers(&plan.put),
         places: plan.places,
-        unit,
+        bank_size: sizes.bank_size,
+        unit: sizes.unit,
+        cells: sizes.cells,
         banks: plan.banks,
-        unused: 0,
+        is_untold,
+        unused: [0; 6],
     }
 }

@@ -3,3 +3,4 @@ pub mod LineLaws
 pub mod Written
 pub mod Parts
 pub mod Looking
+pub mod CallerLemmas

@@ -2,10 +2,13 @@
 ghost use Rattle.std.specs.Prelude.{◌≡◌, ◌≤◌, length, IfSome, MatchOption};
 ghost use Rattle.flash_places.specs.declared.FlashLine.{FlashLine};
 ghost use Rattle.flash_places.specs.Places.{FlashPlace, Looks};
-ghost use Rattle.flash_lines.specs.Lines.{line_body, line_bytes, IsFlashLine, HoldsLine, HoldsNoLine};
+ghost use Rattle.flash_lines.specs.declared.sizes.FlashSizes.{FlashSizes};
+ghost use Rattle.flash_lines.specs.Lines.{sizes_bytes, line_body, line_bytes, IsFlashLine, HoldsLine, HoldsNoLine};
+ghost use Rattle.flash_lines.specs.Lines.{TellsSizes, TellsNoSizes};
 ghost use Rattle.flash_lines.specs.Reading.{PlaceReads};
 
 use crate::crc::crc64;
+use crate::sizes::FlashSizes;
 use flash_places::FlashLine;
 
 const HEAD: u8 = 0x5a;
@@ -14,10 +17,31 @@ const ENTRY: u8 = 0xa5;
 
 const MARK: u8 = 0x96;
 
-/// The body of a line, 35 bytes.
+/// Sizes as bytes: the unit, the banks, the bytes of a bank, the cells.
+#[tactic(auto, unfolding(crate::specs::Lines::sizes_bytes))]
+fn sizes_bytes(sizes: &FlashSizes) -> [u8; 9]
+    ensures { result ≡ sizes_bytes sizes.now }
+{
+    let [unit_high, unit_low] = sizes.unit.to_be_bytes();
+    let [first, second, third, fourth] = sizes.bank_size.to_be_bytes();
+    let [cells_high, cells_low] = sizes.cells.to_be_bytes();
+    [
+        unit_high,
+        unit_low,
+        sizes.banks,
+        first,
+        second,
+        third,
+        fourth,
+        cells_high,
+        cells_low,
+    ]
+}
+
+/// The body of a line, 35 bytes. A head tells these sizes.
 #[tactic(auto, unfolding(crate::specs::Lines::line_body))]
-fn line_body(line: &FlashLine) -> [u8; 35]
-    ensures value { result ≡ line_body line.now }
+fn line_body(told: &FlashSizes, line: &FlashLine) -> [u8; 35]
+    ensures value { result ≡ line_body told.now line.now }
     ensures size { length result ≡ 35 }
 {
     let mut body = [0; 35];
@@ -25,6 +49,7 @@ fn line_body(line: &FlashLine) -> [u8; 35]
         FlashLine::Head(generation) => {
             body[0] = HEAD;
             body[1..9].copy_from_slice(&generation.to_be_bytes());
+            body[9..18].copy_from_slice(&sizes_bytes(told));
         }
         FlashLine::Entry(cell, payload) => {
             let [high, low] = cell.to_be_bytes();
@@ -37,12 +62,12 @@ fn line_body(line: &FlashLine) -> [u8; 35]
     body
 }
 
-/// Writes a line: all these bytes, of which there are 44 at least.
-pub fn line_bytes(line: &FlashLine, bytes: &mut [u8])
+/// Writes a line: all these bytes, of which there are 44 at least. A head tells these sizes.
+pub fn line_bytes(told: &FlashSizes, line: &FlashLine, bytes: &mut [u8])
     requires { 44 ≤ length bytes.old }
-    ensures { bytes.new ≡ line_bytes (length bytes.old) line.now }
+    ensures { bytes.new ≡ line_bytes (length bytes.old) told.now line.now }
 {
-    let body = line_body(line);
+    let body = line_body(told, line);
     let last = bytes.len() - 1;
     bytes[..35].copy_from_slice(&body);
     bytes[35..43].copy_from_slice(&crc64(&body).to_be_bytes());
@@ -72,6 +97,19 @@ fn line_parts(bytes: &[u8]) -> Option<FlashLine>
     }
 }
 
+/// The sizes that these bytes can tell alone.
+fn told_parts(bytes: &[u8]) -> FlashSizes
+    requires { 44 ≤ length bytes.now }
+    ensures { (told : FlashSizes) → TellsSizes bytes.now told → result ≡ told }
+{
+    FlashSizes {
+        unit: u16::from_be_bytes([bytes[9], bytes[10]]),
+        banks: bytes[11],
+        bank_size: u32::from_be_bytes([bytes[12], bytes[13], bytes[14], bytes[15]]),
+        cells: u16::from_be_bytes([bytes[16], bytes[17]]),
+    }
+}
+
 /// The line that these bytes are, 44 to 128 of them; none if they are no line.
 pub fn read_line(bytes: &[u8]) -> Option<FlashLine>
     requires least { 44 ≤ length bytes.now }
@@ -80,8 +118,21 @@ pub fn read_line(bytes: &[u8]) -> Option<FlashLine>
     ensures looks { (p q : FlashPlace) → PlaceReads p bytes.now q → Looks p result q }
 {
     let line = line_parts(bytes)?;
+    let told = told_parts(bytes);
     let mut again = [0; 128];
     let again = &mut again[..bytes.len()];
-    line_bytes(&line, again);
+    line_bytes(&told, &line, again);
     if *again == *bytes { Some(line) } else { None }
+}
+
+/// The sizes that these bytes tell, 44 to 128 of them; none if they are no head.
+pub fn told_sizes(bytes: &[u8]) -> Option<FlashSizes>
+    requires least { 44 ≤ length bytes.now }
+    requires most { length bytes.now ≤ 128 }
+    ensures { MatchOption result (TellsNoSizes bytes.now) (TellsSizes bytes.now) }
+{
+    match read_line(bytes)? {
+        FlashLine::Head(_) => Some(told_parts(bytes)),
+        FlashLine::Entry(_, _) => None,
+    }
 }

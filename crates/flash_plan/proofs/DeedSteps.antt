@@ -16,7 +16,7 @@ use Rattle.flash_plan.specs.declared.operations.FlashOutcome.{FlashOutcome}
 use Rattle.flash_plan.specs.declared.operations.FlashOutcome.TheVariants.{Answered, Done, Failed}
 use Rattle.flash_plan.specs.declared.plans.WaitingPut.{WaitingPut}
 use Rattle.flash_plan.specs.declared.plans.PlanEnd.{PlanEnd}
-use Rattle.flash_plan.specs.declared.plans.PlanEnd.TheVariants.{NoStore, Exhausted, Formatted, Failed as end_failed}
+use Rattle.flash_plan.specs.declared.plans.PlanEnd.TheVariants.{NoStore, Exhausted, Formatted, Failed as end_failed, OtherSizes}
 use Rattle.flash_plan.specs.declared.plans.PlanStep.{PlanStep}
 use Rattle.flash_plan.specs.declared.plans.PlanStep.TheVariants.{Heading, Copied, Puts, Free, Erasing, Copying, Ready, Clearing, Filling, Ended}
 use Rattle.flash_plan.specs.declared.plans.FlashPlan.{FlashPlan}
@@ -34,6 +34,7 @@ ends_off l cells at f NoStore h = subst (λ (m : FlashMachine). Goes l m (machin
 ends_off l cells at f Exhausted h = subst (λ (m : FlashMachine). Goes l m (machine f off)) (sym h.is) (same_off l f f _ (λ x k. refl))
 ends_off l cells at f Formatted h = absurd h
 ends_off l cells at f end_failed h = subst (λ (m : FlashMachine). Goes l m (machine f off)) (sym h) (goes_none l (machine f off))
+ends_off l cells at f OtherSizes h = subst (λ (m : FlashMachine). Goes l m (machine f off)) (sym h) (goes_none l (machine f off))
 
 pub step_off : (l : FlashLayout) (best : Best) (latest : List ℕ) (cells scratch : CellList) (at : FlashMachine) (f : Flash) (step : PlanStep)
     → StepAt l best latest cells scratch at f step → Goes l at (machine f off)

@@ -6,13 +6,14 @@ use Rattle.flash_places.specs.declared.FlashLine.TheVariants.{Head, Entry}
 use Rattle.flash_laws.specs.Logs.{CellList}
 use Rattle.flash_laws.specs.Lives.{next_bank}
 use Rattle.flash_laws.proofs.CallerLemmas.{next_cases}
+use Rattle.flash_log.specs.declared.scanning.Best.TheVariants.{NoLog}
 use Rattle.flash_plan.specs.declared.operations.Operation.TheVariants.{Program}
 use Rattle.flash_plan.specs.declared.plans.WaitingPut.{WaitingPut}
-use Rattle.flash_plan.specs.declared.plans.PlanEnd.TheVariants.{Formatted}
+use Rattle.flash_plan.specs.declared.plans.PlanEnd.TheVariants.{Formatted, OtherSizes}
 use Rattle.flash_plan.specs.declared.plans.PlanStep.{PlanStep}
 use Rattle.flash_plan.specs.declared.plans.PlanStep.TheVariants.{Heading, Copied, Puts, Free, Erasing, Copying, Ready, Clearing, Filling, Ended}
 use Rattle.flash_plan.specs.declared.plans.FlashPlan.{FlashPlan}
-use Rattle.flash_plan.specs.Plans.{step_programmed, step_cleared, step_filled, put_operation, step_operation, operation_of, put_at, put_in, put_left, fails_in_step, failed_plan, SkipsOlder}
+use Rattle.flash_plan.specs.Plans.{step_programmed, step_cleared, step_filled, put_operation, step_operation, operation_of, put_at, put_in, put_left, fails_in_step, failed_plan, SkipsOlder, FindsNothing}
 use Rattle.flash_plan.specs.Wear.{puts_to_bank, erases_by, erase_credit}
 
 -- ---- an erase is paid for
@@ -126,3 +127,32 @@ fails_skips plan put (Ended end) h = h
 
 pub failed_skips : (plan new : FlashPlan) → new ≡ failed_plan plan → SkipsOlder plan.best plan.step → SkipsOlder new.best new.step
 failed_skips plan new is h = subst (λ (p : FlashPlan). SkipsOlder p.best p.step) (sym is) (fails_skips plan plan.put plan.step h)
+
+-- ---- a start that read no head
+
+pub failed_nothing : (plan new : FlashPlan) (bank : ℕ) → new ≡ failed_plan plan → plan.step ≡ Heading bank → plan.best ≡ NoLog → FindsNothing new
+failed_nothing plan new bank is at none =
+    subst FindsNothing (sym (is ∙ ap (fails_in_step plan plan.put) at)) tt
+
+-- a plan that failed has made no store
+pub failed_clears : (plan new : FlashPlan) (bank : ℕ) → new ≡ failed_plan plan → plan.step ≡ Clearing bank → new.step ≡ Ended Formatted → ⊥
+failed_clears plan new bank is at made =
+    absurd (let e = sym (ap (λ (p : FlashPlan). p.step) (is ∙ ap (fails_in_step plan plan.put) at)) ∙ made in cc)
+
+-- nor does it say that a head is of other sizes
+fails_other : (plan : FlashPlan) (put : Option WaitingPut) (step : PlanStep) → (fails_in_step plan put step).step ≡ Ended OtherSizes
+    → plan.step ≡ Ended OtherSizes
+fails_other plan put (Heading bank) is = absurd (cc)
+fails_other plan put (Copied bank generation done) is = absurd (cc)
+fails_other plan put (Puts bank generation place) is = absurd (cc)
+fails_other plan put (Free bank generation next place) is = absurd (cc)
+fails_other plan put (Erasing bank generation) is = absurd (cc)
+fails_other plan put (Copying bank generation done) is = absurd (cc)
+fails_other plan None (Ready bank generation next) is = is
+fails_other plan (Some waiting) (Ready bank generation next) is = absurd (cc)
+fails_other plan put (Clearing bank) is = absurd (cc)
+fails_other plan put (Filling done) is = absurd (cc)
+fails_other plan put (Ended end) is = is
+
+pub failed_other : (plan new : FlashPlan) → new ≡ failed_plan plan → new.step ≡ Ended OtherSizes → plan.step ≡ Ended OtherSizes
+failed_other plan new is other = fails_other plan plan.put plan.step (ap (λ (p : FlashPlan). p.step) (sym is) ∙ other)

@@ -7,6 +7,7 @@ use Rattle.flash_laws.specs.Lives.{FlashLayout, FlashFormatted, off}
 use Rattle.flash_log.specs.Going.{machine, BlankFrom}
 use Rattle.flash_plan.specs.declared.plans.PlanEnd.{PlanEnd}
 use Rattle.flash_plan.specs.declared.plans.PlanEnd.TheVariants.{NoStore, Exhausted, Formatted, Failed as end_failed}
+use Rattle.flash_plan.specs.declared.plans.PlanEnd.TheVariants.{OtherSizes}
 use Rattle.flash_plan.specs.declared.plans.PlanStep.{PlanStep}
 use Rattle.flash_plan.specs.declared.plans.PlanStep.TheVariants.{Heading, Copied, Puts, Free, Erasing, Copying, Ready}
 use Rattle.flash_plan.specs.declared.plans.PlanStep.TheVariants.{Clearing, Filling, Ended}
@@ -30,6 +31,7 @@ FormatEnds l cells f NoStore = ⊥
 FormatEnds l cells f Exhausted = ⊥
 FormatEnds l cells f Formatted = FlashFormatted l cells (machine f off)
 FormatEnds l cells f end_failed = Unit {0}
+FormatEnds l cells f OtherSizes = ⊥
 
 abbrev pub FormatStep : FlashLayout → CellList → Flash → PlanStep → Type 0
 FormatStep l cells f (Heading bank) = ⊥

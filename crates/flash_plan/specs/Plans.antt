@@ -4,7 +4,7 @@ use Rattle.std.specs.Prelude.{nat_eq, nat_lt, if◌then◌else◌, false}
 use Rattle.flash_places.specs.declared.FlashLine.TheVariants.{Head, Entry}
 use Rattle.flash_laws.specs.Logs.{CellList}
 use Rattle.flash_laws.specs.Lives.{next_bank}
-use Rattle.flash_log.specs.Taking.{last_generation}
+use Rattle.flash_log.specs.Taking.{last_generation, generation_in}
 use Rattle.flash_log.specs.Scanned.{is_past}
 use Rattle.flash_log.specs.declared.scanning.Best.{Best}
 use Rattle.flash_log.specs.declared.scanning.Best.TheVariants.{NoLog, One, Tie}
@@ -12,7 +12,9 @@ use Rattle.flash_plan.specs.declared.operations.Operation.{Operation}
 use Rattle.flash_plan.specs.declared.operations.Operation.TheVariants.{Read, Erase, Program}
 use Rattle.flash_plan.specs.declared.operations.FlashOutcome.{FlashOutcome}
 use Rattle.flash_plan.specs.declared.operations.FlashOutcome.TheVariants.{Answered, Done, Failed}
-use Rattle.flash_plan.specs.declared.plans.PlanEnd.TheVariants.{Formatted, Failed as end_failed}
+use Rattle.flash_plan.specs.declared.plans.PlanEnd.{PlanEnd}
+use Rattle.flash_plan.specs.declared.plans.PlanEnd.TheVariants.{NoStore, Exhausted, Formatted, Failed as end_failed}
+use Rattle.flash_plan.specs.declared.plans.PlanEnd.TheVariants.{OtherSizes}
 use Rattle.flash_plan.specs.declared.plans.WaitingPut.{WaitingPut}
 use Rattle.flash_plan.specs.declared.plans.PlanStep.{PlanStep}
 use Rattle.flash_plan.specs.declared.plans.PlanStep.TheVariants.{Heading, Copied, Puts, Free, Erasing, Copying, Ready}
@@ -220,6 +222,37 @@ SkipsOlder best (Ready bank generation next) = Unit {0}
 SkipsOlder best (Clearing bank) = Unit {0}
 SkipsOlder best (Filling done) = Unit {0}
 SkipsOlder best (Ended end) = Unit {0}
+
+-- a plan ends so without a log that was found
+abbrev pub EndsWithout : PlanEnd → Type 0
+EndsWithout NoStore = Unit {0}
+EndsWithout Exhausted = ⊥
+EndsWithout Formatted = ⊥
+EndsWithout end_failed = Unit {0}
+EndsWithout OtherSizes = Unit {0}
+
+-- no bank is read on behind its head: the next head is read, and no log was found, or the plan has ended without one
+abbrev pub HeadsAlone : Best → PlanStep → Type 0
+HeadsAlone best (Heading bank) = best ≡ NoLog
+HeadsAlone best (Copied bank generation done) = ⊥
+HeadsAlone best (Puts bank generation place) = ⊥
+HeadsAlone best (Free bank generation next place) = ⊥
+HeadsAlone best (Erasing bank generation) = ⊥
+HeadsAlone best (Copying bank generation done) = ⊥
+HeadsAlone best (Ready bank generation next) = ⊥
+HeadsAlone best (Clearing bank) = ⊥
+HeadsAlone best (Filling done) = ⊥
+HeadsAlone best (Ended end) = EndsWithout end
+
+-- a start has found nothing so far: no log, and no head that it read on behind
+abbrev pub FindsNothing : FlashPlan → Type 0
+FindsNothing plan = HeadsAlone plan.best plan.step
+
+-- this outcome of a read is no head
+abbrev pub ReadsNoHead : FlashOutcome → Type 0
+ReadsNoHead (Answered answer) = generation_in answer ≡ None
+ReadsNoHead Done = Unit {0}
+ReadsNoHead Failed = Unit {0}
 
 -- a put that waits takes one program
 abbrev pub put_left : Option WaitingPut → ℕ

@@ -17,6 +17,7 @@ use Rattle.flash_plan.specs.declared.operations.FlashOutcome.TheVariants.{Answer
 use Rattle.flash_plan.specs.declared.plans.WaitingPut.{WaitingPut}
 use Rattle.flash_plan.specs.declared.plans.PlanEnd.{PlanEnd}
 use Rattle.flash_plan.specs.declared.plans.PlanEnd.TheVariants.{NoStore, Exhausted, Formatted, Failed as end_failed}
+use Rattle.flash_plan.specs.declared.plans.PlanEnd.TheVariants.{OtherSizes}
 use Rattle.flash_plan.specs.declared.plans.PlanStep.{PlanStep}
 use Rattle.flash_plan.specs.declared.plans.PlanStep.TheVariants.{Heading, Copied, Puts, Free, Erasing, Copying, Ready}
 use Rattle.flash_plan.specs.declared.plans.PlanStep.TheVariants.{Clearing, Filling, Ended}
@@ -102,6 +103,7 @@ EndsAt l cells at f NoStore = ReadsFrom at (λ first. NoLogCounts l first f)
 EndsAt l cells at f Exhausted = IsLastAt cells at f
 EndsAt l cells at f Formatted = ⊥
 EndsAt l cells at f end_failed = at ≡ machine f off
+EndsAt l cells at f OtherSizes = at ≡ machine f off
 
 abbrev pub StepAt : FlashLayout → Best → List ℕ → CellList → CellList → FlashMachine → Flash → PlanStep → Type 0
 StepAt l best latest cells scratch at f (Heading bank) =

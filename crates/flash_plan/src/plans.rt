@@ -7,7 +7,7 @@ ghost use Rattle.flash_log.specs.Going.{machine};
 ghost use Rattle.flash_log.specs.Taking.{last_generation};
 ghost use Rattle.flash_plan.specs.Performing.{IsWithinFlash, MayBegin};
 ghost use Rattle.flash_plan.specs.Plans.{IsPlanOf, StepFits, BestFits, IsIdle, IsFullAt, SameSizes, copy_operation};
-ghost use Rattle.flash_plan.specs.Plans.{operation_of, operations_left};
+ghost use Rattle.flash_plan.specs.Plans.{operation_of, operations_left, FindsNothing};
 ghost use Rattle.flash_plan.specs.Standing.{plan_layout, StandsAt};
 ghost use Rattle.flash_plan.specs.Formatting.{FormatsAt};
 ghost use Rattle.flash_plan.specs.Telling.{PlaceAnswers, IsTold};
@@ -29,6 +29,9 @@ pub enum PlanEnd {
     Failed,
     /// A store was made of the cells.
     Formatted,
+    /// The head of a bank tells other sizes than those of the caller. A plan doesn't see what a head tells: the crate
+    /// that reads its bytes ends it so.
+    OtherSizes,
 }
 
 /// A cell that takes this payload next.
@@ -195,6 +198,7 @@ impl FlashPlan {
         ensures none { result.put ≡ None }
         ensures told { (told : PlaceAnswers) → IsTold told result }
         ensures first { result.step ≡ Heading 0 }
+        ensures nothing { FindsNothing result }
     {
         FlashPlan {
             banks,

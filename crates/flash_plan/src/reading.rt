@@ -8,14 +8,15 @@ ghost use Rattle.flash_laws.specs.Logs.{CellList};
 ghost use Rattle.flash_laws.specs.Lives.{off};
 ghost use Rattle.flash_log.specs.Going.{machine};
 ghost use Rattle.flash_log.specs.Scanned.{is_past};
-ghost use Rattle.flash_log.specs.Taking.{last_generation};
+ghost use Rattle.flash_log.specs.Taking.{last_generation, generation_in};
 ghost use Rattle.flash_log.specs.declared.scanning.Best.{Best};
+ghost use Rattle.flash_log.specs.declared.scanning.Best.TheVariants.{NoLog};
 ghost use Rattle.flash_plan.specs.Telling.{PlaceAnswers, LogTold, StartTold, StepTold, IsTold};
 ghost use Rattle.flash_plan.specs.Plans.{IsPlanOf, StepFits, KeepsPut, SkipsOlder, step_after, step_left};
-ghost use Rattle.flash_plan.specs.Plans.{operations_left};
+ghost use Rattle.flash_plan.specs.Plans.{operations_left, HeadsAlone, FindsNothing};
 ghost use Rattle.flash_plan.specs.Standing.{plan_layout, StandsAt, BeforeBank, WithinBank, ReadsCopy, ReadsPuts};
 ghost use Rattle.flash_plan.specs.Standing.{ReadsBank, ReadsFree, Reaches, ReachesStep};
-ghost use Rattle.flash_plan.specs.declared.plans.PlanEnd.TheVariants.{Exhausted, Failed as end_failed};
+ghost use Rattle.flash_plan.specs.declared.plans.PlanEnd.TheVariants.{Exhausted, Failed as end_failed, OtherSizes};
 ghost use Rattle.flash_plan.specs.declared.plans.PlanStep.TheVariants.{Erasing, Ended};
 
 use crate::plans::{FlashPlan, PlanEnd, PlanStep};
@@ -60,6 +61,7 @@ fn after_cell(bank: u8, generation: u64, done: u16, cells: usize) -> PlanStep
     requires few { cells < 2 ^ 16 }
     ensures is { result ≡ step_after bank generation done cells }
     ensures not_failed { result ≢ Ended end_failed }
+    ensures not_other { result ≢ Ended OtherSizes }
     ensures skips { (best : Best) → is_past best generation ≡ false → SkipsOlder best result }
 {
     if (done as usize) + 1 < cells {
@@ -82,6 +84,7 @@ fn renewing(bank: u8, generation: u64) -> PlanStep
     ensures copied { generation ≢ last_generation → result ≡ Erasing bank generation }
     ensures next { generation ≢ last_generation → generation < last_generation }
     ensures not_failed { result ≢ Ended end_failed }
+    ensures not_other { result ≢ Ended OtherSizes }
     ensures skips { (best : Best) → SkipsOlder best result }
 {
     if generation == u64::MAX {
@@ -110,6 +113,7 @@ impl FlashPlan {
         ensures told { (told : PlaceAnswers) → StartTold told self.old.places (suc bank) self.old.best self.old.latest
             → LogTold told self.old.places bank log
             → StartTold told self.old.places (suc bank) self.new.best self.new.latest }
+        ensures none { log ≡ None → self.new.best ≡ self.old.best }
     {
         let log = match log {
             Some(log) => log,
@@ -129,6 +133,7 @@ impl FlashPlan {
         requires inside { bank < self.now.banks }
         ensures fits { StepFits self.now.banks self.now.places (length cells.now) result None }
         ensures not_failed { result ≢ Ended end_failed }
+        ensures not_other { result ≢ Ended OtherSizes }
         ensures skips { SkipsOlder self.now.best result }
         ensures less { step_left self.now.banks self.now.places (length cells.now) None result
             ≤ (self.now.banks - suc bank) * self.now.places + (length cells.now + 2) }
@@ -138,6 +143,7 @@ impl FlashPlan {
             (machine first off) f result }
         ensures told { (told : PlaceAnswers) → StartTold told self.now.places (suc bank) self.now.best self.now.latest
             → StepTold told self.now.banks self.now.places None self.now.best self.now.latest result }
+        ensures no_log { self.now.best ≡ NoLog → HeadsAlone self.now.best result }
     {
         if bank + 1 < self.banks {
             return PlanStep::Heading { bank: bank + 1 };
@@ -176,6 +182,7 @@ impl FlashPlan {
         ensures plan { IsPlanOf (length cells.old) self.new }
         ensures same { KeepsPut self.old self.new }
         ensures not_failed { self.new.step ≢ Ended end_failed }
+        ensures not_other { self.new.step ≢ Ended OtherSizes }
         ensures skips { SkipsOlder self.new.best self.new.step }
         ensures less { operations_left (length cells.old) self.new
             ≤ (self.old.banks - suc bank) * self.old.places + (length cells.old + 2) }
@@ -186,6 +193,7 @@ impl FlashPlan {
             (machine first off) f }
         ensures told { (told : PlaceAnswers) → StartTold told self.old.places (suc bank) self.old.best self.old.latest
             → LogTold told self.old.places bank log → IsTold told self.new }
+        ensures no_log { log ≡ None → self.old.best ≡ NoLog → FindsNothing self.new }
     {
         self.take_log(cells, scratch, bank, log);
         self.step = self.after_bank(bank, cells);
@@ -206,6 +214,7 @@ impl FlashPlan {
         ensures plan { IsPlanOf (length cells.old) self.new }
         ensures same { KeepsPut self.old self.new }
         ensures not_failed { self.new.step ≢ Ended end_failed }
+        ensures not_other { self.new.step ≢ Ended OtherSizes }
         ensures skips { SkipsOlder self.new.best self.new.step }
         ensures less { operations_left (length cells.old) self.new
             < (self.old.banks - bank) * self.old.places + (length cells.old + 2) }
@@ -216,6 +225,7 @@ impl FlashPlan {
             (machine first off) g }
         ensures told { (told : PlaceAnswers) → StartTold told self.old.places bank self.old.best self.old.latest
             → answer ≡ told bank 0 → IsTold told self.new }
+        ensures no_head { generation_in answer ≡ None → self.old.best ≡ NoLog → FindsNothing self.new }
     {
         note(&mut self.latest, bank, latest_of(&answer));
         match generation_of(&answer) {
@@ -252,6 +262,7 @@ impl FlashPlan {
         ensures plan { IsPlanOf (length cells.old) self.new }
         ensures same { KeepsPut self.old self.new }
         ensures not_failed { self.new.step ≢ Ended end_failed }
+        ensures not_other { self.new.step ≢ Ended OtherSizes }
         ensures skips { is_past self.old.best generation ≡ false → SkipsOlder self.new.best self.new.step }
         ensures less { operations_left (length cells.old) self.new
             < (self.old.banks - bank) * self.old.places - suc done + (length cells.old + 2) }
@@ -291,6 +302,7 @@ impl FlashPlan {
         ensures plan { IsPlanOf (length cells.old) self.new }
         ensures same { KeepsPut self.old self.new }
         ensures not_failed { self.new.step ≢ Ended end_failed }
+        ensures not_other { self.new.step ≢ Ended OtherSizes }
         ensures skips { is_past self.old.best generation ≡ false → SkipsOlder self.new.best self.new.step }
         ensures less { operations_left (length cells.old) self.new
             < (self.old.banks - bank) * self.old.places - place + (length cells.old + 2) }
@@ -339,6 +351,7 @@ impl FlashPlan {
         ensures plan { IsPlanOf (length cells.old) self.new }
         ensures same { KeepsPut self.old self.new }
         ensures not_failed { self.new.step ≢ Ended end_failed }
+        ensures not_other { self.new.step ≢ Ended OtherSizes }
         ensures skips { is_past self.old.best generation ≡ false → SkipsOlder self.new.best self.new.step }
         ensures less { operations_left (length cells.old) self.new
             < (self.old.banks - bank) * self.old.places - place + (length cells.old + 2) }
@@ -399,6 +412,7 @@ impl FlashPlan {
         ensures plan { IsPlanOf (length cells.old) self.new }
         ensures same { KeepsPut self.old self.new }
         ensures not_failed { self.new.step ≢ Ended end_failed }
+        ensures not_other { self.new.step ≢ Ended OtherSizes }
         ensures skips { is_past self.old.best generation ≡ false → SkipsOlder self.new.best self.new.step }
         ensures less { operations_left (length cells.old) self.new
             < (self.old.banks - bank) * self.old.places - place + (length cells.old + 2) }

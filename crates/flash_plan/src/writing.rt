@@ -1,20 +1,21 @@
 //! What the outcome of an operation leads to.
-ghost use Rattle.std.specs.Prelude.{◌≡◌, ◌≢◌, ◌+◌, ◌*◌, ◌^◌, ◌<◌, ◌≤◌, ◌⊎◌, ◌↔◌, length, true, None, IfSome};
+ghost use Rattle.std.specs.Prelude.{◌≡◌, ◌≢◌, ◌+◌, ◌*◌, ◌^◌, ◌<◌, ◌≤◌, ◌⊎◌, ◌↔◌, ℕ, length, true, None, IfSome};
 ghost use Rattle.flash_places.specs.Places.{Flash};
 ghost use Rattle.flash_laws.specs.Logs.{CellList};
 ghost use Rattle.flash_laws.specs.Lives.{FlashMachine};
-ghost use Rattle.flash_log.specs.Taking.{last_generation};
+ghost use Rattle.flash_log.specs.Taking.{last_generation, generation_in};
+ghost use Rattle.flash_log.specs.declared.scanning.Best.TheVariants.{NoLog};
 ghost use Rattle.flash_plan.specs.Performing.{Performs};
 ghost use Rattle.flash_plan.specs.Plans.{IsPlanOf, SameSizes, KeepsPut, IsFailure, failed_plan, operation_of, put_in};
 ghost use Rattle.flash_plan.specs.Plans.{step_programmed, step_cleared, step_filled, ReadsAt, ChangesAt};
-ghost use Rattle.flash_plan.specs.Plans.{operations_left, put_left, SkipsOlder};
+ghost use Rattle.flash_plan.specs.Plans.{operations_left, put_left, SkipsOlder, ReadsNoHead, FindsNothing};
 ghost use Rattle.flash_plan.specs.Wear.{puts_to_bank, erases_by, erase_credit};
 ghost use Rattle.flash_plan.specs.Standing.{plan_layout, StandsAt, PlanMovesOn};
 ghost use Rattle.flash_plan.specs.Formatting.{FormatsAt};
 ghost use Rattle.flash_plan.specs.Telling.{PlaceAnswers, AnswersSo, IsTold};
 ghost use Rattle.flash_plan.specs.declared.operations.FlashOutcome.TheVariants.{Answered, Done};
-ghost use Rattle.flash_plan.specs.declared.plans.PlanEnd.TheVariants.{Failed as end_failed};
-ghost use Rattle.flash_plan.specs.declared.plans.PlanStep.TheVariants.{Ended};
+ghost use Rattle.flash_plan.specs.declared.plans.PlanEnd.TheVariants.{Formatted, Failed as end_failed, OtherSizes};
+ghost use Rattle.flash_plan.specs.declared.plans.PlanStep.TheVariants.{Heading, Clearing, Ended};
 
 use crate::operations::FlashOutcome;
 use crate::plans::{FlashPlan, PlanEnd, PlanStep};
@@ -26,6 +27,7 @@ fn after_filling(done: u16, cells: usize) -> PlanStep
     requires few { cells < 2 ^ 16 }
     ensures is { result ≡ step_filled done cells }
     ensures not_failed { result ≢ Ended end_failed }
+    ensures not_other { result ≢ Ended OtherSizes }
 {
     if done as usize >= cells {
         return PlanStep::Ended(PlanEnd::Formatted);
@@ -95,6 +97,7 @@ impl FlashPlan {
         ensures plan { IsPlanOf (length cells.old) self.new }
         ensures same { KeepsPut self.old self.new }
         ensures not_failed { self.new.step ≢ Ended end_failed }
+        ensures not_other { self.new.step ≢ Ended OtherSizes }
         ensures less { operations_left (length cells.old) self.new < operations_left (length cells.old) self.old }
         ensures steps { (at : FlashMachine) (f g : Flash)
             → StandsAt (plan_layout self.old (length cells.old)) self.old cells.old scratch.old at f
@@ -104,6 +107,8 @@ impl FlashPlan {
         ensures told { (told : PlaceAnswers) → IsTold told self.old → IfSome (operation_of self.old cells.old) (λ it.
             AnswersSo told it (Answered answer) → IsTold told self.new) }
         ensures skips { SkipsOlder self.old.best self.old.step → SkipsOlder self.new.best self.new.step }
+        ensures no_head { (bank : ℕ) → self.old.step ≡ Heading bank → generation_in answer ≡ None
+            → self.old.best ≡ NoLog → FindsNothing self.new }
     {
         match self.step {
             PlanStep::Heading { bank } => self.after_head(cells, scratch, bank, answer),
@@ -134,6 +139,7 @@ impl FlashPlan {
         ensures plan { IsPlanOf (length cells.old) self.new }
         ensures sizes { SameSizes self.old self.new }
         ensures not_failed { self.new.step ≢ Ended end_failed }
+        ensures not_other { self.new.step ≢ Ended OtherSizes }
         ensures less { (operation_of self.old cells.old ≡ None → ⊥)
             → operations_left (length cells.old) self.new < operations_left (length cells.old) self.old }
         ensures none { operation_of self.old cells.old ≡ None → self.new ≡ self.old }
@@ -150,6 +156,7 @@ impl FlashPlan {
             self.new cells.new scratch at g) }
         ensures told { (told : PlaceAnswers) → IsTold told self.old → IsTold told self.new }
         ensures skips { SkipsOlder self.new.best self.new.step }
+        ensures cleared { (bank : ℕ) → self.old.step ≡ Clearing bank → self.new.step ≢ Ended Formatted }
         ensures wear { erases_by (operation_of self.old cells.old) * puts_to_bank self.old.places (length cells.old)
             + erase_credit self.old.places (length cells.old) self.new.step
             ≤ erase_credit self.old.places (length cells.old) self.old.step + put_left (put_in self.old) }
@@ -196,6 +203,8 @@ impl FlashPlan {
         requires sixteen { self.now.banks ≤ 16 }
         ensures is { result ≡ step_cleared self.now.banks bank }
         ensures not_failed { result ≢ Ended end_failed }
+        ensures not_other { result ≢ Ended OtherSizes }
+        ensures not_formatted { result ≢ Ended Formatted }
     {
         if bank == 0 {
             return PlanStep::Filling { done: 0 };
@@ -212,6 +221,7 @@ impl FlashPlan {
         requires few { cells < 2 ^ 16 }
         ensures is { result ≡ step_programmed self.now.banks bank generation done cells }
         ensures not_failed { result ≢ Ended end_failed }
+        ensures not_other { result ≢ Ended OtherSizes }
     {
         if (done as usize) < cells {
             return PlanStep::Copying {
@@ -253,11 +263,15 @@ impl FlashPlan {
         ensures none { operation_of self.old cells.old ≡ None → self.new ≡ self.old }
         ensures failed { self.new.step ≡ Ended end_failed → (self.old.step ≡ Ended end_failed)
             ⊎ IsFailure (operation_of self.old cells.old) outcome }
+        ensures other { self.new.step ≡ Ended OtherSizes → self.old.step ≡ Ended OtherSizes }
         ensures fails { IsFailure (operation_of self.old cells.old) outcome → self.new ≡ failed_plan self.old }
         ensures waits { put_in self.old ≡ None → (IsFailure (operation_of self.old cells.old) outcome → ⊥)
             → self.new.put ≡ self.old.put }
         ensures taken { put_in self.old ≢ None → self.new.put ≡ None }
         ensures kept { (ReadsAt self.old.step → ⊥) → put_in self.old ≡ None → cells.new ≡ cells.old }
+        ensures no_head { (bank : ℕ) → self.old.step ≡ Heading bank → ReadsNoHead outcome → self.old.best ≡ NoLog
+            → FindsNothing self.new }
+        ensures cleared { (bank : ℕ) → self.old.step ≡ Clearing bank → self.new.step ≢ Ended Formatted }
     {
         match outcome {
             FlashOutcome::Answered(answer) => {

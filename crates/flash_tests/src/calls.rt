@@ -5,6 +5,8 @@ ghost use Rattle.std.specs.Prelude.{◌≡◌, length};
 use flash_calls::{
     FlashNumbers, FlashOperation, FlashRefusal, begin, did, next, numbers_of, put, take,
 };
+use flash_lines::{FlashSizes, line_bytes, read_line, told_sizes};
+use flash_places::FlashLine;
 use flash_plan::FlashPlan;
 use std::process::Abort;
 use std::test::Fail;
@@ -120,9 +122,33 @@ const PARTS: [(u16, u8, u32, usize, bool); 16] = [
     (8, 2, 65_536, 271, false),
 ];
 
+/// Sizes that say nothing.
+const UNTOLD: FlashSizes = FlashSizes {
+    unit: 0,
+    banks: 0,
+    bank_size: 0,
+    cells: 0,
+};
+
+/// A start over a store of 14 cells on two banks of 864 bytes, with units of 8: unit, banks, bytes of a bank, cells,
+/// whether its heads tell its sizes, and whether it is found.
+const STARTS: [(u16, u8, u32, usize, bool, bool); 11] = [
+    (8, 2, 864, 14, true, true),
+    (16, 2, 864, 14, true, false),
+    (8, 3, 864, 14, true, false),
+    (8, 16, 864, 14, true, false),
+    (8, 2, 768, 14, true, false),
+    (8, 2, 863, 14, true, false),
+    (8, 2, 1_728, 14, true, false),
+    (8, 2, 864, 15, true, false),
+    (8, 2, 864, 14, false, true),
+    (16, 2, 864, 14, false, true),
+    (8, 2, 864, 15, false, false),
+];
+
 /// Numbers of some plan.
 fn some_numbers() -> FlashNumbers {
-    numbers_of(&FlashPlan::start(2, 20), 8)
+    numbers_of(&FlashPlan::start(2, 20), &UNTOLD, 0)
 }
 
 /// A line that was erased.
@@ -256,10 +282,55 @@ fn cost(row: &CostRow) -> Result<Done, FlashRefusal> {
     Ok(banks.done)
 }
 
+/// The store as an earlier version made it: its heads tell nothing.
+fn forget(banks: &mut Banks) {
+    for at in 0..2 * LINES {
+        if let Some(FlashLine::Head(generation)) = read_line(&banks.lines[at].bytes) {
+            let head = FlashLine::Head(generation);
+            line_bytes(&UNTOLD, &head, &mut banks.lines[at].bytes);
+        }
+    }
+}
+
+/// Whether each head tells these sizes.
+fn tell(banks: &Banks, sizes: &FlashSizes) -> bool {
+    banks.lines.iter().all(|line| match told_sizes(&line.bytes) {
+        Some(told) => told == *sizes,
+        None => true,
+    })
+}
+
+/// Starts a store with these sizes.
+fn started_with(
+    banks: &mut Banks,
+    unit: u16,
+    count: u8,
+    bank_size: u32,
+    cells: usize,
+) -> Result<(), FlashRefusal> {
+    let mut flash = some_numbers();
+    let mut room = [[0; 32]; 15];
+    let mut scratch = [[0; 32]; 15];
+    begin(&mut flash, unit, count, bank_size, cells)?;
+    if cells > 15 {
+        return Err(FlashRefusal::BadLength);
+    }
+    work(&mut flash, &mut room[..cells], &mut scratch[..cells], banks)
+}
+
 /// What an outcome that is reported with `scratch` of another length is answered.
 fn reported_with_other_scratch() -> Result<(), FlashRefusal> {
     let mut flash = some_numbers();
     let mut cells = [[0; 32]; CELLS];
+    let mut scratch = [[0; 32]; 13];
+    begin(&mut flash, 8, 2, 864, CELLS)?;
+    did(&mut flash, &mut cells, &mut scratch, 2, &[0; 128])
+}
+
+/// What an outcome that is reported with one cell less than the store was begun with is answered.
+fn reported_with_fewer_cells() -> Result<(), FlashRefusal> {
+    let mut flash = some_numbers();
+    let mut cells = [[0; 32]; 13];
     let mut scratch = [[0; 32]; 13];
     begin(&mut flash, 8, 2, 864, CELLS)?;
     did(&mut flash, &mut cells, &mut scratch, 2, &[0; 128])
@@ -310,5 +381,41 @@ fn bytes_that_are_no_lines_are_no_store(rt: HostRuntime) -> Result<(), Fail> {
 #[test]
 fn scratch_of_another_length_is_refused(rt: HostRuntime) -> Result<(), Fail> {
     assert_eq!(rt; reported_with_other_scratch(), Err(FlashRefusal::BadLength));
+    Ok(())
+}
+
+#[test]
+fn another_number_of_cells_is_refused(rt: HostRuntime) -> Result<(), Fail> {
+    assert_eq!(rt; reported_with_fewer_cells(), Err(FlashRefusal::BadValue));
+    Ok(())
+}
+
+#[test]
+fn a_store_of_other_sizes_is_no_store(rt: HostRuntime) -> Result<(), Fail> {
+    let own = FlashSizes {
+        unit: 8,
+        banks: 2,
+        bank_size: 864,
+        cells: 14,
+    };
+    for (unit, count, bank_size, cells, tells, found) in STARTS {
+        let mut banks = banks_of(0x5a);
+        assert_eq!(rt; made(&mut banks, 5), Ok(()));
+        if !tells {
+            forget(&mut banks);
+        }
+        let told = if tells { own } else { UNTOLD };
+        assert!(rt; tell(&banks, &told));
+        let answer = started_with(&mut banks, unit, count, bank_size, cells);
+        assert_eq!(rt;
+            answer,
+            if found {
+                Ok(())
+            } else {
+                Err(FlashRefusal::NoStore)
+            }
+        );
+        assert!(rt; tell(&banks, &told));
+    }
     Ok(())
 }

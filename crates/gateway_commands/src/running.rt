@@ -36,7 +36,7 @@ pub fn do_job<K: Sink, D: CutDisk>(
     let GatewayJob { bus, pairs, events } = job;
     let mut nodes = match open_nodes(alloc, &bus, disks, Start::Format) {
         Ok(nodes) => nodes,
-        Err(fault) => return tell_refusal(sink, &start_refusal(alloc, &fault)),
+        Err(fault) => return tell_refusal(sink, &start_refusal(&fault)),
     };
     let node = nodes.take_last();
     let (node, printed) = print_turns(alloc, node, pairs, events.as_slice(), sink);

@@ -22,35 +22,31 @@ use Rattle.bus_world.specs.StartAnswers.{DiskStates, CountsDiskFault, failed_row
 use Rattle.bus_world.proofs.CallerLemmas.{no_disk, no_line, no_room_fault, failure_told, start_status, start_without_room, start_complete, start_memory}
 use Rattle.kept_starts.specs.declared.first.KeepFault.{KeepFault}
 use Rattle.kept_starts.specs.declared.first.KeepFault.TheVariants as keep
-use Rattle.kept_starts.specs.LookedAt.{cells_in_bus, config_in_bus, KeepsTold, FailsToKeep, LookedAt, NotKept}
-use Rattle.kept_starts.specs.KeepRows.{keep_row, IsKeepRow, ComesKept, of_look, of_start, BusKeepsDisk, RefusesStart, at_look, at_start}
+use Rattle.kept_starts.specs.LookedAt.{cells_in_bus, config_in_bus, KeepsInBus, UnfinishedInBus, KeepsTold, FailsToKeep, LookedAt, NotKept}
+use Rattle.kept_starts.specs.KeepRows.{keep_row, ComesKept, of_look, of_start, BusKeepsDisk, RefusesStart, at_look, at_start}
+use Rattle.kept_starts.proofs.UnfinishedLaws.{headless_none}
 use Rattle.kept_starts.proofs.LookLaws.{same_told, same_faults, room_then, room_before, quiet_then, unlooked_same}
 
 -- ---- of the look
 
-look_status : (fault : KeepFault) (row : Row) → IsKeepRow fault row → (row.status ≡ 10) ⊎ (row.status ≡ 7)
-look_status (keep.OtherStore there) row (inl is) = inl (ap (λ (r : Row). r.status) is)
-look_status keep.NotFormatted row (inl is) = inl (ap (λ (r : Row). r.status) is)
-look_status (keep.Damaged place) row (inl is) = inl (ap (λ (r : Row). r.status) is)
-look_status (keep.BadSlot slot) row (inl is) = inl (ap (λ (r : Row). r.status) is)
-look_status (keep.BadBound cell) row (inl is) = inl (ap (λ (r : Row). r.status) is)
-look_status keep.DiskFailed row (inl is) = inl (ap (λ (r : Row). r.status) is)
-look_status keep.Memory row (inl is) = inr (ap (λ (r : Row). r.status) is)
-look_status fault row (inr (names, is)) = inr (ap (λ (r : Row). r.status) is)
+look_status : (fault : KeepFault) (row : Row) → row ≡ keep_row fault → (row.status ≡ 10) ⊎ (row.status ≡ 7)
+look_status (keep.OtherStore there) row is = inl (ap (λ (r : Row). r.status) is)
+look_status keep.NotFormatted row is = inl (ap (λ (r : Row). r.status) is)
+look_status (keep.Damaged place) row is = inl (ap (λ (r : Row). r.status) is)
+look_status (keep.BadSlot slot) row is = inl (ap (λ (r : Row). r.status) is)
+look_status (keep.BadBound cell) row is = inl (ap (λ (r : Row). r.status) is)
+look_status keep.DiskFailed row is = inl (ap (λ (r : Row). r.status) is)
+look_status keep.Memory row is = inr (ap (λ (r : Row). r.status) is)
 
-look_10 : (fault : KeepFault) (row : Row) → IsKeepRow fault row → row.status ≡ 10 → row ≡ keep_row fault
-look_10 fault row (inl is) ten = is
-look_10 fault row (inr (names, is)) ten = absurd (let no : ⊥ = omega (arith, ten, ap (λ (r : Row). r.status) is) in no)
-
-look_7 : (fault : KeepFault) (row : Row) → IsKeepRow fault row → row.status ≡ 7 → row ≡ memory_row
-look_7 (keep.OtherStore there) row (inl is) seven = absurd (let no : ⊥ = omega (arith, seven, ap (λ (r : Row). r.status) is) in no)
-look_7 keep.NotFormatted row (inl is) seven = absurd (let no : ⊥ = omega (arith, seven, ap (λ (r : Row). r.status) is) in no)
-look_7 (keep.Damaged place) row (inl is) seven = absurd (let no : ⊥ = omega (arith, seven, ap (λ (r : Row). r.status) is) in no)
-look_7 (keep.BadSlot slot) row (inl is) seven = absurd (let no : ⊥ = omega (arith, seven, ap (λ (r : Row). r.status) is) in no)
-look_7 (keep.BadBound cell) row (inl is) seven = absurd (let no : ⊥ = omega (arith, seven, ap (λ (r : Row). r.status) is) in no)
-look_7 keep.DiskFailed row (inl is) seven = absurd (let no : ⊥ = omega (arith, seven, ap (λ (r : Row). r.status) is) in no)
-look_7 keep.Memory row (inl is) seven = is
-look_7 fault row (inr (names, is)) seven = is
+-- 7 only if there was no memory for the look itself
+look_7 : (fault : KeepFault) (row : Row) → row ≡ keep_row fault → row.status ≡ 7 → fault ≡ keep.Memory
+look_7 (keep.OtherStore there) row is seven = absurd (let no : ⊥ = omega (arith, seven, ap (λ (r : Row). r.status) is) in no)
+look_7 keep.NotFormatted row is seven = absurd (let no : ⊥ = omega (arith, seven, ap (λ (r : Row). r.status) is) in no)
+look_7 (keep.Damaged place) row is seven = absurd (let no : ⊥ = omega (arith, seven, ap (λ (r : Row). r.status) is) in no)
+look_7 (keep.BadSlot slot) row is seven = absurd (let no : ⊥ = omega (arith, seven, ap (λ (r : Row). r.status) is) in no)
+look_7 (keep.BadBound cell) row is seven = absurd (let no : ⊥ = omega (arith, seven, ap (λ (r : Row). r.status) is) in no)
+look_7 keep.DiskFailed row is seven = absurd (let no : ⊥ = omega (arith, seven, ap (λ (r : Row). r.status) is) in no)
+look_7 keep.Memory row is seven = refl
 
 -- ---- bytes that may be kept are seen so
 
@@ -69,11 +65,14 @@ neither_unkept bus x none not (inr (that, stands, wanted)) =
     let no : ⊥ = cc in no
 
 seen_other_unkept : (bus : NamedBus) (x : List ℕ) (there : StoreHeader) → LooksAs bus.kind bus.version (cells_in_bus bus) x (Other there)
-    → CanKeep bus.kind bus.version (cells_in_bus bus) x → ⊥
-seen_other_unkept bus x there (seen_other _ stands not) keeps = other_unkept bus x there stands not keeps
+    → KeepsInBus bus x → ⊥
+seen_other_unkept bus x there (seen_other _ stands not) (inl can) = other_unkept bus x there stands not can
+seen_other_unkept bus x there (seen_other _ stands not) (inr begun) = headless_none x there begun.headless stands
 
-seen_neither_unkept : (bus : NamedBus) (x : List ℕ) → LooksAs bus.kind bus.version (cells_in_bus bus) x Neither → CanKeep bus.kind bus.version (cells_in_bus bus) x → ⊥
-seen_neither_unkept bus x (seen_neither none not) keeps = neither_unkept bus x none not keeps
+seen_neither_unkept : (bus : NamedBus) (x : List ℕ) → LooksAs bus.kind bus.version (cells_in_bus bus) x Neither → ¬ UnfinishedInBus bus x
+    → KeepsInBus bus x → ⊥
+seen_neither_unkept bus x (seen_neither none not) other (inl can) = neither_unkept bus x none not can
+seen_neither_unkept bus x (seen_neither none not) other (inr begun) = other begun
 
 -- of a disk that tells bytes that may be kept and over which the node goes on, and that was quiet or didn't fail, memory
 -- was out
@@ -82,7 +81,7 @@ able_memory : (bus : NamedBus) (disk seen : DiskState) (fault : KeepFault) (t : 
     → IsQuiet disk ⊎ ¬ Rose disk.faults seen.faults → FailsToKeep bus disk seen fault → fault ≡ keep.Memory
 able_memory bus disk seen (keep.OtherStore there) t tells keeps goes serves f = absurd (seen_other_unkept bus t.bytes there (f.cause.1 t tells) (keeps t tells))
 able_memory bus disk seen keep.NotFormatted t tells keeps goes serves f = absurd (elim (f.cause.1 t tells) [
-  | inl neither ↦ seen_neither_unkept bus t.bytes neither (keeps t tells)
+  | inl (neither, other) ↦ seen_neither_unkept bus t.bytes neither other (keeps t tells)
   | inr no_node ↦ no_node.none goes.0 goes.1
 ])
 able_memory bus disk seen (keep.Damaged place) t tells keeps goes serves f = absurd ((f.cause.1 t tells).none goes.0 goes.1)
@@ -92,9 +91,8 @@ able_memory bus disk seen keep.DiskFailed t tells keeps goes (inl quiet) f = abs
 able_memory bus disk seen keep.DiskFailed t tells keeps goes (inr calm) f = absurd (calm f.cause)
 able_memory bus disk seen keep.Memory t tells keeps goes serves f = refl
 
-memory_7 : (fault : KeepFault) (row : Row) → fault ≡ keep.Memory → IsKeepRow fault row → row.status ≡ 7
-memory_7 fault row is (inl said) = ap (λ (r : Row). r.status) (said ∙ ap keep_row is)
-memory_7 fault row is (inr (names, said)) = ap (λ (r : Row). r.status) said
+memory_7 : (fault : KeepFault) (row : Row) → fault ≡ keep.Memory → row ≡ keep_row fault → row.status ≡ 7
+memory_7 fault row is said = ap (λ (r : Row). r.status) (said ∙ ap keep_row is)
 
 -- the first of some node lines is the one at the place 0
 first_some : (nodes : List NodeLine) → 0 < length nodes → get_or nodes 0 no_line ≡ node_line_at nodes 0
@@ -168,14 +166,13 @@ module _ (same : Type 0) (bus : NamedBus) (d : DiskStates) where
 
   -- ---- if the count of the first disk rose, the row tells that it failed
 
-  look_failure : (fault : KeepFault) (row : Row) (disk seen : DiskState) → FailsToKeep bus disk seen fault → IsKeepRow fault row → disk.faults < seen.faults → row ≡ failed_row 0
+  look_failure : (fault : KeepFault) (row : Row) (disk seen : DiskState) → FailsToKeep bus disk seen fault → row ≡ keep_row fault → disk.faults < seen.faults → row ≡ failed_row 0
   look_failure (keep.OtherStore there) row disk seen f is rose = absurd (let no : ⊥ = omega (arith, rose, f.cause.0) in no)
   look_failure keep.NotFormatted row disk seen f is rose = absurd (let no : ⊥ = omega (arith, rose, f.cause.0) in no)
   look_failure (keep.Damaged place) row disk seen f is rose = absurd (let no : ⊥ = omega (arith, rose, f.cause.0) in no)
   look_failure (keep.BadSlot slot) row disk seen f is rose = absurd (let no : ⊥ = omega (arith, rose, f.cause.0) in no)
   look_failure (keep.BadBound cell) row disk seen f is rose = absurd (let no : ⊥ = omega (arith, rose, f.cause.0) in no)
-  look_failure keep.DiskFailed row disk seen f (inl is) rose = is
-  look_failure keep.DiskFailed row disk seen f (inr (names, is)) rose = absurd names
+  look_failure keep.DiskFailed row disk seen f is rose = is
   look_failure keep.Memory row disk seen f is rose = absurd (let no : ⊥ = omega (arith, rose, f.cause) in no)
 
   pub kept_failure : (row : Row) → ComesKept same bus d row → CountsDiskFault d 0 → row ≡ failed_row 0
@@ -214,15 +211,14 @@ module _ (same : Type 0) (bus : NamedBus) (d : DiskStates) where
 
   pub kept_10 : (row : Row) → ComesKept same bus d row → row.status ≡ 10 → RefusesStart bus d (λ text. row.text ≡ text)
   kept_10 row (of_look fault not is) ten =
-      let said : row ≡ keep_row fault = look_10 fault row is ten in
-      at_look fault not (ap (λ (r : Row). r.status) (sym said) ∙ ten) (ap (λ (r : Row). r.text) said)
+      at_look fault not (ap (λ (r : Row). r.status) (sym is) ∙ ten) (ap (λ (r : Row). r.text) is)
   kept_10 row (of_start seen look (comes, known)) ten = start_10 seen look row comes ten
 
   start_7 : (seen : List DiskState) (row : Row) → ComesOfStart Attach bus (after_look seen) row → row.status ≡ 7 → row ≡ memory_row
   start_7 seen row comes is = start_memory Attach bus (after_look seen) row comes is
 
   pub kept_7 : (row : Row) → ComesKept same bus d row → row.status ≡ 7 → row ≡ memory_row
-  kept_7 row (of_look fault not is) seven = look_7 fault row is seven
+  kept_7 row (of_look fault not is) seven = is ∙ ap keep_row (look_7 fault row is seven)
   kept_7 row (of_start seen look (comes, known)) seven = start_7 seen row comes seven
 
 -- what is said of the text that tells it

@@ -40,10 +40,10 @@ pub trait LineTaker {
         ensures borrows { borrows self.new ≡ borrows self.old }
         ensures takes { takes (state self.old) number line.now (state self.new) result };
 
-    /// All lines were taken that are complete with what came of the log so far. The log is read next.
+    /// All lines were taken that are complete with what came of the log so far. The log is read next. If it had room
+    /// before, it has that of a whole piece again.
     fn pause(&mut self) -> Result<(), Self::End>
-        requires { HasLineRoom ready self.old 0 0 }
-        ensures ready { OnOk result (ready self.new 8193 4097) }
+        ensures ready { OnOk result (HasLineRoom ready self.old 0 0 → ready self.new 8193 4097) }
         ensures borrows { borrows self.new ≡ borrows self.old }
         ensures pauses { pauses (state self.old) (state self.new) result };
 

@@ -5,10 +5,11 @@
 //! [`Opener`]. The contract names the argument that each was opened by, and all that were opened. `-` is the
 //! input as it was handed in, and a second dash a missing source, of which each read fails. [`tell`] prints
 //! an ending whole, with its status, or a strict prefix with 6. [`Refusal`] is a row of answers instead of
-//! what the program was asked to do, and [`tell_refusal`] prints it. Rows 5, 8 and 7, of an input that isn't
-//! there, are those of every program that reads. [`arguments`] drops the program's name by a function whose
-//! clause says so. That it calls this function, what the system hands out as arguments, and which file [`Paths`]
-//! opens are tested: no clause says it.
+//! what the program was asked to do, and [`tell_refusal`] prints it. A row whose text has one number or two is made
+//! without memory, so that no such row is lost to 7. Rows 5, 8 and 7, of an input that isn't
+//! there, are those of every program that reads. [`arguments`] hands what the system gives to a function whose clauses
+//! say that it drops the program's name and nothing else. What the system gives, and which file [`Paths`] opens, are
+//! tested: no clause says it.
 #![tactic(auto)]
 
 mod input;

@@ -36,7 +36,9 @@ pub struct Paths<'a, R: Files> {
 
 impl<'a, R: Files> Paths<'a, R> {
     /// The files of this runtime; none was opened here.
-    pub fn of(rt: &'a R) -> Paths<'a, R> {
+    pub fn of(rt: &'a R) -> Paths<'a, R>
+        ensures { result.opened ≡ [] }
+    {
         Paths {
             rt,
             opened: OpenedWords::none(),

@@ -1,11 +1,17 @@
 //! Why a program doesn't do what it is asked, and how it is printed.
-ghost use Rattle.std.specs.Prelude.{◌≡◌, string_bytes};
+ghost use Rattle.std.specs.Prelude.{◌≡◌, ◌+◌, ◌≤◌, ◌++◌, length, string_bytes};
+ghost use Rattle.std.specs.Fmt.{decimal};
 ghost use Rattle.program_edge.specs.Told.{EndingTold};
 ghost use Rattle.program_edge.specs.Rows.{memory_row};
 
 use crate::{InputFault, NO_MEMORY, tell};
+use arrayvec::ArrayString;
 use bus_port::Sink;
+use itoa::Buffer;
 use std::marker::Model;
+
+/// The most bytes of a text with numbers that takes no memory.
+const MOST_SHORT: usize = 128;
 
 /// A row of a program's answers in place of its deed: a status, and a text with its line feed. Clauses see
 /// it as that row.
@@ -15,11 +21,13 @@ pub struct Refusal {
     text: Text,
 }
 
-/// A text that a program has, or one that was made, as it names a line or a value.
+/// A text that a program has, or one that was made, as it names a line or a value. A short one lies in the value itself,
+/// so that making it takes no memory.
 #[derive(Debug, Drop)]
 enum Text {
     Fixed(&'static str),
     Made(String),
+    Short(ArrayString<MOST_SHORT>),
 }
 
 impl Model for Refusal {
@@ -51,6 +59,49 @@ impl Refusal {
         }
     }
 
+    /// The row with this status and a text that has a number: these words, the number's decimal digits, and these words.
+    /// It takes no memory.
+    pub fn numbered(status: u8, before: &str, number: u32, after: &str) -> Refusal
+        requires { length before.now + length after.now ≤ 118 }
+        ensures { result ≡ record { status = status; text = before.now ++ (decimal number ++ after.now) } }
+    {
+        let mut text = ArrayString::new();
+        text.push_str(before);
+        push_number(&mut text, number);
+        text.push_str(after);
+        Refusal {
+            status,
+            text: Text::Short(text),
+        }
+    }
+
+    /// The same with two numbers, the second of which stands between the last two of these words.
+    pub fn twice_numbered(
+        status: u8,
+        before: &str,
+        first: u32,
+        between: &str,
+        second: u32,
+        after: &str,
+    ) -> Refusal
+        requires { length before.now + length between.now + length after.now ≤ 108 }
+        ensures { result ≡ record {
+          status = status;
+          text = before.now ++ (decimal first ++ (between.now ++ (decimal second ++ after.now)));
+        } }
+    {
+        let mut text = ArrayString::new();
+        text.push_str(before);
+        push_number(&mut text, first);
+        text.push_str(between);
+        push_number(&mut text, second);
+        text.push_str(after);
+        Refusal {
+            status,
+            text: Text::Short(text),
+        }
+    }
+
     /// Out of memory: 7, and nothing is printed.
     pub fn no_memory() -> Refusal
         ensures { result ≡ memory_row }
@@ -72,8 +123,19 @@ impl Refusal {
         match &self.text {
             Text::Fixed(text) => text,
             Text::Made(text) => text.as_str(),
+            Text::Short(text) => text.as_str(),
         }
     }
+}
+
+/// Adds a number in decimal digits to a text with room for ten bytes.
+fn push_number(text: &mut ArrayString<MOST_SHORT>, number: u32)
+    requires { length text.old.bytes + 10 ≤ MOST_SHORT }
+    ensures digits { text.new.bytes ≡ text.old.bytes ++ decimal number }
+    ensures short { length text.new.bytes ≤ length text.old.bytes + 10 }
+{
+    let mut digits = Buffer::new();
+    text.push_str(digits.format(number));
 }
 
 impl From<InputFault> for Refusal {

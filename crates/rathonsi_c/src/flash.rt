@@ -89,8 +89,9 @@ pub extern "C" fn rathonsi_flash_take(
     OK
 }
 
-/// Says which operation comes next. `BAD_VALUE`: the struct is none that these calls leave for so many cells.
-/// `NO_STORE`, `EXHAUSTED`, `FAILED`: the plan has ended so.
+/// Says which operation comes next. `BAD_VALUE`: the struct is none that these calls leave for so many cells, as one
+/// that was begun with another number. `NO_STORE`: no store of so many cells was found, or the head of a bank tells
+/// another unit, number or size of banks, or number of cells. `EXHAUSTED`, `FAILED`: the plan has ended so.
 #[unsafe(no_mangle)]
 pub extern "C" fn rathonsi_flash_next(
     flash: &FlashNumbers,

@@ -2,8 +2,8 @@
 //! hold, lost replies, entries that a ledger takes over, and keys from files.
 //!
 //! [`station_commands::station_words`] is the program, with `RunsStation`. Here it is handed the arguments, the files,
-//! standard input and standard output. That others may read a store's file is said here, on standard error; no status
-//! depends on it.
+//! standard input and standard output. That others may read a store's file is said here, on standard error (`TellsMode`);
+//! no status depends on it.
 #![tactic(auto)]
 
 mod modes;
@@ -17,6 +17,7 @@ use std::process::ExitCode;
 
 fn main(rt: HostRuntime) -> ExitCode {
     let mut sink = StdSink::new(rt.stdout());
+    let mut errors = StdSink::new(rt.stderr());
     let mut opener = Paths::of(&rt);
     let mut disk_opener = DiskPaths::of(&rt);
     let mut input = Some(StdSource::new(rt.stdin()));
@@ -38,7 +39,7 @@ fn main(rt: HostRuntime) -> ExitCode {
                     | StationFiles::Grown(_, Some(_))
             );
             if is_opened {
-                tell_open_mode(&rt, words.as_slice());
+                tell_open_mode(rt.alloc(), &rt, words.as_slice(), &mut errors);
             }
             status
         }

@@ -4,8 +4,8 @@ use Rattle.basics.specs.Numbers.{number_of, bytes_of}
 use Rattle.she_aes.specs.Cipher.{enc}
 use Rattle.unit_keys.specs.declared.wrapping.Register.{Register}
 
--- Step t: the check value and the first half are encrypted as one block. The high half of what comes out, added to t,
--- is the new check value. Its low half comes after the second half.
+-- Step t: the check value and the first half are encrypted as one block. The high half of what comes out, exclusive-ored
+-- with t, is the new check value. Its low half comes after the second half.
 unfoldable pub wrap_step : List ℕ → ℕ → Register → Register
 wrap_step key t r =
     let block : ℕ = number_of (enc key (bytes_of 16 (r.check * 2 ^ 64 + r.first))) in

@@ -135,8 +135,8 @@ const REFUSALS: &[(Refused, u8, &str)] = &[
     (Refused::Memory, 7, ""),
 ];
 
-fn has_row(rt: &impl Abort, alloc: Global, fault: StartFault, status: u8, text: &str) {
-    let refusal = start_refusal(alloc, &fault);
+fn has_row(rt: &impl Abort, fault: StartFault, status: u8, text: &str) {
+    let refusal = start_refusal(&fault);
     same(rt, text, &refusal.status(), &status);
     same(rt, text, &refusal.text(), &text);
 }
@@ -144,7 +144,7 @@ fn has_row(rt: &impl Abort, alloc: Global, fault: StartFault, status: u8, text: 
 #[test]
 fn a_start_that_is_refused_has_its_row(rt: HostRuntime) -> Result<(), Fail> {
     for (refused, status, text) in REFUSALS {
-        has_row(&rt, rt.alloc(), fault_of(*refused)?, *status, text);
+        has_row(&rt, fault_of(*refused)?, *status, text);
     }
     Ok(())
 }

@@ -5,7 +5,9 @@ use Rattle.flash_plan.specs.declared.plans.PlanStep.TheVariants.{Erasing, Ready}
 use Rattle.flash_plan.specs.declared.plans.PlanPutFault.TheVariants.{NotIdle, Exhausted as put_exhausted}
 use Rattle.flash_plan.specs.Plans.{IsIdle, IsFullAt, SameSizes, operations_left}
 use Rattle.flash_plan.specs.Standing.{plan_layout, StandsAt}
-use Rattle.flash_calls.specs.Numbers.{plan_in}
+use Rattle.flash_lines.specs.declared.sizes.FlashSizes.{FlashSizes}
+use Rattle.flash_lines.proofs.CallerLemmas.{same_sizes}
+use Rattle.flash_calls.specs.Numbers.{plan_in, sizes_in}
 use Rattle.flash_calls.proofs.CallLaws.{still_call, stands_in, surely_idle}
 use Rattle.flash_calls.proofs.calls.put.Goals as goal
 
@@ -17,6 +19,8 @@ returns-in-Ok-clause-answer c =
     let now : FlashPlan = c.put.new.self in
     let was : c.plan_of-plan.result ≡ plan_in old = c.plan_of-plan.ensures in
     let is : plan_in new ≡ now = c.numbers_of.ensures.plan in
+    let unit_is : new.unit ≡ old.unit = c.numbers_of.ensures.unit ∙ ap (λ (s : FlashSizes). s.unit) c.sizes_of.ensures in
+    let cells_is : new.cells ≡ old.cells = c.numbers_of.ensures.cells ∙ ap (λ (s : FlashSizes). s.cells) c.sizes_of.ensures in
     let idle : IsIdle (plan_in old) = subst (λ (p : FlashPlan). IsIdle p) was
     (surely_idle c.plan_of-plan.result (λ busy. let e : c.put.result ≡ Err NotIdle = c.put.ensures.not_idle.1 busy in absurd (cc))) in
     let sizes : SameSizes (plan_in old) now = subst (λ (p : FlashPlan). SameSizes p now) was c.put.ensures.sizes in
@@ -28,10 +32,14 @@ returns-in-Ok-clause-answer c =
           let at : IsIdle c.plan_of-plan.result × IsFullAt c.plan_of-plan.result.places c.plan_of-plan.result.step =
           subst (λ (p : FlashPlan). IsIdle p × IsFullAt p.places p.step) (sym was) (idle, full) in
           let e : c.put.result ≡ Err put_exhausted = c.put.ensures.exhausted.1 at in absurd (cc);
-      call = still_call n old new now c.in-Some.ensures.1 is c.numbers_of.ensures.unit c.put.ensures.plan sizes;
-      unit_is = c.numbers_of.ensures.unit;
+      call = still_call n old new now c.in-Some.ensures.1 is unit_is cells_is c.put.ensures.plan sizes;
+      unit_is = unit_is;
       banks_is = ap (λ (p : FlashPlan). p.banks) is ∙ sizes.banks;
       places_is = ap (λ (p : FlashPlan). p.places) is ∙ sizes.places;
+      sizes_are = same_sizes (sizes_in new) (sizes_in old) unit_is
+          (ap (λ (p : FlashPlan). p.banks) is ∙ sizes.banks)
+          (c.numbers_of.ensures.bank_size ∙ ap (λ (s : FlashSizes). s.bank_size) c.sizes_of.ensures) cells_is;
+      tells = c.numbers_of.ensures.untold;
       waits = ap (λ (p : FlashPlan). p.put) is ∙ c.in-Ok.ensures.waits;
       programs = λ bank generation next at below.
           ap (λ (p : FlashPlan). p.step) is

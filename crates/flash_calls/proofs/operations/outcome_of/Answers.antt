@@ -10,3 +10,7 @@ returns-in-Read-clause-comes c =
       c.answer_of.ensures.fails,
       (c.answer_of.ensures.blank, (λ most. c.answer_of.ensures.well c.in-Read.field-0 c.in-Read.field-1 most)),
     )
+
+pub returns-in-Read-clause-no_head : goal.returns-in-Read-clause-no_head
+returns-in-Read-clause-no_head c bank is none =
+    c.answer_of.ensures.no_head (λ told zero t. none told (record { bank = bank; is = is; done = zero; tells = t }))

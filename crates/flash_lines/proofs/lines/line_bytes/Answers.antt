@@ -20,15 +20,16 @@ pub returns : goal.returns
 unfolding line_bytes
 returns c =
     let line = c.args.line.now in
-    let body : c.copy_from_slice.new.self ≡ line_body line = c.copy_from_slice.ensures.after ∙ c.line_body-body.ensures.value in
-    let number : c.crc64.result ≡ crc64 (line_body line) = c.crc64.ensures ∙ ap crc64 c.line_body-body.ensures.value in
-    let check : c.copy_from_slice-2.new.self ≡ bytes_of 8 (crc64 (line_body line)) =
+    let told = c.args.told.now in
+    let body : c.copy_from_slice.new.self ≡ line_body told line = c.copy_from_slice.ensures.after ∙ c.line_body-body.ensures.value in
+    let number : c.crc64.result ≡ crc64 (line_body told line) = c.crc64.ensures ∙ ap crc64 c.line_body-body.ensures.value in
+    let check : c.copy_from_slice-2.new.self ≡ bytes_of 8 (crc64 (line_body told line)) =
     c.copy_from_slice-2.ensures.after ∙ c.to_be_bytes.ensures ∙ to_be_bytes-is w64 c.crc64.result ∙ ap (bytes_of 8) number in
     let room : 44 ≤ length c.args.bytes.now = c.requires in
     let zeros : c.fill.new.self ≡ replicate (length c.args.bytes.now - 44) 0 =
     c.fill.ensures.after (λ y same. same) ∙ ap (λ n. replicate n 0) (search (rules, places)) in
     written c.args.bytes.now c.copy_from_slice.new.self c.copy_from_slice-2.new.self c.fill.new.self line_mark room
     (ap length c.copy_from_slice.ensures.after ∙ c.line_body-body.ensures.size)
-    (ap length check ∙ length-bytes_of 8 (crc64 (line_body line)))
+    (ap length check ∙ length-bytes_of 8 (crc64 (line_body told line)))
     (ap length zeros ∙ length-replicate (length c.args.bytes.now - 44) 0)
     ∙ rw (body, check, zeros) refl

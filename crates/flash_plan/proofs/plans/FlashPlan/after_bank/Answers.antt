@@ -1,4 +1,4 @@
-use Rattle.std.proofs.Common.{◌≡◌, ◌≢◌, ◌+◌, ◌<◌, inl, inr, ℕ, suc, None, length, sym, subst, arith, ◌-◌, ◌*◌}
+use Rattle.std.proofs.Common.{◌≡◌, ◌≢◌, ◌+◌, ◌<◌, inl, inr, ℕ, suc, None, length, sym, subst, ◌∙◌, arith, ◌-◌, ◌*◌}
 use Rattle.std.proofs.lemmas.Bool.{cases_eq}
 use Rattle.flash_laws.specs.Lives.{off}
 use Rattle.flash_log.specs.declared.scanning.Best.{Best}
@@ -96,3 +96,18 @@ returns-in-NoLog-clause-told c told s = tt
 
 pub returns-in-Tie-clause-told : goal.returns-in-Tie-clause-told
 returns-in-Tie-clause-told c told s = tt
+
+pub returns-then-bank-self-clause-no_log : goal.returns-then-bank-self-clause-no_log
+returns-then-bank-self-clause-no_log c none = none
+
+pub returns-then-may_go_on-clause-no_log : goal.returns-then-may_go_on-clause-no_log
+returns-then-may_go_on-clause-no_log c none = absurd (let e = sym none ∙ c.in-One.is in cc)
+
+pub returns-else-may_go_on-clause-no_log : goal.returns-else-may_go_on-clause-no_log
+returns-else-may_go_on-clause-no_log c none = absurd (let e = sym none ∙ c.in-One.is in cc)
+
+pub returns-in-NoLog-clause-no_log : goal.returns-in-NoLog-clause-no_log
+returns-in-NoLog-clause-no_log c none = tt
+
+pub returns-in-Tie-clause-no_log : goal.returns-in-Tie-clause-no_log
+returns-in-Tie-clause-no_log c none = tt

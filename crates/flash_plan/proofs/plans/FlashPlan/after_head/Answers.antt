@@ -1,4 +1,5 @@
 use Rattle.std.proofs.Common.{Option, length, refl, sym, subst, ◌∙◌, arith, ◌+◌}
+use Rattle.std.proofs.lemmas.Option.{none-some}
 use Rattle.flash_laws.specs.Lives.{off}
 use Rattle.flash_log.specs.Going.{machine}
 use Rattle.flash_plan.specs.declared.plans.WaitingPut.{WaitingPut}
@@ -59,3 +60,14 @@ returns-then-is_past-clause-told c told s is =
     let t = head_told told c.args.self.now.places c.args.bank c.args.self.now.best c.args.self.now.latest c.note.new.latest c.args.answer is (c.note.ensures.here ∙ c.latest_of.ensures) c.note.ensures.others s in
     subst (λ (w : Option WaitingPut). StepTold told c.args.self.now.banks c.args.self.now.places w c.args.self.now.best c.note.new.latest c.after_bank-self.result)
     (sym c.requires.reading) (c.after_bank-self.ensures.told told t)
+
+pub returns-else-is_past-clause-no_head : goal.returns-else-is_past-clause-no_head
+returns-else-is_past-clause-no_head c odd none =
+    absurd (none-some c.in-Some.generation (sym odd ∙ sym c.generation_of.ensures ∙ c.in-Some.is))
+
+pub returns-then-is_past-clause-no_head : goal.returns-then-is_past-clause-no_head
+returns-then-is_past-clause-no_head c odd none =
+    absurd (none-some c.in-Some.generation (sym odd ∙ sym c.generation_of.ensures ∙ c.in-Some.is))
+
+pub returns-in-None-clause-no_head : goal.returns-in-None-clause-no_head
+returns-in-None-clause-no_head c odd none = c.leave_bank.ensures.no_log refl none

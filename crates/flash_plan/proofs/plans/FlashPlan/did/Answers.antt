@@ -2,7 +2,8 @@ use Rattle.std.proofs.Common.{◌≡◌, true, length, refl, sym, subst, IfSome}
 use Rattle.flash_plan.specs.declared.operations.FlashOutcome.{FlashOutcome}
 use Rattle.flash_plan.specs.declared.operations.FlashOutcome.TheVariants.{Answered, Done, Failed}
 use Rattle.flash_plan.specs.Performing.{Performs}
-use Rattle.flash_plan.specs.Plans.{operation_of, put_in}
+use Rattle.flash_plan.specs.declared.plans.PlanStep.{PlanStep}
+use Rattle.flash_plan.specs.Plans.{operation_of, put_in, ReadsAt, ChangesAt, ReadsNoHead}
 use Rattle.flash_plan.specs.Standing.{plan_layout, PlanMovesOn}
 use Rattle.flash_plan.proofs.DeedSteps.{any_failed, plan_fails, plan_failed, not_read, not_written}
 use Rattle.flash_plan.specs.Formatting.{FormatsAt}
@@ -10,7 +11,7 @@ use Rattle.flash_plan.proofs.FormatSteps.{format_reads, plan_format_fails}
 use Rattle.flash_plan.proofs.LeftSteps.{fail_less}
 use Rattle.flash_plan.proofs.TellingSteps.{failed_told, if_comes}
 use Rattle.flash_plan.specs.Telling.{AnswersSo, IsTold}
-use Rattle.flash_plan.proofs.WearSteps.{failed_credit, failed_skips}
+use Rattle.flash_plan.proofs.WearSteps.{failed_credit, failed_skips, failed_nothing, failed_clears, failed_other}
 use Rattle.flash_plan.proofs.plans.FlashPlan.did.Goals as goal
 
 pub returns-else-reads-clause-steps : goal.returns-else-reads-clause-steps
@@ -110,3 +111,51 @@ returns-else-writes-clause-skips c h = failed_skips c.args.self.now c.fail-else-
 
 pub returns-in-Failed-clause-skips : goal.returns-in-Failed-clause-skips
 returns-in-Failed-clause-skips c h = failed_skips c.args.self.now c.fail-in-Failed.new.self c.fail-in-Failed.ensures.fails h
+
+pub returns-then-reads-clause-no_head : goal.returns-then-reads-clause-no_head
+returns-then-reads-clause-no_head c bank at odd none =
+    c.did_read.ensures.no_head bank at (subst (λ (o : FlashOutcome). ReadsNoHead o) c.in-Answered.is odd) none
+
+pub returns-else-reads-clause-no_head : goal.returns-else-reads-clause-no_head
+returns-else-reads-clause-no_head c bank at odd none = failed_nothing c.args.self.now c.fail.new.self bank c.fail.ensures.fails at none
+
+pub returns-then-writes-clause-no_head : goal.returns-then-writes-clause-no_head
+returns-then-writes-clause-no_head c bank at odd none =
+    absurd (subst (λ (s : PlanStep). ChangesAt s) at (c.writes.ensures.0 c.if-writes.true))
+
+pub returns-else-writes-clause-no_head : goal.returns-else-writes-clause-no_head
+returns-else-writes-clause-no_head c bank at odd none = failed_nothing c.args.self.now c.fail-else-writes.new.self bank c.fail-else-writes.ensures.fails at none
+
+pub returns-in-Failed-clause-no_head : goal.returns-in-Failed-clause-no_head
+returns-in-Failed-clause-no_head c bank at odd none = failed_nothing c.args.self.now c.fail-in-Failed.new.self bank c.fail-in-Failed.ensures.fails at none
+
+pub returns-then-reads-clause-cleared : goal.returns-then-reads-clause-cleared
+returns-then-reads-clause-cleared c bank at made =
+    absurd (subst (λ (s : PlanStep). ReadsAt s) at (c.reads.ensures.0 c.if-reads.true))
+
+pub returns-else-reads-clause-cleared : goal.returns-else-reads-clause-cleared
+returns-else-reads-clause-cleared c bank at made = failed_clears c.args.self.now c.fail.new.self bank c.fail.ensures.fails at made
+
+pub returns-then-writes-clause-cleared : goal.returns-then-writes-clause-cleared
+returns-then-writes-clause-cleared c bank at made = c.did_change.ensures.cleared bank at made
+
+pub returns-else-writes-clause-cleared : goal.returns-else-writes-clause-cleared
+returns-else-writes-clause-cleared c bank at made = failed_clears c.args.self.now c.fail-else-writes.new.self bank c.fail-else-writes.ensures.fails at made
+
+pub returns-in-Failed-clause-cleared : goal.returns-in-Failed-clause-cleared
+returns-in-Failed-clause-cleared c bank at made = failed_clears c.args.self.now c.fail-in-Failed.new.self bank c.fail-in-Failed.ensures.fails at made
+
+pub returns-else-reads-clause-other : goal.returns-else-reads-clause-other
+returns-else-reads-clause-other c is = failed_other c.args.self.now c.fail.new.self c.fail.ensures.fails is
+
+pub returns-else-writes-clause-other : goal.returns-else-writes-clause-other
+returns-else-writes-clause-other c is = failed_other c.args.self.now c.fail-else-writes.new.self c.fail-else-writes.ensures.fails is
+
+pub returns-in-Failed-clause-other : goal.returns-in-Failed-clause-other
+returns-in-Failed-clause-other c is = failed_other c.args.self.now c.fail-in-Failed.new.self c.fail-in-Failed.ensures.fails is
+
+pub returns-then-reads-clause-other : goal.returns-then-reads-clause-other
+returns-then-reads-clause-other c is = absurd (c.did_read.ensures.not_other is)
+
+pub returns-then-writes-clause-other : goal.returns-then-writes-clause-other
+returns-then-writes-clause-other c is = absurd (c.did_change.ensures.not_other is)

@@ -1,4 +1,4 @@
-use Rattle.std.proofs.Common.{length, refl, subst, ◌<◌, sym, arith}
+use Rattle.std.proofs.Common.{length, refl, subst, ◌<◌, sym, ◌∙◌, arith}
 use Rattle.flash_plan.specs.declared.plans.PlanStep.{PlanStep}
 use Rattle.flash_plan.specs.Plans.{StepFits}
 use Rattle.flash_plan.specs.Standing.{plan_layout, StepAt}
@@ -99,3 +99,15 @@ returns-in-Filling-clause-wear c =
     spent c.args.self.now.banks c.args.self.now.places (length c.args.cells.now) (put_left (put_in c.args.self.now)) c.args.self.now.put c.args.cells.now c.args.self.now.step
     c.after_filling-self.result
     (fill_left_none c.args.self.now.places (length c.args.cells.now) (length c.args.cells.now) c.in-Filling.done c.after_filling-self.result c.after_filling-self.ensures.is)
+
+pub returns-in-Erasing-clause-cleared : goal.returns-in-Erasing-clause-cleared
+returns-in-Erasing-clause-cleared c bank at made = absurd (let e = sym c.in-Erasing.is ∙ at in cc)
+
+pub returns-in-Copying-clause-cleared : goal.returns-in-Copying-clause-cleared
+returns-in-Copying-clause-cleared c bank at made = absurd (let e = sym c.in-Copying.is ∙ at in cc)
+
+pub returns-in-Filling-clause-cleared : goal.returns-in-Filling-clause-cleared
+returns-in-Filling-clause-cleared c bank at made = absurd (let e = sym c.in-Filling.is ∙ at in cc)
+
+pub returns-in-Clearing-clause-cleared : goal.returns-in-Clearing-clause-cleared
+returns-in-Clearing-clause-cleared c bank at made = c.after_clearing-self.ensures.not_formatted made

@@ -1,4 +1,4 @@
-use Rattle.std.proofs.Common.{length, ◌<◌, subst, sym}
+use Rattle.std.proofs.Common.{length, ◌<◌, subst, sym, ◌∙◌}
 use Rattle.flash_plan.specs.Standing.{plan_layout}
 use Rattle.flash_plan.proofs.DeedSteps.{head_answered, copied_answered, puts_answered, free_answered, reads_one}
 use Rattle.flash_plan.specs.declared.plans.PlanStep.{PlanStep}
@@ -64,3 +64,15 @@ pub returns-in-Free-clause-told : goal.returns-in-Free-clause-told
 returns-in-Free-clause-told c told h =
     free_tells told c.args.self.now.banks c.args.self.now.places c.args.self.now.put c.args.self.now.best c.args.self.now.latest c.args.cells.now c.args.answer c.after_free.new.self c.args.self.now.step h
     c.in-Free.bank c.in-Free.generation c.in-Free.next c.in-Free.place c.in-Free.is (λ s below is. c.after_free.ensures.told told s below is)
+
+pub returns-in-Copied-clause-no_head : goal.returns-in-Copied-clause-no_head
+returns-in-Copied-clause-no_head c bank at odd none = absurd (let e = sym c.in-Copied.is ∙ at in cc)
+
+pub returns-in-Puts-clause-no_head : goal.returns-in-Puts-clause-no_head
+returns-in-Puts-clause-no_head c bank at odd none = absurd (let e = sym c.in-Puts.is ∙ at in cc)
+
+pub returns-in-Free-clause-no_head : goal.returns-in-Free-clause-no_head
+returns-in-Free-clause-no_head c bank at odd none = absurd (let e = sym c.in-Free.is ∙ at in cc)
+
+pub returns-in-Heading-clause-no_head : goal.returns-in-Heading-clause-no_head
+returns-in-Heading-clause-no_head c bank at odd none = c.after_head.ensures.no_head odd none

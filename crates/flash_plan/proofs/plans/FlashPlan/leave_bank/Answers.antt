@@ -29,3 +29,7 @@ returns-clause-told c told s l =
     let step = c.after_bank-self.ensures.told told (subst (λ z. StartTold told z (suc c.args.bank) c.take_log.new.self.best c.take_log.new.self.latest) (sym c.take_log.ensures.same.places) t) in
     subst (λ (w : Option WaitingPut). StepTold told c.take_log.new.self.banks c.take_log.new.self.places w c.take_log.new.self.best c.take_log.new.self.latest c.after_bank-self.result)
     (sym (c.take_log.ensures.same.put ∙ c.requires.reading)) step
+
+pub returns-clause-no_log : goal.returns-clause-no_log
+returns-clause-no_log c nothing none =
+    c.after_bank-self.ensures.no_log (c.take_log.ensures.none nothing ∙ none)

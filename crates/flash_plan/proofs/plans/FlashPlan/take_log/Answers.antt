@@ -1,4 +1,5 @@
-use Rattle.std.proofs.Common.{Option, length, subst}
+use Rattle.std.proofs.Common.{Option, length, refl, sym, subst, ◌∙◌}
+use Rattle.std.proofs.lemmas.Option.{none-some}
 use Rattle.flash_log.specs.declared.reading.LogEnd.{LogEnd}
 use Rattle.flash_plan.specs.Standing.{WithinBank, ReadsBank}
 use Rattle.flash_plan.proofs.ScanSteps.{takes_none, takes_not, takes_it}
@@ -35,3 +36,12 @@ returns-then-not-is_new-clause-told c told s l =
 pub returns-clause-told : goal.returns-clause-told
 returns-clause-told c told s l =
     best_told told c.args.self.now.places c.args.bank _ c.args.self.now.best c.judge-best.result.0 c.args.self.now.latest c.args.log c.in-Some.log c.in-Some.is c.judge-best.ensures.best l s
+
+pub returns-in-None-clause-none : goal.returns-in-None-clause-none
+returns-in-None-clause-none c nothing = refl
+
+pub returns-then-not-is_new-clause-none : goal.returns-then-not-is_new-clause-none
+returns-then-not-is_new-clause-none c nothing = absurd (none-some c.in-Some.log (sym nothing ∙ c.in-Some.is))
+
+pub returns-clause-none : goal.returns-clause-none
+returns-clause-none c nothing = absurd (none-some c.in-Some.log (sym nothing ∙ c.in-Some.is))
