@@ -12,7 +12,6 @@ enum { SILENCE = 250 };
 /* A unit whose counters are at these bounds comes up. */
 static void unit_of(uint64 *bounds)
 {
-    memory_power_up();
     make_elsewhere(FVM_CELLS, bounds);
     start_unit();
     if (FvM_GetState() != FVM_UP)

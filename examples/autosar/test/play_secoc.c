@@ -403,6 +403,8 @@ static boolean take(const Pdu *pdu)
 {
     const uint32 route = pdu->route;
     if (receive(pdu)) {
+        if (FvM_IsBehind(FvM_Routes[route].freshnessId))
+            fail("a receiver that accepts is behind, ID", FvM_Routes[route].freshnessId);
         note_accepted(pdu);
         return 1u;
     }
@@ -547,6 +549,7 @@ static void make_here(void)
 void make_elsewhere(uint32 cells, uint64 *bounds)
 {
     const uint32 size = RATHONSI_STORE_SIZE(cells);
+    memory_power_up();
     memset(line_image, 0xff, sizeof line_image);
     right(rathonsi_store_make(line_image, size), "no store of another line");
     for (uint32 i = 0u; i < cells; i++) {
