@@ -478,8 +478,8 @@ def run_child(path: Path, out: int, seed: int) -> None:
     """Makes the store if it isn't there, opens it, and sends, receives and loads for ever; each PDU, acceptance and
     reply is told on a pipe as it goes out."""
     drawn = random.Random(seed)
-    reserves = {"reserve": drawn.randrange(1, 6)}
-    routes = [rathonsi.Route(0x120E, SENDS, 4, **reserves), rathonsi.Route(0x120F, RECEIVES, 4, **reserves)]
+    reserve = drawn.randrange(1, 6)
+    routes = [rathonsi.Route(0x120E, SENDS, 4, reserve=reserve), rathonsi.Route(0x120F, RECEIVES, 4, reserve=reserve)]
     try:
         rathonsi.make_file_store(path, ROUTES, KEYS)
     except FileExistsError:
