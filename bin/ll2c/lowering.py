@@ -274,7 +274,12 @@ class Lowering:
                 self.set(root, at + inner, zero(kind))
         elif size != 0:
             place, value, length = self.values_of(it)[:3]
-            self.add(f"memset({place}, {value}, (size_t){length});")
+            # more than some 32 bytes are a call of the C library, which may go byte by byte: up to 72 go in pieces of 16
+            if size is not None and 16 < size <= 72:
+                for begin in range(0, size, 16):
+                    self.add(f"memset({plus(place, begin)}, {value}, (size_t){min(16, size - begin)}ull);")
+            else:
+                self.add(f"memset({place}, {value}, (size_t){length});")
             self.written(root, at, size)
 
     def copy(self, it):

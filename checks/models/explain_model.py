@@ -17,7 +17,8 @@ import sys
 from cryptography.hazmat.primitives.ciphers.algorithms import AES
 from cryptography.hazmat.primitives.cmac import CMAC
 
-FRAME = re.compile(rb"([0-9A-Fa-f]{3}|[0-9A-Fa-f]{8})#(?:#[0-9A-Fa-f]((?:[0-9A-Fa-f]{2}){0,64})|((?:[0-9A-Fa-f]{2}){0,8}))")
+CLASSIC = rb"((?:[0-9A-Fa-f]{2}){0,8})|([0-9A-Fa-f]{16})_[9A-Fa-f]"
+FRAME = re.compile(rb"([0-9A-Fa-f]{3}|[0-9A-Fa-f]{8})#(?:#[0-9A-Fa-f]((?:[0-9A-Fa-f]{2}){0,64})|" + CLASSIC + rb")")
 KEPT = 65536
 FAR = 65536
 
@@ -69,9 +70,10 @@ class Line:
     def __init__(self, number, words):
         words = words[: next((at for at, word in enumerate(words) if word.startswith(b"#")), len(words))]
         self.number = number
-        self.optional = b"optional" in words
-        self.name = next((word[5:] for word in words if word.startswith(b"name=")), words[0].lower())
-        words = [word for word in words if word != b"optional" and not word.startswith(b"name=")]
+        marks = [word for word in words if re.fullmatch(rb"optional|(every|silent|name)=.*", word)]
+        self.optional = b"optional" in marks
+        self.name = next((word[5:] for word in marks if word.startswith(b"name=")), words[0].lower())
+        words = words[: len(words) - len(marks)]
         self.can = words[0].lower()
         self.data_id = int(words[1], 16)
         self.key = bytes.fromhex(words[2].decode())
@@ -165,6 +167,9 @@ class Search:
         for bit in range(8 * (own.size + 4)):
             if bit // 8 < len(data):
                 self.within(f"bit {bit % 8} of byte {bit // 8} is flipped", own, data=inverted(data, bit))
+        can = int(own.can, 16) & 0xFFFF
+        if can != own.data_id:
+            self.within("verifies with the CAN identifier as Data ID", own, data_id=can)
 
     def reason(self):
         try:
@@ -186,7 +191,30 @@ def frame_of(line):
     frame = FRAME.fullmatch(words[2])
     if not frame:
         return None
-    return frame[1].lower(), words[1], bytes.fromhex((frame[2] or frame[3] or b"").decode())
+    return frame[1].lower(), words[1], bytes.fromhex((frame[2] or frame[3] or frame[4] or b"").decode())
+
+
+def judged(map_text, log_text):
+    """What `watch` answers to each frame that the map hears."""
+    mapping, text = map_of(map_text), b""
+    for number, line in enumerate(log_text.split(b"\n"), 1):
+        can, channel, data = frame_of(line) or (None, None, None)
+        own = next((it for it in mapping if it.can == can and it.channel in (None, channel)), None)
+        if own is None:
+            continue
+        text += b"%d %s " % (number, own.name)
+        if len(data) < own.size + 4:
+            text += b"BadLength\n"
+            continue
+        freshness = own.counter + 1 + (data[own.size] - own.counter - 1) % 256
+        if freshness > own.counter + own.window or freshness >= 1 << 64:
+            text += b"FRESHNESSFAILURE\n"
+        elif verifies(own, data, freshness):
+            own.counter = freshness
+            text += b"VERIFICATIONSUCCESS %016x %s\n" % (freshness, data[: own.size].hex().encode())
+        else:
+            text += b"VERIFICATIONFAILURE\n"
+    return text
 
 
 def explained(map_text, log_text):

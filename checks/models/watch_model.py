@@ -10,7 +10,9 @@ import json
 import re
 
 TIME = rb"\([^ \t]*\)"
-CLASSIC = re.compile(rb"([0-9A-Fa-f]{3}|[0-9A-Fa-f]{8})#(([0-9A-Fa-f]{2}){0,8}|#[0-9A-Fa-f]([0-9A-Fa-f]{2}){0,64})")
+DATA = rb"([0-9A-Fa-f]{2}){0,8}|[0-9A-Fa-f]{16}_[9A-Fa-f]|#[0-9A-Fa-f]([0-9A-Fa-f]{2}){0,64}"
+CLASSIC = re.compile(rb"([0-9A-Fa-f]{3}|[0-9A-Fa-f]{8})#(" + DATA + rb")")
+MARK = re.compile(rb"optional|(every|silent|name)=.*")
 REMOTE = re.compile(rb"([0-9A-Fa-f]{3}|[0-9A-Fa-f]{8})#R[^#]*|[0-9A-Fa-f]{5}#.*")
 TOTAL = re.compile(r"line (\d+) (\S+) (\S+) accepted (\d+) failed (\d+) missed (\d+) last (\S+)")
 COUNT = re.compile(r"(accepted|failed|unmapped|other frames|malformed) (\d+)")
@@ -20,16 +22,18 @@ ANSWER = re.compile(rb'(\{"kind":"frame",)?(?:"frame":)?(\d+)[ ,]')
 
 
 def map_lines(text):
-    """The number, words, `optional` and head of each line of a map: the head is its name, or its CAN identifier."""
+    """The number, words, `optional`, head and own silence of each line of a map: the head is its name, or its CAN
+    identifier. Five of its periods are a silence, if it tells no other."""
     lines = []
     for number, line in enumerate(text.split(b"\n"), 1):
         words = line.split()
         if not words or words[0].startswith(b"#"):
             continue
         words = words[: next((at for at, word in enumerate(words) if word.startswith(b"#")), len(words))]
-        name = next((word[5:] for word in words if word.startswith(b"name=")), words[0].lower())
-        own = [word for word in words if word != b"optional" and not word.startswith(b"name=")]
-        lines.append((number, own, b"optional" in words, name))
+        own = [word for word in words if not MARK.fullmatch(word)]
+        marks = dict(word.partition(b"=")[::2] for word in words[len(own) :])
+        silent = micros(marks[b"silent"]) if b"silent" in marks else 5 * micros(marks.get(b"every", b"0"))
+        lines.append((number, own, b"optional" in marks, marks.get(b"name", words[0].lower()), silent or None))
     return lines
 
 
@@ -97,7 +101,7 @@ def totals(map_text, log_text, answers, options=()):
     mapping = map_lines(map_text)
     answered = {int(words[0]): words for words in map(bytes.split, answers.splitlines())}
     accepted, failed = [0] * len(mapping), [0] * len(mapping)
-    last = [int(words[3], 16) for _, words, _, _ in mapping]
+    last = [int(words[3], 16) for _, words, *_ in mapping]
     others = {"unmapped": 0, "other frames": 0, "malformed": 0}
     moments, heard = [], [[] for _ in mapping]
     for number, line in enumerate(log_text.split(b"\n"), 1):
@@ -114,7 +118,7 @@ def totals(map_text, log_text, answers, options=()):
             answer = answered[number]
             place = next(
                 at
-                for at, (_, entry, _, head) in enumerate(mapping)
+                for at, (_, entry, _, head, _) in enumerate(mapping)
                 if head == answer[1] and (len(entry) < 7 or entry[6] in (b"-", words[1]))
             )
             if answer[2] == b"VERIFICATIONSUCCESS":
@@ -126,21 +130,22 @@ def totals(map_text, log_text, answers, options=()):
         else:
             others[kind(words)] += 1
     text, over, limits = "", "", limits_of(options)
-    for place, (number, words, _, head) in enumerate(mapping):
+    for place, (number, words, optional, head, own) in enumerate(mapping):
         values = last[place] - int(words[3], 16)
         missed = values - accepted[place]
         share = -(-100 * missed // values) if values else 0
         what = f"line {number} {head.decode()} {words[1].decode().lower()} "
         over += over_lines(limits, {"missed": missed, "missed-share": share}, what)
         begin, end = longest([moments[0], *heard[place], moments[-1]]) if moments else (0, 2**64 - 1)
-        if limits["silent"] is not None and not mapping[place][2] and end - begin >= limits["silent"]:
-            over += f"silent {what}from {seconds(begin)} to {seconds(end)} limit {seconds(limits['silent'])}\n"
+        limit = own or limits["silent"]
+        if limit is not None and not optional and end - begin >= limit:
+            over += f"silent {what}from {seconds(begin)} to {seconds(end)} limit {seconds(limit)}\n"
         text += f"line {number} {head.decode()} {words[1].decode().lower()} accepted {accepted[place]}"
         text += f" failed {failed[place]} missed {missed} last {last[place]:016x}\n"
     text += f"accepted {sum(accepted)}\nfailed {sum(failed)}\n"
     text += "".join(f"{name} {count}\n" for name, count in others.items())
     over += over_lines(limits, {name: others[name] for name in ("malformed", "unmapped")})
-    silent = not mapping or any(not optional and not accepted[at] for at, (_, _, optional, _) in enumerate(mapping))
+    silent = not mapping or any(not line[2] and not accepted[at] for at, line in enumerate(mapping))
     return (text + over).encode(), 1 if sum(failed) else 3 if silent or over else 0
 
 
@@ -169,7 +174,7 @@ def object_of(line, identifiers):
 
 def objects(text, map_text):
     """What `watch --json` prints in the place of a text of `watch`: the five numbers are one object."""
-    identifiers = {number: words[0].decode().lower() for number, words, _, _ in map_lines(map_text)}
+    identifiers = {number: words[0].decode().lower() for number, words, *_ in map_lines(map_text)}
     told, counts = [], {}
     for line in text.decode().splitlines():
         count = COUNT.fullmatch(line)

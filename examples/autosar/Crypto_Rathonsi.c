@@ -10,9 +10,10 @@
 #define MESSAGES_LENGTH 64u
 #define PROOF_LENGTH 48u
 #define MAC_LENGTH 16u
+#define SLOTS 14u
 
 /* M1 of the last update of each slot, whose proof may be asked for. */
-static uint8 Crypto_M1[14][M1_LENGTH];
+static uint8 Crypto_M1[SLOTS][M1_LENGTH];
 
 static Std_ReturnType result_of(int32_t status)
 {
@@ -44,10 +45,11 @@ static Std_ReturnType result_of(int32_t status)
     return answer;
 }
 
-/* The slot of a key, or 0 (which makes no MAC) if there is none. */
+/* The slot of a key, or SLOTS, which has none and makes no MAC. The slot of the key for answers is no key's. */
 static uint8 slot_of(uint32 cryptoKeyId)
 {
-    return (cryptoKeyId < FVM_KEYS) ? FvM_SlotOfKey[cryptoKeyId] : 0u;
+    const uint8 slot = (cryptoKeyId < FVM_KEYS) ? FvM_SlotOfKey[cryptoKeyId] : SLOTS;
+    return ((slot < SLOTS) && (slot != FVM_ANSWER_SLOT)) ? slot : SLOTS;
 }
 
 /* Hands out as many bytes of a MAC as the buffer takes, and says how many. */
@@ -106,7 +108,7 @@ Std_ReturnType Crypto_KeyElementSet(uint32 cryptoKeyId, uint32 keyElementId, con
     const uint8 slot = slot_of(cryptoKeyId);
     if (keyLength != MESSAGES_LENGTH) {
         answer = CRYPTO_E_KEY_SIZE_MISMATCH;
-    } else if ((keyElementId == CRYPTO_KE_MAC_KEY) && ((keyPtr[15] >> 4u) == slot)) {
+    } else if ((keyElementId == CRYPTO_KE_MAC_KEY) && (slot < SLOTS) && ((keyPtr[15] >> 4u) == slot)) {
         RathonsiRequest request;
         (void)memcpy(request.m1, keyPtr, 16u);
         (void)memcpy(request.m2, &keyPtr[16], 32u);
@@ -129,7 +131,7 @@ Std_ReturnType Crypto_KeyElementGet(uint32 cryptoKeyId, uint32 keyElementId, uin
     const uint8 slot = slot_of(cryptoKeyId);
     if (*resultLengthPtr < PROOF_LENGTH) {
         answer = CRYPTO_E_KEY_SIZE_MISMATCH;
-    } else if (keyElementId == CRYPTO_KE_MAC_PROOF) {
+    } else if ((keyElementId == CRYPTO_KE_MAC_PROOF) && (slot < SLOTS)) {
         RathonsiReply reply;
         answer = result_of(FvM_ConfirmKey(Crypto_M1[slot], &reply));
         if (answer == E_OK) {

@@ -13,6 +13,9 @@ typedef enum {
 
 /* length is that of the image: the store and the room after it. */
 
+/* Whether a job runs that was begun before. Until it ends, nothing else is begun, and its bytes stay as they are. */
+boolean FvM_Memory_IsBusy(void);
+
 /* Begins to read the store into the image. What it reads is durable, and reads the same ever after. */
 Std_ReturnType FvM_Memory_Read(uint8 *image, uint32 length);
 

@@ -47,6 +47,11 @@ static Std_ReturnType begin_jobs(void)
     return (FvM_Memory == FVM_MEMORY_FAILED) ? E_NOT_OK : E_OK;
 }
 
+boolean FvM_Memory_IsBusy(void)
+{
+    return (Eep_GetJobResult() == MEMIF_JOB_PENDING) ? 1u : 0u;
+}
+
 Std_ReturnType FvM_Memory_Read(uint8 *image, uint32 length)
 {
     FvM_Begun = 3u;

@@ -74,6 +74,11 @@ static Std_ReturnType begin(int32_t status)
     return (FvM_Memory == FVM_MEMORY_FAILED) ? E_NOT_OK : E_OK;
 }
 
+boolean FvM_Memory_IsBusy(void)
+{
+    return (Fls_GetJobResult() == MEMIF_JOB_PENDING) ? 1u : 0u;
+}
+
 Std_ReturnType FvM_Memory_Read(uint8 *image, uint32 length)
 {
     FvM_Read = image;

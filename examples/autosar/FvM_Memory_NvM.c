@@ -1,5 +1,5 @@
-/* The store in one block of NvM, over Fee or Ea, of RATHONSI_STORE_SIZE(FVM_ROOM) bytes in all versions of the software.
- * README.md says how the block is configured. */
+/* The store in one block of NvM, over Fee or Ea, of RATHONSI_STORE_SIZE(FVM_ROOM) bytes in all versions of the
+ * software. README.md says how the block is configured. */
 #include <string.h>
 
 #include "FvM_Cfg.h"
@@ -24,6 +24,12 @@ static void write_block(void)
     } else {
         FvM_Refused++;
     }
+}
+
+boolean FvM_Memory_IsBusy(void)
+{
+    NvM_RequestResultType result = NVM_REQ_NOT_OK;
+    return ((NvM_GetErrorStatus(FVM_NVM_BLOCK, &result) == E_OK) && (result == NVM_REQ_PENDING)) ? 1u : 0u;
 }
 
 Std_ReturnType FvM_Memory_Read(uint8 *image, uint32 length)

@@ -4,10 +4,11 @@
 #include <string.h>
 
 #include "FvM_Cfg.h"
+#include "FvM_Core.h"
 #include "FvM_Memory.h"
 #include "rathonsi_freshness.h"
 
-static FvM_StateType FvM_State = FVM_STOPPED;
+FvM_StateType FvM_State = FVM_STOPPED;
 /* The memory writes the plan. */
 static boolean FvM_Writing;
 static int32_t FvM_Fault = RATHONSI_OK;
@@ -15,22 +16,21 @@ static int32_t FvM_Fault = RATHONSI_OK;
 static uint16 FvM_FaultCell = FVM_NO_CELL;
 
 /* The store, and the room after it. */
-static uint8 FvM_Image[RATHONSI_STORE_SIZE(FVM_ROOM)];
+uint8 FvM_Image[RATHONSI_STORE_SIZE(FVM_ROOM)];
 /* How long the store is that was read: newer software may have added cells. */
-static uint32_t FvM_Size;
+uint32_t FvM_Size;
 /* The next cell that the store may lack. */
 static uint16 FvM_Cell;
 static RathonsiPlan FvM_Plan;
-static RathonsiRoute FvM_Route[FVM_ROUTES];
+RathonsiRoute FvM_Route[FVM_ROUTES];
 /* What SecOC was given and verifies now; 0 if there is nothing. */
-static uint64 FvM_Candidate[FVM_ROUTES];
+uint64 FvM_Candidate[FVM_ROUTES];
 /* A freshness that no bound covered when it was asked for. */
 static uint64 FvM_Wanted[FVM_ROUTES];
-/* SecOC asked for a freshness of the route in this life. Before that nothing is reserved: each power-up would skip it. */
-static boolean FvM_Asked[FVM_ROUTES];
+/* SecOC asked for a freshness of the route in this life. Before that nothing is reserved: each start would skip it. */
+boolean FvM_Asked[FVM_ROUTES];
 /* How many PDUs were refused in a row, FVM_MISSES at most. */
-static uint8 FvM_Missed[FVM_ROUTES];
-#define FVM_MISSES 3u
+uint8 FvM_Missed[FVM_ROUTES];
 /* SecOC told a success of the route in this life. */
 static boolean FvM_Told[FVM_ROUTES];
 /* Until then: how many candidates in a row had no verdict, FVM_SILENCE at most. */
@@ -40,7 +40,7 @@ static uint8 FvM_Untold[FVM_ROUTES];
 static boolean FvM_KeyWaits;
 
 /* A fault of this cell, or of the route that has it. */
-static void stop_cell(int32_t status, uint16 cell)
+void FvM_StopCell(int32_t status, uint16 cell)
 {
     FvM_State = FVM_STOPPED;
     FvM_Writing = 0u;
@@ -50,10 +50,10 @@ static void stop_cell(int32_t status, uint16 cell)
 
 static void stop(int32_t status)
 {
-    stop_cell(status, FVM_NO_CELL);
+    FvM_StopCell(status, FVM_NO_CELL);
 }
 
-/* ---- Bits: the most significant bit of a value is the highest bit of byte 0 ----------------------------------- */
+/* ---- Bits: the most significant bit of a value is the highest bit of byte 0 ------------------------------------ */
 
 static uint64 value_of(const uint8 *bytes, uint32 bits)
 {
@@ -79,15 +79,15 @@ static void put_value(uint64 value, uint32 bits, uint8 *bytes)
     }
 }
 
-static boolean fits(uint64 value, uint32 bits)
+boolean FvM_Fits(uint64 value, uint32 bits)
 {
     return ((bits >= 64u) || ((value >> bits) == 0u)) ? 1u : 0u;
 }
 
-/* ---- Routes ------------------------------------------------------------------------------------------------------- */
+/* ---- Routes ---------------------------------------------------------------------------------------------------- */
 
 /* The route of an ID in a direction, or FVM_ROUTES. */
-static uint32 route_of(uint16 freshnessId, uint8 direction)
+uint32 FvM_RouteOf(uint16 freshnessId, uint8 direction)
 {
     uint32 i = 0u;
     while ((i < FVM_ROUTES)
@@ -100,6 +100,7 @@ static uint32 route_of(uint16 freshnessId, uint8 direction)
 static void fill_routes(void)
 {
     (void)memset(FvM_Route, 0, sizeof FvM_Route);
+    FvM_ForgetQuestions();
     for (uint32 i = 0u; i < FVM_ROUTES; i++) {
         FvM_Route[i].data_id = FvM_Routes[i].freshnessId;
         FvM_Route[i].cell = FvM_Routes[i].cell;
@@ -139,11 +140,11 @@ static uint64 due(uint32 i)
     uint64 freshness = 0u;
     const int32_t status = rathonsi_route_state(&FvM_Route[i], FvM_Image, FvM_Size, &told);
     if (status != RATHONSI_OK) {
-        stop_cell(status, FvM_Routes[i].cell);
+        FvM_StopCell(status, FvM_Routes[i].cell);
     } else if (FvM_Wanted[i] > told.bound) {
         freshness = FvM_Wanted[i];
     } else if ((FvM_Asked[i] != 0u) && ((told.bound - told.counter) < FvM_Routes[i].least)
-               && (told.bound < UINT64_MAX) && (fits(told.bound + 1u, FvM_Routes[i].bits) != 0u)) {
+               && (told.bound < UINT64_MAX) && (FvM_Fits(told.bound + 1u, FvM_Routes[i].bits) != 0u)) {
         freshness = told.bound + 1u;
     } else {
         FvM_Wanted[i] = 0u;
@@ -151,7 +152,7 @@ static uint64 due(uint32 i)
     return freshness;
 }
 
-/* ---- The memory ----------------------------------------------------------------------------------------------------- */
+/* ---- The memory ------------------------------------------------------------------------------------------------ */
 
 /* The store has all cells: all routes are opened. */
 static void open_routes(void)
@@ -176,7 +177,7 @@ static void open_routes(void)
     if (status == RATHONSI_OK) {
         FvM_State = FVM_UP;
     } else {
-        stop_cell(status, (which < FVM_ROUTES) ? FvM_Routes[which].cell : cell);
+        FvM_StopCell(status, (which < FVM_ROUTES) ? FvM_Routes[which].cell : cell);
     }
 }
 
@@ -186,9 +187,9 @@ static boolean is_planned(void)
             || (FvM_Plan.writes[2].length != 0u)) ? 1u : 0u;
 }
 
-/* Mends the number of cells: a cut may leave anything of it, also one within the growth of newer software. Then it asks for
- * each cell that the production line didn't make, at each start. A cell that is there plans nothing. Says whether there is a
- * plan; if none is left, all opens. */
+/* Mends the number of cells: a cut may leave anything of it, also one within the growth of newer software. Then it asks
+ * for each cell that the production line didn't make, at each start. A cell that is there plans nothing. Says whether
+ * there is a plan; if none is left, all opens. */
 static boolean make_growth(void)
 {
     int32_t status = rathonsi_store_mend(FvM_Image, sizeof FvM_Image, &FvM_Plan);
@@ -203,7 +204,7 @@ static boolean make_growth(void)
         open_routes();
     } else if (status != RATHONSI_OK) {
         /* The loop is past the cell. */
-        stop_cell(status, (uint16)((RATHONSI_SLOT_CELLS + FvM_Cell) - 1u));
+        FvM_StopCell(status, (uint16)((RATHONSI_SLOT_CELLS + FvM_Cell) - 1u));
     } else if (is_planned() == 0u) {
         open_routes();
     } else {
@@ -223,24 +224,42 @@ static int32_t plan_bound(uint32 i, uint64 freshness)
     return status;
 }
 
-/* Plans the bound of the next route that is due, unless the plan of a key waits. The routes take turns. Says whether there is a plan. */
+/* The next route that is due, and its freshness, or FVM_ROUTES. The routes take turns. One that somebody waits for
+ * comes before those that are reserved ahead. */
+static uint32 next_due(uint32 turn, uint64 *freshness)
+{
+    uint32 found = FVM_ROUTES;
+    boolean waits = 0u;
+    for (uint32 k = 0u; (k < FVM_ROUTES) && (waits == 0u) && (FvM_State == FVM_UP); k++) {
+        const uint32 i = (turn + k) % FVM_ROUTES;
+        const uint64 wanted = due(i);
+        waits = ((wanted != 0u) && (wanted == FvM_Wanted[i])) ? 1u : 0u;
+        if ((waits != 0u) || ((wanted != 0u) && (found == FVM_ROUTES))) {
+            found = i;
+            *freshness = wanted;
+        }
+    }
+    return (FvM_State == FVM_UP) ? found : FVM_ROUTES;
+}
+
+/* Plans the bound of the next route that is due, unless the plan of a key waits. Says whether there is a plan. */
 static boolean make_plan(void)
 {
     static uint32 turn;
     boolean planned = FvM_KeyWaits;
     FvM_KeyWaits = 0u;
-    for (uint32 k = 0u; (k < FVM_ROUTES) && (planned == 0u) && (FvM_State == FVM_UP); k++) {
-        const uint32 i = (turn + k) % FVM_ROUTES;
-        const uint64 freshness = due(i);
-        if ((FvM_State == FVM_UP) && (freshness != 0u)) {
+    if (planned == 0u) {
+        uint64 freshness = 0u;
+        const uint32 i = next_due(turn, &freshness);
+        if (i < FVM_ROUTES) {
             const int32_t status = plan_bound(i, freshness);
+            turn = i + 1u;
             if (status == RATHONSI_OK) {
-                turn = i + 1u;
                 planned = 1u;
             } else if (status == RATHONSI_EXHAUSTED) {
                 FvM_Wanted[i] = 0u;
             } else {
-                stop_cell(status, FvM_Routes[i].cell);
+                FvM_StopCell(status, FvM_Routes[i].cell);
             }
         }
     }
@@ -267,10 +286,9 @@ static void take_outcome(FvM_MemoryState memory)
     }
 }
 
-void FvM_Init(void)
+/* All routes, the plan and the image are as before the first read. */
+static void begin_anew(void)
 {
-    FVM_ENTER();
-    stop(RATHONSI_OK);
     (void)memset(&FvM_Plan, 0, sizeof FvM_Plan);
     /* Bytes that the memory doesn't read, of a block that is too short, are no erased ones: no cell is added there. */
     (void)memset(FvM_Image, 0x55, sizeof FvM_Image);
@@ -278,9 +296,22 @@ void FvM_Init(void)
     FvM_Size = sizeof FvM_Image;
     FvM_Cell = FVM_MADE;
     FvM_KeyWaits = 0u;
+}
+
+void FvM_Init(void)
+{
+    /* A job of before has the plan or the image until it ends. */
+    const boolean is_busy = FvM_Memory_IsBusy();
+    FVM_ENTER();
+    stop((is_busy != 0u) ? RATHONSI_BUSY : RATHONSI_OK);
+    if (is_busy == 0u) {
+        begin_anew();
+    }
     FVM_LEAVE();
     /* The read is begun before FvM_MainFunction asks what became of it. */
-    if (FvM_Memory_Read(FvM_Image, sizeof FvM_Image) == E_OK) {
+    if (is_busy != 0u) {
+        /* It stays stopped. */
+    } else if (FvM_Memory_Read(FvM_Image, sizeof FvM_Image) == E_OK) {
         FvM_State = FVM_READING;
     } else {
         FvM_Fault = RATHONSI_FAILED;
@@ -297,6 +328,7 @@ void FvM_MainFunction(void)
         FVM_LEAVE();
     }
     FVM_ENTER();
+    FvM_AgeQuestions();
     if (FvM_Writing == 0u) {
         if (FvM_State == FVM_GROWING) {
             begins = make_growth();
@@ -330,10 +362,10 @@ uint16 FvM_GetFaultCell(void)
     return FvM_FaultCell;
 }
 
-/* ---- The callouts of SecOC ------------------------------------------------------------------------------------------ */
+/* ---- The callouts of SecOC ------------------------------------------------------------------------------------- */
 
 /* What a callout answers for a status of Rathonsi. */
-static Std_ReturnType answer_of(int32_t status)
+Std_ReturnType FvM_AnswerOf(int32_t status)
 {
     Std_ReturnType answer = E_NOT_OK;
     if (status == RATHONSI_OK) {
@@ -353,13 +385,13 @@ static int32_t status_down(void)
 }
 
 /* What a callout answers then. */
-static Std_ReturnType answer_down(void)
+Std_ReturnType FvM_AnswerDown(void)
 {
     return (status_down() == RATHONSI_BUSY) ? E_BUSY : E_NOT_OK;
 }
 
 /* This freshness of a route has to be covered. */
-static void want(uint32 i, uint64 freshness)
+void FvM_Want(uint32 i, uint64 freshness)
 {
     if (FvM_Wanted[i] < freshness) {
         FvM_Wanted[i] = freshness;
@@ -369,17 +401,17 @@ static void want(uint32 i, uint64 freshness)
 /* Takes the next freshness of a sender. At the end of its length it takes none, and wants no bound. */
 static Std_ReturnType next_freshness(uint32 i, uint64 *freshness)
 {
-    Std_ReturnType answer = answer_down();
-    if ((FvM_State == FVM_UP) && (fits(FvM_Route[i].counter + 1u, FvM_Routes[i].bits) == 0u)) {
+    Std_ReturnType answer = FvM_AnswerDown();
+    if ((FvM_State == FVM_UP) && (FvM_Fits(FvM_Route[i].counter + 1u, FvM_Routes[i].bits) == 0u)) {
         answer = E_NOT_OK;
     } else if (FvM_State == FVM_UP) {
         FvM_Asked[i] = 1u;
         const int32_t status =
             rathonsi_freshness_next(&FvM_Route[i], FvM_Image, FvM_Size, freshness);
         if (status == RATHONSI_RESERVE) {
-            want(i, FvM_Route[i].counter + 1u);
+            FvM_Want(i, FvM_Route[i].counter + 1u);
         }
-        answer = answer_of(status);
+        answer = FvM_AnswerOf(status);
     } else {
         /* It isn't up. */
     }
@@ -391,7 +423,7 @@ Std_ReturnType SecOC_GetTxFreshnessTruncData(uint16 SecOCFreshnessValueID, uint8
                                              uint32 *SecOCTruncatedFreshnessValueLength)
 {
     Std_ReturnType answer = E_NOT_OK;
-    const uint32 i = route_of(SecOCFreshnessValueID, RATHONSI_SENDS);
+    const uint32 i = FvM_RouteOf(SecOCFreshnessValueID, RATHONSI_SENDS);
     if ((i < FVM_ROUTES) && (*SecOCFreshnessValueLength >= FvM_Routes[i].bits)
         && (*SecOCTruncatedFreshnessValueLength <= FvM_Routes[i].bits)) {
         uint64 freshness = 0u;
@@ -421,7 +453,7 @@ static Std_ReturnType give_candidate(uint32 i, uint64 freshness)
 {
     Std_ReturnType answer = E_OK;
     if (FvM_Untold[i] == FVM_SILENCE) {
-        stop_cell(FVM_NO_VERDICT, FvM_Routes[i].cell);
+        FvM_StopCell(FVM_NO_VERDICT, FvM_Routes[i].cell);
         answer = E_NOT_OK;
     } else {
         FvM_Candidate[i] = freshness;
@@ -435,20 +467,20 @@ static Std_ReturnType give_candidate(uint32 i, uint64 freshness)
 /* The freshness is the next one with these low bits. One that needs more bits than SecOC's has is none. */
 static Std_ReturnType candidate(uint32 i, uint64 truncated, uint32 bits, uint64 *freshness)
 {
-    Std_ReturnType answer = answer_down();
+    Std_ReturnType answer = FvM_AnswerDown();
     FvM_Candidate[i] = 0u;
     if (FvM_State == FVM_UP) {
         FvM_Asked[i] = 1u;
         const int32_t status = rathonsi_freshness_candidate(&FvM_Route[i], FvM_Image, FvM_Size, truncated,
                                                             (uint8)bits, freshness);
-        answer = (fits(*freshness, FvM_Routes[i].bits) == 0u) ? E_NOT_OK : answer_of(status);
+        answer = (FvM_Fits(*freshness, FvM_Routes[i].bits) == 0u) ? E_NOT_OK : FvM_AnswerOf(status);
         if (answer == E_OK) {
             answer = give_candidate(i, *freshness);
         } else if (answer == E_BUSY) {
-            want(i, *freshness);
+            FvM_Want(i, *freshness);
         } else if (status == RATHONSI_BAD_VALUE) {
             /* SecOC is configured with too few bits for the window. */
-            stop_cell(status, FvM_Routes[i].cell);
+            FvM_StopCell(status, FvM_Routes[i].cell);
         } else {
             /* The PDU is refused. */
         }
@@ -461,7 +493,7 @@ Std_ReturnType SecOC_GetRxFreshness(uint16 SecOCFreshnessValueID, const uint8 *S
                                     uint8 *SecOCFreshnessValue, uint32 *SecOCFreshnessValueLength)
 {
     Std_ReturnType answer = E_NOT_OK;
-    const uint32 i = route_of(SecOCFreshnessValueID, RATHONSI_RECEIVES);
+    const uint32 i = FvM_RouteOf(SecOCFreshnessValueID, RATHONSI_RECEIVES);
     /* Only one freshness within the window has these low bits: a second attempt would be the same. */
     if ((i < FVM_ROUTES) && (SecOCAuthVerifyAttempts == 0u) && (SecOCTruncatedFreshnessValueLength >= 1u)
         && (SecOCTruncatedFreshnessValueLength <= 64u) && (*SecOCFreshnessValueLength >= FvM_Routes[i].bits)) {
@@ -486,7 +518,7 @@ void SecOC_SPduTxConfirmation(uint16 SecOCFreshnessValueID)
 
 void FvM_VerificationStatus(SecOC_VerificationStatusType status)
 {
-    const uint32 i = route_of(status.freshnessValueID, RATHONSI_RECEIVES);
+    const uint32 i = FvM_RouteOf(status.freshnessValueID, RATHONSI_RECEIVES);
     if (i < FVM_ROUTES) {
         FVM_ENTER();
         FvM_Untold[i] = 0u;
@@ -499,7 +531,7 @@ void FvM_VerificationStatus(SecOC_VerificationStatusType status)
             const int32_t accepted =
                 rathonsi_freshness_accept(&FvM_Route[i], FvM_Image, FvM_Size, FvM_Candidate[i]);
             if (accepted != RATHONSI_OK) {
-                stop_cell(accepted, FvM_Routes[i].cell);
+                FvM_StopCell(accepted, FvM_Routes[i].cell);
             }
             FvM_Missed[i] = 0u;
             FvM_Told[i] = 1u;
@@ -511,146 +543,7 @@ void FvM_VerificationStatus(SecOC_VerificationStatusType status)
     }
 }
 
-/* ---- A receiver that fell behind ---------------------------------------------------------------------------------- */
-
-boolean FvM_IsBehind(uint16 freshnessId)
-{
-    const uint32 i = route_of(freshnessId, RATHONSI_RECEIVES);
-    return ((i < FVM_ROUTES) && (FvM_Missed[i] == FVM_MISSES)) ? 1u : 0u;
-}
-
-/* The question of one unit to another one. */
-static RathonsiQuestion question_of(uint32 asker, uint32 answerer, const uint8 nonce[16])
-{
-    RathonsiQuestion question;
-    question.asker = asker;
-    question.answerer = answerer;
-    (void)memcpy(question.nonce, nonce, RATHONSI_NONCE);
-    return question;
-}
-
-/* The MAC of an answer's input: by the key in the slot of the route, or by a job of Csm. */
-static Std_ReturnType answer_mac(uint32 i, const RathonsiAnswerInput *input, uint8 mac[16])
-{
-    const uint32 bytes = (uint32)sizeof input->bytes;
-#ifdef FVM_ANSWER_JOB
-    uint32 length = 16u;
-    Std_ReturnType result =
-        Csm_MacGenerate(FVM_ANSWER_JOB, CRYPTO_OPERATIONMODE_SINGLECALL, input->bytes, bytes, mac, &length);
-    (void)i;
-    if (result == CRYPTO_E_BUSY) {
-        result = E_BUSY;
-    } else if ((result != E_OK) || (length != 16u)) {
-        result = E_NOT_OK;
-    } else {
-        /* E_OK */
-    }
-    return result;
-#else
-    const int32_t status = FvM_MakeMac(FvM_Routes[i].slot, input->bytes, bytes, mac);
-    return (status == RATHONSI_BUSY) ? E_BUSY : answer_of(status);
-#endif
-}
-
-Std_ReturnType FvM_MakeAnswer(uint16 freshnessId, uint8 direction, uint32 asker, const uint8 nonce[16], uint8 answer[24])
-{
-    Std_ReturnType result = E_NOT_OK;
-    const uint32 i = route_of(freshnessId, direction);
-    if (i < FVM_ROUTES) {
-        const RathonsiQuestion question = question_of(asker, FVM_NAME, nonce);
-        RathonsiAnswerInput input;
-        uint8 mac[16];
-        FVM_ENTER();
-        result = answer_down();
-        if (FvM_State == FVM_UP) {
-            result = answer_of(rathonsi_sync_answer_input(&FvM_Route[i], FvM_Image, FvM_Size, &question, &input));
-        }
-        FVM_LEAVE();
-        if (result == E_OK) {
-            result = answer_mac(i, &input, mac);
-        }
-        if (result == E_OK) {
-            result = answer_of(rathonsi_sync_answer_mac(&input, mac, answer));
-        }
-    }
-    return result;
-}
-
-/* What a call on an answer says before it looks at the answer: E_OK if all routes are open, and no verdict is out on a
- * candidate of this one. */
-static Std_ReturnType answer_ready(uint32 i)
-{
-    Std_ReturnType result = E_OK;
-    if (FvM_State != FVM_UP) {
-        result = answer_down();
-    } else if (FvM_Candidate[i] != 0u) {
-        result = E_BUSY;
-    } else {
-        /* It is ready. */
-    }
-    return result;
-}
-
-/* Takes an answer with this MAC for a route, or rejoins by it. */
-static Std_ReturnType take_answer(uint32 i, boolean rejoins, const RathonsiQuestion *question, const uint8 answer[24],
-                                  const RathonsiAnswerInput *input, const uint8 mac[16])
-{
-    RathonsiRoute *const route = &FvM_Route[i];
-    const RathonsiVerdict verdict =
-        (rejoins != 0u) ? rathonsi_sync_rejoin_mac(route, FvM_Image, FvM_Size, question, answer, input, mac)
-                        : rathonsi_sync_take_mac(route, FvM_Image, FvM_Size, question, answer, input, mac);
-    if (verdict.status == RATHONSI_RESERVE) {
-        want(i, verdict.freshness);
-    } else if ((verdict.status == RATHONSI_OK) || (verdict.status == RATHONSI_FRESHNESS_FAILURE)) {
-        /* It isn't behind any more, or it never was. */
-        FvM_Missed[i] = 0u;
-    } else {
-        /* It is no answer. */
-    }
-    return answer_of(verdict.status);
-}
-
-/* The answer of that unit to this nonce, for a route. */
-static Std_ReturnType take_of(uint32 i, boolean rejoins, uint32 answerer, const uint8 nonce[16], const uint8 answer[24])
-{
-    const RathonsiQuestion question = question_of(FVM_NAME, answerer, nonce);
-    RathonsiAnswerInput input;
-    uint8 mac[16];
-    Std_ReturnType result;
-    FVM_ENTER();
-    result = answer_ready(i);
-    if (result == E_OK) {
-        result = answer_of(rathonsi_sync_take_input(&FvM_Route[i], FvM_Image, FvM_Size, &question, answer, &input));
-    }
-    FVM_LEAVE();
-    if (result == E_OK) {
-        result = answer_mac(i, &input, mac);
-    }
-    if (result == E_OK) {
-        FVM_ENTER();
-        result = answer_ready(i);
-        if (result == E_OK) {
-            result = take_answer(i, rejoins, &question, answer, &input, mac);
-        }
-        FVM_LEAVE();
-    }
-    return result;
-}
-
-Std_ReturnType FvM_TakeAnswer(uint16 freshnessId, uint8 direction, uint32 answerer, const uint8 nonce[16],
-                              const uint8 answer[24])
-{
-    const uint32 i = route_of(freshnessId, direction);
-    return (i < FVM_ROUTES) ? take_of(i, 0u, answerer, nonce, answer) : E_NOT_OK;
-}
-
-Std_ReturnType FvM_Rejoin(uint16 freshnessId, uint32 answerer, const uint8 nonce[16], const uint8 answer[24])
-{
-    const uint32 i = route_of(freshnessId, RATHONSI_RECEIVES);
-    return (i < FVM_ROUTES) ? take_of(i, 1u, answerer, nonce, answer) : E_NOT_OK;
-}
-
-/* ---- Keys, for the Crypto driver -------------------------------------------------------------------------------------- */
+/* ---- Keys, for the Crypto driver ------------------------------------------------------------------------------- */
 
 int32_t FvM_LoadKey(const RathonsiRequest *request)
 {
@@ -697,7 +590,7 @@ int32_t FvM_MakeMac(uint8 slot, const uint8 *message, uint32 length, uint8 mac[1
     return status;
 }
 
-/* ---- The production line -------------------------------------------------------------------------------------------- */
+/* ---- The production line --------------------------------------------------------------------------------------- */
 
 Std_ReturnType FvM_MakeStore(void)
 {

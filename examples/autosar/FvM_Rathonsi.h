@@ -58,17 +58,18 @@ void FvM_MainFunction(void);
 FvM_StateType FvM_GetState(void);
 
 /* The status of Rathonsi that stopped it, for a diagnostic event. RATHONSI_OK if none did. RATHONSI_FAILED:
- * the memory failed. RATHONSI_BAD_LENGTH: the store has more cells than FVM_ROOM. FVM_NO_VERDICT: see there. */
+ * the memory failed. RATHONSI_BUSY: a job of the memory still runs that was begun before FvM_Init; call it again.
+ * RATHONSI_BAD_LENGTH: the store has more cells than FVM_ROOM. FVM_NO_VERDICT: see there. */
 int32_t FvM_GetFault(void);
 
 /* SecOC was given 250 candidates of a route in a row, and told no verdict of any, nor a success of the route in this
- * life. FvM_VerificationStatus isn't configured, or not for successes: replays would be accepted. A SecOC that is right
- * tells a verdict for each candidate. It tells none if it drops the PDU for a newer one, or asks again since Csm is busy:
- * then a verdict or a success comes before 250 of them. */
+ * life. FvM_VerificationStatus isn't configured, or not for successes: replays would be accepted. A SecOC that is
+ * right tells a verdict for each candidate. It tells none if it drops the PDU for a newer one, or asks again since Csm
+ * is busy: then a verdict or a success comes before 250 of them. */
 #define FVM_NO_VERDICT 100
 
-/* The cell whose fault it is: below 14 a slot, else the route of that cell in FvM_Routes.c. The cell of the first line of
- * cells.txt is 14. FVM_NO_CELL: the fault is of none. */
+/* The cell whose fault it is: below 14 a slot, else the route of that cell in FvM_Routes.c. The cell of the first line
+ * of cells.txt is 14. FVM_NO_CELL: the fault is of none. */
 #define FVM_NO_CELL 0xffffu
 uint16 FvM_GetFaultCell(void);
 
@@ -76,36 +77,47 @@ uint16 FvM_GetFaultCell(void);
  * SecOC_GetRxFreshness gave last for this ID if the authenticator was right. */
 void FvM_VerificationStatus(SecOC_VerificationStatusType status);
 
-/* A receiver that is more than its window behind accepts nothing, until it takes an answer of its sender. It draws a
- * nonce of 16 random bytes, never the same one twice, and sends it with its name, FVM_NAME. The other unit calls
- * FvM_MakeAnswer with them, and sends the 24 bytes back. The receiver calls FvM_TakeAnswer with them and the other unit's
- * name, and forgets the nonce, at the latest after a second or eight wrong answers. A sender that was put in place of
- * another one asks its receiver in the same way. A unit answers under its own name alone, so it takes no answer of its own.
- * Nonce and answer may travel in plain PDUs. The direction is that of this unit's route: RATHONSI_SENDS or _RECEIVES. */
+/* A receiver that is more than its window behind accepts nothing, until it takes an answer of its sender. It makes a
+ * question by FvM_MakeQuestion, and sends the nonce with its name, FVM_NAME, and that of the unit that it asks. This
+ * one calls FvM_MakeAnswer, and sends the 24 bytes back. The receiver calls FvM_TakeAnswer with them. A sender that
+ * was put in place of another one asks its receiver in the same way. A unit answers under its own name alone, so it
+ * takes no answer of its own. Nonce and answer may travel in plain PDUs. The direction is that of this unit's route:
+ * RATHONSI_SENDS or _RECEIVES.
+ * A route has one question, its last one. It ends with its answer, after FVM_QUESTION_CYCLES of FvM_MainFunction, with
+ * the eighth wrong answer, and when all begins again. */
 
 /* Says whether three or more PDUs of this ID weren't verified in a row: time to ask. PDUs count, too, that SecOC didn't
  * verify, or that came while the store was read. */
 boolean FvM_IsBehind(uint16 freshnessId);
 
-/* E_BUSY: the store is being read, or the crypto stack is busy. E_NOT_OK: no route has this ID and direction, the asker
+/* Makes the question of a route to the unit with this name, and tells its nonce: that of no other question.
+ * E_BUSY: the bound of the nonces is being written, the store is being read, or the crypto stack is busy; ask again.
+ * E_NOT_OK: no route has this ID and direction, the answerer has the name of this unit, there is no key, or nonces
+ * have no source: FVM_NONCE_ID or FVM_NONCE_JOB. The question of before stays then. */
+Std_ReturnType FvM_MakeQuestion(uint16 freshnessId, uint8 direction, uint32 answerer, uint8 nonce[16]);
+
+/* Answers a question that names this unit, FVM_NAME. Drop one that names another unit: the call can't see it.
+ * E_BUSY: the store is being read, or the crypto stack is busy. E_NOT_OK: no route has this ID and direction, the asker
  * has the name of this unit, or there is no key. */
 Std_ReturnType FvM_MakeAnswer(uint16 freshnessId, uint8 direction, uint32 asker, const uint8 nonce[16],
                               uint8 answer[24]);
 
-/* E_OK: PDUs that were sent after the answer are accepted, within the window, if SecOC's attempts last
- * until the bounds of other routes are written. E_BUSY: a bound is being written, the store
- * is being read, the crypto stack is busy, or SecOC verifies a PDU of this ID; call again with the same bytes. E_NOT_OK:
- * it is no answer of this unit to this nonce, the route isn't behind, or there is no key. */
-Std_ReturnType FvM_TakeAnswer(uint16 freshnessId, uint8 direction, uint32 answerer, const uint8 nonce[16],
-                              const uint8 answer[24]);
+/* E_OK: PDUs that were sent after the answer are accepted, within the window. The first of them waits for no bound, if
+ * it is at most `reserve` above the answer's counter.
+ * E_BUSY: a bound is being written, the store is being read, the crypto stack is busy, or SecOC verifies a PDU of this
+ * ID; call again with the same bytes. Once they were found right and wait for a bound alone, they aren't looked at
+ * again.
+ * E_NOT_OK: it is no answer to the question of this route, there is no question, the route isn't behind, or there is
+ * no key. */
+Std_ReturnType FvM_TakeAnswer(uint16 freshnessId, uint8 direction, const uint8 answer[24]);
 
-/* Back at once after a reset: a receiver begins at its bound, and refuses what it had reserved. This moves its counter down
- * to the sender's, if SecOC verified no PDU of this ID in this life yet. The nonce was drawn since FvM_GetState was FVM_UP,
- * and nobody could foretell it: else PDUs of former lives are accepted again. Never rejoin to a sender that was put in place
- * of another one, or whose store was made anew, unless the key of its PDUs is new, too: recorded PDUs would be accepted
- * again. E_OK, E_BUSY: as for FvM_TakeAnswer. E_NOT_OK: it is no answer of this unit to this nonce, there is no key, or the
- * receiver isn't behind, and SecOC verified a PDU. */
-Std_ReturnType FvM_Rejoin(uint16 freshnessId, uint32 answerer, const uint8 nonce[16], const uint8 answer[24]);
+/* Back at once after a reset: a receiver begins at its bound, and refuses what it had reserved. This moves its counter
+ * down to the sender's, if SecOC verified no PDU of this ID in this life yet. The question is one of this life: no
+ * other is there. Never rejoin to a sender that was put in place of another one, or whose store was made anew, unless
+ * the key of its PDUs is new, too: recorded PDUs would be accepted again. E_OK, E_BUSY: as for FvM_TakeAnswer.
+ * E_NOT_OK: it is no answer to the question of this route, there is no question, there is no key, or the receiver
+ * isn't behind, and SecOC verified a PDU. */
+Std_ReturnType FvM_Rejoin(uint16 freshnessId, const uint8 answer[24]);
 
 /* What Crypto_Rathonsi.c asks. RATHONSI_BUSY: the store is being read, or written; ask again. FVM_NOT_UP: FvM_GetState
  * is FVM_STOPPED or FVM_MAKING; only FvM_Init helps. A key is durable before FvM_ConfirmKey confirms it. */

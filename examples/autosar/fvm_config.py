@@ -1,12 +1,15 @@
 #!/usr/bin/env python3
 """Writes FvM_Cfg.h and FvM_Routes.c: the routes of a freshness manager.
 
-    fvm_config.py --arxml FILE CELLS FOLDER     from the ECU configuration of SecOC
-    fvm_config.py --bus FILE NODE CELLS FOLDER  from a bus file of Rathonsi; its Data IDs are the freshness IDs
+    fvm_config.py --arxml FILE CELLS FOLDER [NONCES]     from the ECU configuration of SecOC
+    fvm_config.py --bus FILE NODE CELLS FOLDER [NONCES]  from a bus file of Rathonsi; its Data IDs are the freshness IDs
 
 CELLS is a text file under version control, with a line `ID DIRECTION` for each cell; `#` begins a comment. A new route is
 added at its end, and no line ever goes: a counter keeps its cell in all versions of the software. When the production line
 begins, its last line becomes `made`: later software adds the cells after it to the stores that the line made.
+
+NONCES is an ID that no PDU has, and that no other unit with the same key for answers names. A route of this ID counts the
+nonces of questions. Without it a job of Csm draws them, or the unit asks nothing.
 
 It checks everything before it writes anything, and prints the lines that it added to CELLS.
 """
@@ -113,7 +116,20 @@ def of_bus(path, name):
         }
 
 
-def check(path, routes):
+def of_nonces(text):
+    """The route that counts nonces."""
+    return {
+        "where": "NONCES",
+        "id": number("NONCES", "the ID", text),
+        "direction": "send",
+        "bits": 64,
+        "window": 1,
+        "reserve": RESERVE,
+        "slot": "FVM_ANSWER_SLOT",
+    }
+
+
+def check(routes):
     """Ends the program at the first route that isn't one."""
     seen = set()
     for route in routes:
@@ -125,8 +141,6 @@ def check(path, routes):
         for name, (least, most) in limits.items():
             if not least <= route[name] <= most:
                 refuse(f"{route['where']}: {name} is {route[name]}, not {least} to {most}")
-    if not routes:
-        refuse(f"{path} has no route")
 
 
 def read_cells(path):
@@ -185,13 +199,19 @@ def row(route):
 
 def main(words):
     match words:
-        case ["--arxml", path, cells_path, folder]:
+        case ["--arxml", path, cells_path, folder, *nonces] if len(nonces) < 2:
             routes = list(of_arxml(path))
-        case ["--bus", path, node, cells_path, folder]:
+        case ["--bus", path, node, cells_path, folder, *nonces] if len(nonces) < 2:
             routes = list(of_bus(path, node))
         case _:
             sys.exit(__doc__)
-    check(path, routes)
+    if not routes:
+        refuse(f"{path} has no route")
+    for nonce in map(of_nonces, nonces):
+        if nonce["id"] in (route["id"] for route in routes):
+            refuse(f"NONCES: ID {nonce['id']} is that of a PDU")
+        routes.append(nonce)
+    check(routes)
     cells, made = read_cells(Path(cells_path))
     added = add_cells(cells, routes)
     if not Path(folder).is_dir():
@@ -199,6 +219,7 @@ def main(words):
     header = (Path(__file__).parent / "FvM_Cfg.h.in").read_text(encoding="utf-8")
     for name, count in (("ROUTES", len(routes)), ("CELLS", len(cells)), ("MADE", len(cells) if made is None else made)):
         header = header.replace(f"@{name}@", str(count))
+    header = header.replace("@NONCES@\n", "".join(f"#define FVM_NONCE_ID {route['id']}u\n" for route in routes[-1:] if nonces))
     cell_rows = (f"    {{{identifier}u, (uint8){DIRECTIONS[direction]}}},\n" for identifier, direction in cells)
     if added:
         append(Path(cells_path), added)

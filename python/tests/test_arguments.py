@@ -84,7 +84,7 @@ key, message, text, iv = octets(0, 15, 17, 32), octets(), octets(1, 15, 17), oct
 payload, pdu, uid, block = octets(0, 61, 64, 1000), octets(0, 1, 4, 65, 4096), octets(0, 14, 16), octets(0, 15, 17)
 data_id, freshness, window = whole(0x10000), whole(), whole(0, 257, 65536 + 1)
 slot, flags, counter, purpose = whole(14, 256), whole(32, 256), whole(2**28, 2**32), whole(0, 3, 2**32 + 1)
-direction = whole(0, 3)
+direction, name, truth = whole(0, 3), whole(2**32), Kind([None, 0, 1, "", b"", object()], [])
 update, request = Kind([None, b"", 4, (UID, 4, 1, 0, 1, KEY), REQUEST], []), Kind([None, b"", 4, UPDATE], [])
 
 CALLS: list[tuple[Callable[..., Any], list[Any], list[Kind]]] = [
@@ -102,7 +102,8 @@ CALLS: list[tuple[Callable[..., Any], list[Any], list[Kind]]] = [
     (rathonsi.Update, [UID, 4, 1, 0, 1, KEY], [uid, slot, slot, flags, counter, key]),
     (rathonsi.Request, [bytes(16), bytes(32), bytes(16)], [block, octets(0, 31, 33), block]),
     (rathonsi.Reply, [bytes(32), bytes(16)], [octets(0, 31, 33), block]),
-    (rathonsi.Route, [1, 1, 4, 1, 1, 0], [data_id, direction, whole(3, 14), whole(0, 129), whole(0, 257), freshness]),
+    (rathonsi.Route, [1, 1, 4, 1, 1, 0, False], [data_id, direction, whole(3, 14), whole(0, 129), whole(0, 257), freshness, truth]),
+    (rathonsi.Question, [1, 2, bytes(16)], [name, name, block]),
 ]
 STORE_CALLS: list[tuple[str, list[Any], list[Kind]]] = [
     ("send", [0x120E, b"payload"], [data_id, payload]),

@@ -9,7 +9,7 @@ from pathlib import Path
 import pytest
 
 import rathonsi
-from rathonsi import _library
+from rathonsi import _answers, _library
 from rathonsi._errors import REFUSALS
 
 INCLUDE = Path(__file__).resolve().parents[2] / "include"
@@ -21,6 +21,7 @@ STRUCTS = {
     "RathonsiWrite": _library.WriteStruct,
     "RathonsiPlan": _library.PlanStruct,
     "RathonsiRoute": _library.RouteStruct,
+    "RathonsiQuestion": _library.QuestionStruct,
 }
 
 
@@ -60,3 +61,4 @@ def test_statuses_flags_and_constants() -> None:
     assert (numbers["SENDS"], numbers["RECEIVES"]) == (rathonsi.SENDS, rathonsi.RECEIVES)
     assert (numbers["TO_ENCRYPT"], numbers["TO_AUTHENTICATE"]) == (rathonsi.Purpose.ENCRYPT, rathonsi.Purpose.AUTHENTICATE)
     assert (numbers["PAYLOAD_MOST"], numbers["TRAILER"], numbers["PDU_MOST"], numbers["SLOT_CELLS"]) == (60, 4, 64, 14)
+    assert (numbers["NONCE"], numbers["ANSWER"]) == (_answers.NONCE, _answers.ANSWER)

@@ -21,11 +21,11 @@ use Rattle.bus_world.specs.Starts.{HasRoom, FindsRoom}
 use Rattle.bus_world.specs.StartRows.{start_row}
 use Rattle.bus_world.specs.StartAnswers.{DiskStates, CountsDiskFault, failed_row}
 use Rattle.bus_world.proofs.CallerLemmas.{no_disk, no_line, no_node}
-use Rattle.kept_starts.specs.KeepRows.{ComesKept, BusKeepsDisk, RefusesStart}
+use Rattle.kept_starts.specs.KeepRows.{ComesKept, BusKeepsDisk, HoldsNoStore, RefusesStart}
 use Rattle.kept_starts.proofs.CallerLemmas.{kept_7, kept_9, kept_10, kept_complete, kept_failure, kept_status, kept_with_room, kept_without_room, look_keeps, refuses_more, room_before, same_told}
 use Rattle.bus_commands.specs.declared.words.WorldCommand.TheVariants.{Replay}
 use Rattle.bus_commands.specs.Inputs.{SetsWorld}
-use Rattle.bus_commands.specs.Keeping.{DoneKept, AnswersKeepReplay, refused_kept, kept_done, KeptEvents, TellsUnkept, TellsKeptNode}
+use Rattle.bus_commands.specs.Keeping.{DoneKept, AnswersKeepReplay, refused_kept, kept_done, KeptEvents, TellsKeptNode}
 
 abbrev pub EndsKept : ℕ → Type 0
 EndsKept n = (n ≡ 0) ⊎ (n ≡ 6) ⊎ (n ≡ 7) ⊎ (n ≡ 9) ⊎ (n ≡ 10)
@@ -142,7 +142,7 @@ module _ (same : Type 0) (i : BusInputs) (d : DiskStates) (e : Ending) (bus : Na
   room_done result ran = room_before bus d.before ran.looked ran.look ran.ran.started.room
 
   -- told bytes were kept, and the node goes on over them
-  taken_done : (result : Result (Unit {0}) Unwritten) → DoneKept bus events d e result → ¬ TellsUnkept bus d.before
+  taken_done : (result : Result (Unit {0}) Unwritten) → DoneKept bus events d e result → ¬ HoldsNoStore bus d.before
   taken_done result ran unkept =
       let told = unkept no_disk in
       let opened = ran.ran.started.nodes.opened 0 no_line no_disk (no_node bus no_disk) is.least in
@@ -174,7 +174,7 @@ module _ (same : Type 0) (i : BusInputs) (d : DiskStates) (e : Ending) (bus : Na
     disks_refused_only = λ other offers none. absurd (told_bus (λ (b : NamedBus). ¬ HasRoom b d.before) other offers none (room_done result ran));
     store_refused = λ ten. not_refused 10 result ran ten (inr refl);
     store_refused_only = λ other offers room unkept.
-        absurd (taken_done result ran (told_bus (λ (b : NamedBus). TellsUnkept b d.before) other offers unkept));
+        absurd (taken_done result ran (told_bus (λ (b : NamedBus). HoldsNoStore b d.before) other offers unkept));
     failed_disk_told = λ rose. inr (result, events_done result ran);
     complete = λ other offers able well. done_well result ran well;
   }

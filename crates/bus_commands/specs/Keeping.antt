@@ -1,9 +1,9 @@
 -- `node --keep B F DISK`: what the arguments ask for, and what comes of them. The disk is looked at whole before the
 -- start, and the start goes on only if the disk is unused or the node's store stands there.
-use Rattle.std.specs.Prelude.{◌≡◌, ◌⊎◌, ℕ, List, [], ◌∷◌, ◌++◌, codes, map, get_or, Some, Vec, Result, Ok, Err}
+use Rattle.std.specs.Prelude.{◌≡◌, ◌⊎◌, ℕ, List, [], ◌∷◌, ◌++◌, codes, map, Vec, Result, Ok, Err}
 use Rattle.std.specs.declared.alloc.Global.{Global}
 use Rattle.bus_port.specs.Source.{SourceState}
-use Rattle.cut_disk.specs.State.{DiskState, Told}
+use Rattle.cut_disk.specs.State.{DiskState}
 use Rattle.file_disk.specs.NamedDisks.{IsOpenedBy, OpenedByWords}
 use Rattle.program_edge.specs.Rows.{memory_row}
 use Rattle.program_edge.specs.Endings.{Ending, EndsInRow, MayEndIn, PrintsWhole, PrintsFront, SinkFailed, CountsWriteFault}
@@ -12,20 +12,18 @@ use Rattle.run_driver.specs.declared.printing.Unwritten.TheVariants as unwritten
 use Rattle.run_driver.specs.Statuses.{unwritten_status}
 use Rattle.bus_machine.specs.declared.events.Event.{Event}
 use Rattle.bus_config.specs.Buses.{NamedBus, IsNamedBus}
-use Rattle.bus_script.specs.EventForms.{node_line_at}
 use Rattle.bus_programs.specs.BusFiles.{OffersBus}
 use Rattle.bus_programs.specs.Inputs.{BusInputs}
 use Rattle.bus_programs.specs.Named.{SourcesBack, HadOverNamed, inputs_had}
 use Rattle.bus_world.specs.declared.start.Start.TheVariants.{Attach}
 use Rattle.bus_world.specs.declared.start.StartFault.{StartFault}
 use Rattle.bus_world.specs.Starts.{HasRoom, FindsRoom}
-use Rattle.bus_world.specs.StartRows.{start_row, CanStart}
+use Rattle.bus_world.specs.StartRows.{start_row}
 use Rattle.bus_world.specs.StartAnswers.{DiskStates, CountsDiskFault, failed_row}
 use Rattle.bus_world.specs.NodeDisks.{DisksStay}
 use Rattle.bus_world.specs.WorldTurns.{seen}
-use Rattle.disk_looks.specs.Looks.{CanKeep}
-use Rattle.kept_starts.specs.LookedAt.{cells_in_bus, LookedAt}
-use Rattle.kept_starts.specs.KeepRows.{ComesKept, BusKeepsDisk, RefusesStart}
+use Rattle.kept_starts.specs.LookedAt.{LookedAt}
+use Rattle.kept_starts.specs.KeepRows.{ComesKept, BusKeepsDisk, HoldsNoStore, RefusesStart}
 use Rattle.bus_commands.specs.declared.job.WorldJob.{WorldJob}
 use Rattle.bus_commands.specs.Words.{NamesDisk}
 use Rattle.bus_commands.specs.Inputs.{OverReplayOf}
@@ -69,12 +67,6 @@ pub data AnswersKeepReplay (same : Type 0) (bus : NamedBus) (events : List Event
 abbrev pub KeptEvents : BusInputs → DiskStates → Ending → Result (Unit {0}) Unwritten → Type 0
 KeptEvents i d e result = OverReplayOf Attach i (λ bus events. DoneKept bus events d e result)
 
--- the first disk tells bytes over which the one node of the bus can't go on
-abbrev pub TellsUnkept : NamedBus → List DiskState → Type 0
-TellsUnkept bus disks = (disk : DiskState) → (told : Told) × ((get_or disks 0 disk).told ≡ Some told)
-    × ¬ (CanKeep bus.kind bus.version (cells_in_bus bus) told.bytes
-    × CanStart Attach bus.kind bus.version (node_line_at bus.nodes 0).config told.bytes)
-
 -- ---- the table of answers
 
 -- What `node --keep` promises over its disk, by status; its inputs are valid. "Both ways": the status has this cause,
@@ -106,7 +98,7 @@ pub record TellsKeptNode (same : Type 0) (i : BusInputs) (d : DiskStates) (e : E
   pub store_refused : e.status ≡ 10
       → OverReplayOf Attach i (λ bus events. RefusesStart bus d (λ text. PrintsWhole e text))
   pub store_refused_only : (bus : NamedBus) → OffersBus i.config bus → HasRoom bus d.before
-      → TellsUnkept bus d.before → MayEndIn 10 e
+      → HoldsNoStore bus d.before → MayEndIn 10 e
   -- If the count of faults of the disk rose, the row of 10 says so, or 6 comes with a prefix of it; or events were done.
   pub failed_disk_told : CountsDiskFault d 0
       → EndsInRow (λ row. row ≡ failed_row 0) e ⊎ ((result : Result (Unit {0}) Unwritten) × KeptEvents i d e result)

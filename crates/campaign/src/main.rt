@@ -1,12 +1,12 @@
 //! `campaign`: issues key updates (SHE specification, memory update) for many units, with a ledger that
 //! survives cuts.
 //!
-//! [`campaign_commands::campaign_words`] is the program, with the record `RunsCampaign`. Here it is handed the
+//! [`kept_campaigns::keep_campaign_words`] is the program, with the record `RunsCampaign`. Here it is handed the
 //! arguments, the files, standard input and standard output.
 #![tactic(auto)]
 
-use campaign_commands::campaign_words;
 use file_disk::DiskPaths;
+use kept_campaigns::keep_campaign_words;
 use program_edge::{NO_MEMORY, Paths, StdSink, StdSource, arguments};
 use std::alloc::AllocError;
 use std::process::ExitCode;
@@ -18,7 +18,7 @@ fn main(rt: HostRuntime) -> ExitCode {
     let mut input = Some(StdSource::new(rt.stdin()));
     let status = match arguments(&rt) {
         Ok(words) => {
-            let (status, _script, _disks) = campaign_words(
+            let (status, _script, _disks) = keep_campaign_words(
                 rt.alloc(),
                 &mut opener,
                 &mut disk_opener,

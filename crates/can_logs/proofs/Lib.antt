@@ -1,4 +1,5 @@
 pub mod Digits
+pub mod SecondDigits
 pub mod LineFindings
 pub mod Rising
 pub mod Windows

@@ -1,5 +1,5 @@
 -- The lines of a map have windows
-use Rattle.std.proofs.Common.{◌≡◌, ℕ, ◌+◌, ◌&&◌, Bool, true, false, List, [], Option, Some, Result, Ok, sym, ap, ◌∙◌, subst, arith}
+use Rattle.std.proofs.Common.{◌≡◌, ℕ, ◌+◌, ◌&&◌, Bool, true, false, List, [], drop, Option, Some, Result, Ok, refl, sym, ap, ◌∙◌, subst, arith}
 use Rattle.std.specs.Prelude.{nat_le, nat_lt, if◌then◌else◌, None, Err, option_map, is_none, codes, bytes_eq}
 use Rattle.std.proofs.lemmas.Option.{same_Some}
 use Rattle.std.proofs.lemmas.List.Elements.{All-nil}
@@ -14,7 +14,8 @@ use Rattle.text_lines.proofs.CallerLemmas.{number_in_range, bind_ok, counted_ok,
 use Rattle.can_logs.specs.declared.map_lines.MapLine.{MapLine}
 use Rattle.can_logs.specs.MapLines.{line_with, most_map_lines}
 use Rattle.can_logs.proofs.CallerLemmas.{HaveWindows, line_with-window}
-use Rattle.can_logs.specs.WatchMaps.{words_to, own_channel, own_window, reached_can_form, line_name_form, with_mark, with_line_marks, watch_line_of, watch_map_of}
+use Rattle.can_logs.specs.Seconds.{period_form}
+use Rattle.can_logs.specs.WatchMaps.{words_to, own_channel, own_window, reached_can_form, line_name_form, begins_every, begins_silent, marked_optional, marked_every, marked_silent, marked_name, with_mark, chosen_mark, with_two_marks, with_line_marks, watch_line_of, watch_map_of}
 
 -- the window of a line that is given, and of another if none is
 abbrev window_in : MapLine → Result MapLine Cause → ℕ
@@ -31,35 +32,57 @@ optional_mark-window : (is_there : Bool) (number : ℕ) (l m : MapLine)
 optional_mark-window true number l m h = cc
 optional_mark-window false number l m h = ap (window_in l) (sym h)
 
-named_mark-window : (number : ℕ) (form : Option (List ℕ)) (l m : MapLine)
-    → field number (option_map (λ name. record l { name = Some name }) form) ≡ Ok m → m.window ≡ l.window
-named_mark-window number None l m h = cc
-named_mark-window number (Some name) l m h = ap (window_in l) (sym h)
+-- so does one with a value
+module _ {A : Type 0} (with : A → MapLine) (l : MapLine) (keeps : (a : A) → (with a).window ≡ l.window) where
+  given_mark-window : (number : ℕ) (form : Option A) (m : MapLine) → field number (option_map with form) ≡ Ok m → m.window ≡ l.window
+  given_mark-window number None m h = cc
+  given_mark-window number (Some a) m h = ap (window_in l) (sym h) ∙ keeps a
 
-name_mark-window : (is_free : Bool) (number : ℕ) (form : Option (List ℕ)) (l m : MapLine)
-    → (if is_free then field number (option_map (λ name. record l { name = Some name }) form) else Err (cause.Field number)) ≡ Ok m → m.window ≡ l.window
-name_mark-window true number form l m h = named_mark-window number form l m h
-name_mark-window false number form l m h = cc
+  valued_mark-window : (is_free : Bool) (number : ℕ) (form : Option A) (m : MapLine)
+      → (if is_free then field number (option_map with form) else Err (cause.Field number)) ≡ Ok m → m.window ≡ l.window
+  valued_mark-window true number form m h = given_mark-window number form m h
+  valued_mark-window false number form m h = cc
 
-mark-window : (is_optional : Bool) (number : ℕ) (form : Option (List ℕ)) (l m : MapLine)
-    → (if is_optional then (if l.optional then Err (cause.Field number) else Ok (record l { optional = true }))
-    else if is_none l.name then field number (option_map (λ name. record l { name = Some name }) form) else Err (cause.Field number)) ≡ Ok m → m.window ≡ l.window
-mark-window true number form l m h = optional_mark-window l.optional number l m h
-mark-window false number form l m h = name_mark-window (is_none l.name) number form l m h
+every_mark-window : (number : ℕ) (word : List ℕ) (l m : MapLine) → marked_every number word l ≡ Ok m → m.window ≡ l.window
+every_mark-window number word l m h =
+    valued_mark-window (λ (time : ℕ). record l { every = Some time }) l (λ time. refl) (is_none l.every) number (period_form (drop 6 word)) m h
+
+silent_mark-window : (number : ℕ) (word : List ℕ) (l m : MapLine) → marked_silent number word l ≡ Ok m → m.window ≡ l.window
+silent_mark-window number word l m h =
+    valued_mark-window (λ (time : ℕ). record l { silent = Some time }) l (λ time. refl) (is_none l.silent) number (period_form (drop 7 word)) m h
+
+name_mark-window : (number : ℕ) (word : List ℕ) (l m : MapLine) → marked_name number word l ≡ Ok m → m.window ≡ l.window
+name_mark-window number word l m h =
+    valued_mark-window (λ (name : List ℕ). record l { name = Some name }) l (λ name. refl) (is_none l.name) number (line_name_form word) m h
+
+mark-window : (is_optional is_every is_silent : Bool) (number : ℕ) (word : List ℕ) (l m : MapLine)
+    → (if is_optional then marked_optional number l else if is_every then marked_every number word l
+    else if is_silent then marked_silent number word l else marked_name number word l) ≡ Ok m → m.window ≡ l.window
+mark-window true is_every is_silent number word l m h = optional_mark-window l.optional number l m h
+mark-window false true is_silent number word l m h = every_mark-window number word l m h
+mark-window false false true number word l m h = silent_mark-window number word l m h
+mark-window false false false number word l m h = name_mark-window number word l m h
 
 with_mark-window : (number : ℕ) (words : List (List ℕ)) (l m : MapLine) → with_mark number words l ≡ Ok m → m.window ≡ l.window
-with_mark-window number words l m h = mark-window (bytes_eq (nth_word words number) (codes "optional")) number (line_name_form (nth_word words number)) l m h
+with_mark-window number words l m h =
+    let word : List ℕ = nth_word words number in
+    mark-window (bytes_eq word (codes "optional")) (begins_every word) (begins_silent word) number word l m h
 
 chosen_mark-window : (is_there : Bool) (number : ℕ) (words : List (List ℕ)) (l m : MapLine)
     → (if is_there then with_mark number words l else Ok l) ≡ Ok m → m.window ≡ l.window
 chosen_mark-window true number words l m h = with_mark-window number words l m h
 chosen_mark-window false number words l m h = ap (window_in l) (sym h)
 
+two_marks-window : (count told : ℕ) (words : List (List ℕ)) (l m : MapLine) → with_two_marks count told words l ≡ Ok m → m.window ≡ l.window
+two_marks-window count told words l m h =
+    let first = bind_ok (chosen_mark count told words l) (chosen_mark (count + 1) told words) m h in
+    chosen_mark-window (nat_lt (count + 1) told) (count + 1 + 1) words first.0 m first.2
+    ∙ chosen_mark-window (nat_lt count told) (count + 1) words l first.0 first.1
+
 with_line_marks-window : (count told : ℕ) (words : List (List ℕ)) (l m : MapLine) → with_line_marks count told words l ≡ Ok m → m.window ≡ l.window
 with_line_marks-window count told words l m h =
-    let first = bind_ok (if nat_lt count told then with_mark (count + 1) words l else Ok l) _ m h in
-    chosen_mark-window (nat_lt (count + 1) told) (count + 2) words first.0 m first.2
-    ∙ chosen_mark-window (nat_lt count told) (count + 1) words l first.0 first.1
+    let first = bind_ok (with_two_marks count told words l) (with_two_marks (count + 2) told words) m h in
+    two_marks-window (count + 2) told words first.0 m first.2 ∙ two_marks-window count told words l first.0 first.1
 
 watch_line_of-window : (before : List MapLine) (words : List (List ℕ)) (l : MapLine) → watch_line_of before words ≡ Ok l → IsWindow l.window
 unfolding watch_line_of
@@ -69,7 +92,7 @@ watch_line_of-window before words l h =
     let can : Option (List ℕ) = reached_can_form before (own_channel count words) (nth_word words 1) in
     let plain : Result MapLine Cause = line_with can (own_window count words) (own_channel count words) words in
     let given = bind_ok plain (with_line_marks count told words) l
-    (counted_ok (nat_le 5 count && nat_le count 7 && nat_le told (count + 2)) (plain >>= with_line_marks count told words) l h) in
+    (counted_ok (nat_le 5 count && nat_le count 7 && nat_le told (count + 4)) (plain >>= with_line_marks count told words) l h) in
     subst IsWindow (sym (with_line_marks-window count told words given.0 l given.2))
     (chosen_window (nat_lt count 6) (nth_word words 6) given.0.window
     (line_with-window can (own_window count words) (own_channel count words) words given.0 given.1))

@@ -18,9 +18,20 @@ is_time word = slice_index word 0 == 40 && last_byte word == 41
 abbrev pub fd_form : List ℕ → Option (List ℕ)
 fd_form rest = if is_ascii_hexdigit (slice_index rest 0) then hex_bytes_form 0 64 (drop 1 rest) else None
 
+-- a data length code above 8, a digit from `9`, which is 57, to `F`: behind 8 bytes, and `_`, which is 95. The frame has
+-- these 8 bytes
+abbrev pub has_long_code : List ℕ → Bool
+has_long_code rest =
+    length rest == 18 && slice_index rest 16 == 95 && is_ascii_hexdigit (slice_index rest 17)
+    && nat_le 57 (slice_index rest 17)
+
+abbrev pub without_long_code : List ℕ → List ℕ
+without_long_code rest = if has_long_code rest then take 16 rest else rest
+
 -- what stands after `#`, which is 35: up to 8 bytes, or a second `#`
 unfoldable pub data_form : List ℕ → Option (List ℕ)
-data_form rest = if slice_index rest 0 == 35 then fd_form (drop 1 rest) else hex_bytes_form 0 8 rest
+data_form rest =
+    if slice_index rest 0 == 35 then fd_form (drop 1 rest) else hex_bytes_form 0 8 (without_long_code rest)
 
 -- the frame of a CAN identifier and what stands after `#`
 unfoldable pub frame_parts : List ℕ → List ℕ → Option LogFrame

@@ -1,3 +1,4 @@
+pub mod Seconds
 pub mod MapLines
 pub mod MapTables
 pub mod Frames

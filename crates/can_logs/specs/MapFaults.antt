@@ -20,12 +20,15 @@ map_word_form number =
     else if number == 3 then codes "a key of 32 hexadecimal digits"
     else if number == 4 then codes "a freshness of 16 hexadecimal digits"
     else if number == 5 then codes "a length of 1 to 60"
-    else if number == 6 then codes "a window of 1 to 256, or name= and 1 to 32 letters, digits, -, . or _"
-    else codes "optional, or name= and 1 to 32 letters, digits, -, . or _, each once"
+    else if number == 6
+    then codes "a window of 1 to 256, every= or silent= and seconds, or name= and 1 to 32 letters, digits, -, . or _"
+    else codes "optional, every= or silent= and seconds, or name= and 1 to 32 letters, digits, -, . or _, each once"
 
 abbrev pub map_cause_text : Cause → List ℕ
 map_cause_text Event = codes "no line of a map"
-map_cause_text Count = codes "wrong number of words: CANID ID KEY FRESH LEN [WINDOW [CHANNEL]] [optional] [name=NAME]"
+map_cause_text Count =
+    codes "wrong number of words: "
+    ++ codes "CANID ID KEY FRESH LEN [WINDOW [CHANNEL]] [optional] [every=SECONDS] [silent=SECONDS] [name=NAME]"
 map_cause_text (Field number) = codes "word " ++ (decimal number ++ (codes ": " ++ map_word_form number))
 map_cause_text TooMany = codes "more than 256 lines"
 

@@ -1,5 +1,5 @@
 -- The lines of a map: what stands after the CAN identifiers of a bus.
-use Rattle.std.specs.Prelude.{ℕ, ◌==◌, ◌&&◌, ◌||◌, Bool, true, false, if◌then◌else◌, List, length, map, Option, None, Some, unwrap_or, Result, Ok}
+use Rattle.std.specs.Prelude.{ℕ, ◌*◌, ◌==◌, ◌&&◌, ◌||◌, Bool, true, false, if◌then◌else◌, List, length, map, Option, None, Some, option_map, unwrap_or, Result, Ok}
 use Rattle.std.specs.List.{list_all, position}
 use Rattle.std.specs.Char.{is_ascii_hexdigit, to_ascii_lowercase}
 use Rattle.std.specs.Str.{bytes_eq}
@@ -25,6 +25,14 @@ place_of_can mapping can = position (λ l. bytes_eq l.can can) mapping
 abbrev pub row_head : MapLine → List ℕ
 row_head l = unwrap_or l.name l.can
 
+-- the microseconds without an accepted frame that are too many for a line: those that it tells, or five of its periods
+abbrev pub own_silence_by : Option ℕ → Option ℕ → Option ℕ
+own_silence_by (Some silent) every = Some silent
+own_silence_by None every = option_map (λ period. period * 5) every
+
+abbrev pub own_silence : MapLine → Option ℕ
+own_silence l = own_silence_by l.silent l.every
+
 -- a line hears a channel: its own, or any if it names none
 abbrev pub hears : Option (List ℕ) → List ℕ → Bool
 hears None channel = true
@@ -39,7 +47,7 @@ abbrev pub place_of_frame : List MapLine → List ℕ → List ℕ → Option �
 place_of_frame mapping can channel = position (λ l. hears_frame l can channel) mapping
 
 -- the line of `CANID ID KEY FRESH LEN`, where FRESH is the receiver's counter. Each program says what its CAN
--- identifier and its window are, if they are of their forms, and its channel. It isn't optional, and has no name
+-- identifier and its window are, if they are of their forms, and its channel. It has no marks
 unfoldable pub line_with : Option (List ℕ) → Option ℕ → Option (List ℕ) → List (List ℕ) → Result MapLine Cause
 line_with can window channel words = do
   can ← field 1 can
@@ -57,6 +65,8 @@ line_with can window channel words = do
     window = window;
     channel = channel;
     optional = false;
+    every = None;
+    silent = None;
     name = None;
   })
 

@@ -7,7 +7,8 @@ use std::alloc::Global;
 use text_lines::{Cause, Memory, ScriptFault};
 
 /// The words of a line, without its comment.
-const LINE_FORM: &str = "CANID ID KEY FRESH LEN [WINDOW [CHANNEL]] [optional] [name=NAME]";
+const LINE_FORM: &str =
+    "CANID ID KEY FRESH LEN [WINDOW [CHANNEL]] [optional] [every=SECONDS] [silent=SECONDS] [name=NAME]";
 
 /// The form that the word of a line with this number hasn't.
 fn word_form(number: u8) -> &'static str
@@ -19,8 +20,10 @@ fn word_form(number: u8) -> &'static str
         3 => "a key of 32 hexadecimal digits",
         4 => "a freshness of 16 hexadecimal digits",
         5 => "a length of 1 to 60",
-        6 => "a window of 1 to 256, or name= and 1 to 32 letters, digits, -, . or _",
-        _ => "optional, or name= and 1 to 32 letters, digits, -, . or _, each once",
+        6 =>
+            "a window of 1 to 256, every= or silent= and seconds, or name= and 1 to 32 letters, digits, -, . or _",
+        _ =>
+            "optional, every= or silent= and seconds, or name= and 1 to 32 letters, digits, -, . or _, each once",
     }
 }
 

@@ -1,7 +1,8 @@
 //! The frames of a log, as `candump` of can-utils writes them.
-ghost use Rattle.std.specs.Prelude.{◌≡◌, ◌<◌, ◌≤◌, ◌==◌, length, position, slice_index, IfSome};
+ghost use Rattle.std.specs.Prelude.{◌≡◌, ◌<◌, ◌≤◌, ◌==◌, true, length, position, slice_index, IfSome};
 ghost use Rattle.text_lines.specs.Forms.{hex_bytes_form};
 ghost use Rattle.can_logs.specs.Frames.{is_time as is_time_word, data_form, frame_parts, frame_form, log_frame_of};
+ghost use Rattle.can_logs.specs.Frames.{has_long_code as has_code, without_long_code};
 ghost use Rattle.can_logs.specs.Frames.{is_data_can, is_error_can, unheard_kind, is_dataless as has_no_data};
 ghost use Rattle.can_logs.specs.Frames.{is_xl, is_remote as is_remote_frame, is_dataless_word, dataless_kind};
 
@@ -124,14 +125,36 @@ fn frame_of_parts(can: &[u8], rest: &[u8]) -> Option<LogFrame>
     Some(LogFrame { can, bytes })
 }
 
+/// Whether `_` and a data length code above 8 stand behind 8 bytes, as `candump -8` writes them.
+fn has_long_code(rest: &[u8]) -> bool
+    ensures exact { result ≡ has_code rest.now }
+    ensures long { result ≡ true → length rest.now ≡ 18 }
+{
+    if rest.len() != 18 {
+        return false;
+    }
+    rest[16] == b'_' && rest[17].is_ascii_hexdigit() && rest[17] >= b'9'
+}
+
+/// The digits of the bytes of a classic frame, without a data length code above 8.
+fn code_left_out(rest: &[u8]) -> &[u8]
+    ensures { result.now ≡ without_long_code rest.now }
+{
+    if has_long_code(rest) {
+        &rest[..16]
+    } else {
+        rest
+    }
+}
+
 /// The data bytes that stand after `#`: up to 8 bytes, or another `#`, one digit for the flags of CAN FD, and up to 64
-/// bytes.
+/// bytes. A data length code above 8 is left out.
 #[tactic(auto, unfolding(crate::specs::Frames::data_form))]
 fn data_bytes(rest: &[u8]) -> Option<FrameBytes>
     ensures { result ≡ data_form rest.now }
 {
     if rest.is_empty() || rest[0] != b'#' {
-        return FrameBytes::of_digits(rest, 8);
+        return FrameBytes::of_digits(code_left_out(rest), 8);
     }
     let rest = &rest[1..];
     if rest.is_empty() || !rest[0].is_ascii_hexdigit() {

@@ -7,6 +7,7 @@
 #![tactic(auto)]
 
 mod arguments;
+mod durations;
 mod faults;
 mod findings;
 mod frames;
@@ -16,11 +17,13 @@ mod map_tables;
 mod maps;
 
 pub use arguments::{is_only, names_inputs};
+pub use durations::{period, seconds};
 pub use faults::map_input_refusal;
 pub use findings::{FrameTally, counters_of, push_finding, push_front};
 pub use frames::{FrameBytes, LogFrame, OtherLine, has_data_can, log_frame, place_of_hash};
 pub use map_lines::{
-    CanId, LineName, MOST_MAP_LINES, MapLine, PayloadSize, Window, can_id, line_of_words, place_of,
+    CanId, LineName, MOST_MAP_LINES, MapLine, PayloadSize, Period, Window, can_id, line_of_words,
+    place_of,
 };
 pub use map_tables::MapTable;
 pub use maps::{WatchMap, map_of_text, read_watch_map};

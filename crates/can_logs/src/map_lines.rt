@@ -1,9 +1,9 @@
 //! The lines of a map: what stands after the CAN identifiers of a bus.
-ghost use Rattle.std.specs.Prelude.{◌≡◌, ◌≤◌, length, map as each, true};
+ghost use Rattle.std.specs.Prelude.{◌≡◌, ◌≤◌, ◌<◌, ◌*◌, ◌^◌, length, map as each, true};
 ghost use Rattle.std.specs.Char.{to_ascii_lowercase};
 ghost use Rattle.secured_pdu.specs.Frame.{IsWindow};
 ghost use Rattle.can_logs.specs.MapLines.{is_can, can_form, line_with, place_of_can};
-ghost use Rattle.can_logs.specs.MapLines.{hears_frame, row_head};
+ghost use Rattle.can_logs.specs.MapLines.{hears_frame, row_head, own_silence};
 
 use arrayvec::ArrayVec;
 use basics::{Block, Bytes};
@@ -13,6 +13,9 @@ use std::marker::Model;
 use text_lines::reader::{LineReader, expect_count, value_at};
 use text_lines::words::Words;
 use text_lines::{Cause, LineFault, forms};
+
+/// As many periods without an accepted frame are a silence.
+const SILENT_PERIODS: u64 = 5;
 
 /// The most lines that a map has.
 pub const MOST_MAP_LINES: usize = 256;
@@ -36,6 +39,10 @@ pub struct MapLine {
     pub channel: Option<Bytes>,
     /// Whether a log without an accepted frame of this line passes all the same.
     pub optional: bool,
+    /// The time from one of its frames to the next, if the line tells it.
+    pub every: Option<Period>,
+    /// The time without an accepted frame that is too long for it, if the line tells it.
+    pub silent: Option<Period>,
     /// What is printed instead of the CAN identifier, if the line has a name.
     pub name: Option<LineName>,
 }
@@ -49,6 +56,19 @@ impl MapLine {
         match &self.name {
             Some(name) => name.bytes(),
             None => self.can.digits(),
+        }
+    }
+
+    /// The microseconds without an accepted frame that are too many for the line: its own, or five times its period.
+    pub fn own_silence(&self) -> Option<u64>
+        ensures { result ≡ own_silence self.now }
+    {
+        if let Some(silent) = &self.silent {
+            return Some(silent.get());
+        }
+        match &self.every {
+            Some(every) => Some(every.get() * SILENT_PERIODS),
+            None => None,
         }
     }
 }
@@ -182,6 +202,42 @@ impl PayloadSize {
     }
 }
 
+/// A time of a line of a map in microseconds: at least one, and at most 2 * 10^18.
+#[derive(Debug, Drop)]
+pub struct Period {
+    micros: u64,
+}
+
+impl Model for Period {
+    ghost use Rattle.std.specs.Prelude.{ℕ, ◌≤◌, ◌<◌, ◌*◌, ◌^◌};
+
+    ghost Value = { ℕ };
+
+    ghost view = { λ p. p.micros };
+
+    ghost invariant = { λ p. (0 < p.micros) × (p.micros ≤ 2 * 10 ^ 18) };
+}
+
+impl Period {
+    /// This time.
+    pub fn of(micros: u64) -> Period
+        requires some { 0 < micros }
+        requires few { micros ≤ 2 * 10 ^ 18 }
+        ensures { result ≡ micros }
+    {
+        Period { micros }
+    }
+
+    /// The microseconds.
+    pub fn get(&self) -> u64
+        ensures value { result ≡ self.now }
+        ensures some { 0 < result }
+        ensures few { result ≤ 2 * 10 ^ 18 }
+    {
+        self.micros
+    }
+}
+
 /// A CAN identifier: three or eight hexadecimal digits of either case. Its digits in lower case stand for its length
 /// and value.
 #[tactic(auto, unfolding(crate::specs::MapLines::can_form))]
@@ -239,8 +295,8 @@ pub fn does_hear(line: &MapLine, can: &[u8], channel: &[u8]) -> bool
     }
 }
 
-/// The line of these words, with its CAN identifier and window, if they are of their forms, and its channel. It isn't
-/// optional, and has no name.
+/// The line of these words, with its CAN identifier and window, if they are of their forms, and its channel. It has no
+/// marks.
 #[tactic(auto, unfolding(crate::specs::MapLines::line_with))]
 pub fn line_of_words(
     words: &Words<'_>,
@@ -266,6 +322,8 @@ pub fn line_of_words(
         window,
         channel,
         optional: false,
+        every: None,
+        silent: None,
         name: None,
     })
 }

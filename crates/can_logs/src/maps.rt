@@ -1,20 +1,26 @@
 //! The maps of `watch` and `explain`: the lines of a map of an audit, and then, if the line has them, the window, the
-//! channel, `optional`, a name and a comment.
-ghost use Rattle.std.specs.Prelude.{◌≡◌, ◌≤◌, ◌<◌, ◌^◌, length, take, codes, bytes_eq, true, Ok, IfOk, IfErr};
+//! channel, marks and a comment.
+ghost use Rattle.std.specs.Prelude.{◌≡◌, ◌≤◌, ◌<◌, ◌^◌, length, drop, true, Ok, IfOk, IfErr};
 ghost use Rattle.std.specs.List.{list_all};
 ghost use Rattle.program_edge.specs.Rows.{memory_row};
 ghost use Rattle.can_logs.specs.MapFaults.{NoMapLines};
 ghost use Rattle.can_logs.specs.LogRuns.{ReadsWatchSource};
 ghost use Rattle.text_lines.specs.Readings.{GivesLine};
 ghost use Rattle.can_logs.specs.WatchMaps.{begins_comment, is_mark, ends_words, words_to};
+ghost use Rattle.can_logs.specs.WatchMaps.{begins_every, begins_silent, begins_name};
+ghost use Rattle.can_logs.specs.Seconds.{period_form};
 ghost use Rattle.can_logs.specs.WatchMaps.{is_line_name_byte, is_named};
-ghost use Rattle.can_logs.specs.WatchMaps.{line_name_form, with_mark, with_line_marks};
+ghost use Rattle.can_logs.specs.WatchMaps.{line_name_form, marked_optional, marked_every, marked_silent, marked_name};
+ghost use Rattle.can_logs.specs.WatchMaps.{with_mark, chosen_mark, with_two_marks, with_line_marks};
 ghost use Rattle.can_logs.specs.WatchMaps.{own_channel, own_window, hears_all_of, is_shadowed, is_reached};
 ghost use Rattle.can_logs.specs.WatchMaps.{reached_can_form, watch_map_of, line_numbers, IsMapOf};
 
+use crate::durations::period;
 use crate::faults::{map_input_refusal, map_line_refusal};
 use crate::frames::has_data_can;
-use crate::map_lines::{CanId, LineName, MOST_MAP_LINES, MapLine, Window, can_id, line_of_words};
+use crate::map_lines::{
+    CanId, LineName, MOST_MAP_LINES, MapLine, Period, Window, can_id, line_of_words,
+};
 use crate::map_tables::MapTable;
 use basics::Bytes;
 use bus_port::Source;
@@ -24,7 +30,7 @@ use std::alloc::{AllocError, Global};
 use std::marker::Model;
 use text_lines::forms::cut;
 use text_lines::laws::places_are_those_of_the_words;
-use text_lines::reader::{LineReader, read_lines};
+use text_lines::reader::{LineReader, read_lines, value_at};
 use text_lines::words::Words;
 use text_lines::{Cause, LineFault, Memory, forms};
 
@@ -111,12 +117,26 @@ fn is_comment(word: &[u8]) -> bool
 fn says_mark(word: &[u8]) -> bool
     ensures { result ≡ is_mark word.now }
 {
-    word == b"optional".as_slice() || begins_name(word)
+    word == b"optional".as_slice() || begins_every(word) || begins_silent(word) || begins_name(word)
+}
+
+/// Whether a word begins with `every=`.
+fn begins_every(word: &[u8]) -> bool
+    ensures { result ≡ begins_every word.now }
+{
+    &word[..word.len().min(6)] == b"every=".as_slice()
+}
+
+/// Whether a word begins with `silent=`.
+fn begins_silent(word: &[u8]) -> bool
+    ensures { result ≡ begins_silent word.now }
+{
+    &word[..word.len().min(7)] == b"silent=".as_slice()
 }
 
 /// Whether a word begins with `name=`.
 fn begins_name(word: &[u8]) -> bool
-    ensures { result ≡ bytes_eq (take 5 word.now) (codes "name=") }
+    ensures { result ≡ begins_name word.now }
 {
     &word[..word.len().min(5)] == b"name=".as_slice()
 }
@@ -226,27 +246,59 @@ fn name_of(alloc: Global, word: &[u8]) -> Result<Option<LineName>, Memory>
     Ok(Some(LineName::of(Vec::from_slice(alloc, &word[5..])?)))
 }
 
-/// A line with the mark that the word with this number is.
-fn marked(
+/// A line that is optional, if it isn't yet.
+fn with_optional(number: u8, mut line: MapLine) -> Result<MapLine, Cause>
+    ensures { result ≡ marked_optional number line }
+{
+    if line.optional {
+        return Err(Cause::Field(number));
+    }
+    line.optional = true;
+    Ok(line)
+}
+
+/// The time that stands in a word behind so many bytes.
+fn period_behind(word: &[u8], count: usize) -> Option<Period>
+    ensures { result ≡ period_form (drop count word.now) }
+{
+    if word.len() < count {
+        return None;
+    }
+    period(&word[count..])
+}
+
+/// A line with the time from one of its frames to the next, if it hasn't one yet.
+fn with_every(number: u8, word: &[u8], mut line: MapLine) -> Result<MapLine, Cause>
+    ensures { result ≡ marked_every number word.now line }
+{
+    if line.every.is_some() {
+        return Err(Cause::Field(number));
+    }
+    line.every = Some(value_at(number, period_behind(word, 6))?);
+    Ok(line)
+}
+
+/// A line with the time without an accepted frame that is too long, if it hasn't one yet.
+fn with_silent(number: u8, word: &[u8], mut line: MapLine) -> Result<MapLine, Cause>
+    ensures { result ≡ marked_silent number word.now line }
+{
+    if line.silent.is_some() {
+        return Err(Cause::Field(number));
+    }
+    line.silent = Some(value_at(number, period_behind(word, 7))?);
+    Ok(line)
+}
+
+/// A line with a name, if it hasn't one yet.
+fn with_name(
     alloc: Global,
-    words: &Words<'_>,
-    number: usize,
+    number: u8,
+    word: &[u8],
     mut line: MapLine,
 ) -> Result<MapLine, LineFault>
-    requires positive { 0 < number }
-    requires within { number ≤ length words.now }
-    requires few { number ≤ 9 }
-    ensures { GivesLine (with_mark number words.now line) result }
+    ensures { GivesLine (marked_name number word.now line) result }
 {
-    let word = words.word(number);
-    let fault = LineFault::Refused(Cause::Field(number as u8));
-    if word == b"optional".as_slice() {
-        if line.optional {
-            return Err(fault);
-        }
-        line.optional = true;
-        return Ok(line);
-    }
+    let fault = LineFault::Refused(Cause::Field(number));
     if line.name.is_some() {
         return Err(fault);
     }
@@ -257,25 +309,80 @@ fn marked(
     Ok(line)
 }
 
-/// A line with the marks that follow its first `count` words, of `told` in all.
+/// A line with the mark that the word with this number is.
+fn marked(
+    alloc: Global,
+    words: &Words<'_>,
+    number: usize,
+    line: MapLine,
+) -> Result<MapLine, LineFault>
+    requires positive { 0 < number }
+    requires within { number ≤ length words.now }
+    requires few { number ≤ 11 }
+    ensures { GivesLine (with_mark number words.now line) result }
+{
+    let word = words.word(number);
+    let number = number as u8;
+    if word == b"optional".as_slice() {
+        return Ok(with_optional(number, line)?);
+    }
+    if begins_every(word) {
+        return Ok(with_every(number, word, line)?);
+    }
+    if begins_silent(word) {
+        return Ok(with_silent(number, word, line)?);
+    }
+    with_name(alloc, number, word, line)
+}
+
+/// A line with the mark that follows its first `count` words, if there are more, of `told` in all.
+fn chosen_mark(
+    alloc: Global,
+    words: &Words<'_>,
+    count: usize,
+    told: usize,
+    line: MapLine,
+) -> Result<MapLine, LineFault>
+    requires few { count ≤ 10 }
+    requires within { told ≤ length words.now }
+    ensures { GivesLine (chosen_mark count told words.now line) result }
+{
+    if count >= told {
+        return Ok(line);
+    }
+    marked(alloc, words, count + 1, line)
+}
+
+/// A line with two marks at most that follow its first `count` words, of `told` in all.
+fn with_two_marks(
+    alloc: Global,
+    words: &Words<'_>,
+    count: usize,
+    told: usize,
+    line: MapLine,
+) -> Result<MapLine, LineFault>
+    requires few { count ≤ 9 }
+    requires within { told ≤ length words.now }
+    ensures { GivesLine (with_two_marks count told words.now line) result }
+{
+    let line = chosen_mark(alloc, words, count, told, line)?;
+    chosen_mark(alloc, words, count + 1, told, line)
+}
+
+/// A line with the marks that follow its first `count` words, of `told` in all: four at most.
 fn with_all_marks(
     alloc: Global,
     words: &Words<'_>,
     count: usize,
     told: usize,
-    mut line: MapLine,
+    line: MapLine,
 ) -> Result<MapLine, LineFault>
     requires few { count ≤ 7 }
     requires within { told ≤ length words.now }
     ensures { GivesLine (with_line_marks count told words.now line) result }
 {
-    if told > count {
-        line = marked(alloc, words, count + 1, line)?;
-    }
-    if told > count + 1 {
-        line = marked(alloc, words, count + 2, line)?;
-    }
-    Ok(line)
+    let line = with_two_marks(alloc, words, count, told, line)?;
+    with_two_marks(alloc, words, count + 2, told, line)
 }
 
 /// Reads a line of a map.
@@ -297,7 +404,7 @@ impl LineReader for WatchMapReader {
     ) -> Result<MapLine, LineFault> {
         let count = words_before(words, true);
         let told = words_before(words, false);
-        if count < 5 || count > 7 || told > count + 2 {
+        if count < 5 || count > 7 || told > count + 4 {
             return Err(LineFault::Refused(Cause::Count));
         }
         let channel = channel_of(alloc, words, count)?;

@@ -15,14 +15,14 @@ use Rattle.bus_world.specs.Starts.{HasRoom, FindsRoom}
 use Rattle.bus_world.specs.declared.start.StartFault.{StartFault}
 use Rattle.bus_world.specs.StartRows.{start_row}
 use Rattle.bus_world.specs.StartAnswers.{DiskStates, CountsDiskFault}
-use Rattle.kept_starts.specs.KeepRows.{BusKeepsDisk, RefusesStart}
+use Rattle.kept_starts.specs.KeepRows.{BusKeepsDisk, HoldsNoStore, RefusesStart}
 use Rattle.kept_starts.proofs.CallerLemmas.{look_keeps, refuses_more, same_told}
 use Rattle.bus_world.proofs.CallerLemmas.{no_disk, no_line}
 use Rattle.endpoint_commands.specs.declared.rules.FrameRule.{FrameRule}
 use Rattle.endpoint_commands.specs.Rows.{EndpointInputs, OverEndpoint, SetsEndpoint, HasMapFault, ComesBeforeLog, OffersEndpoint}
 use Rattle.endpoint_commands.specs.Logs.{Unfailed}
 use Rattle.endpoint_commands.specs.Promises.{opening_of, DidEndpoint, DoesEndpoint, not_started, did, ComesUnlogged, of_inputs, unstarted, EndsEndpoint}
-use Rattle.endpoint_commands.specs.Table.{AnswersWholeLog, AnswersComplete, LogFailsFirst, StopsAtDisk, FirstDiskFailed, HoldsNoStore, TellsText, TellsEndpointUsage, TellsRefused, by_fault, by_nodes, by_image, RefusesEndpoint, TellsEndpointPorts, TellsEndpointDisk, RunsEndpoint}
+use Rattle.endpoint_commands.specs.Table.{AnswersWholeLog, AnswersComplete, LogFailsFirst, StopsAtDisk, FirstDiskFailed, TellsText, TellsEndpointUsage, TellsRefused, by_fault, by_nodes, by_image, RefusesEndpoint, TellsEndpointPorts, TellsEndpointDisk, RunsEndpoint}
 use Rattle.endpoint_commands.proofs.RowTells.{pick, Tells3, Tells4, Tells9, Tells10, unlogged, tells_at, row_range, row_failure}
 use Rattle.endpoint_commands.proofs.LogTells.{TellsFirst, LogTells, booted_tells}
 use Rattle.endpoint_commands.proofs.FaultCounts.{ran_calm, ran_rose, ran_quiet}

@@ -9,22 +9,18 @@ use Rattle.program_edge.specs.declared.input.InputFault.TheVariants.{ReadFault, 
 use Rattle.program_edge.specs.Rows.{memory_row}
 use Rattle.program_edge.specs.Inputs.{Reading, IsUnread, Offers, SourceFailed, CountsFault, CountsTooMuch}
 use Rattle.program_edge.specs.Endings.{EndsIn, MayEndIn, EndsInRow, PrintsFront, SinkFailed, CountsWriteFault}
-use Rattle.cut_disk.specs.State.{DiskState, Told}
+use Rattle.cut_disk.specs.State.{DiskState}
 use Rattle.secoc_node.specs.Words.{IsImage}
 use Rattle.bus_config.specs.declared.fault.ConfigFault.{ConfigFault}
 use Rattle.bus_config.specs.BusFile.{bus_of}
 use Rattle.bus_config.specs.FaultTexts.{config_fault_text}
 use Rattle.bus_config.specs.Buses.{NamedBus}
-use Rattle.bus_script.specs.EventForms.{node_line_at}
 use Rattle.bus_programs.specs.BusFiles.{OffersBus}
-use Rattle.bus_world.specs.declared.start.Start.TheVariants.{Attach}
 use Rattle.bus_world.specs.declared.start.StartFault.{StartFault}
 use Rattle.bus_world.specs.Starts.{HasRoom, FindsRoom}
-use Rattle.bus_world.specs.StartRows.{start_row, CanStart}
+use Rattle.bus_world.specs.StartRows.{start_row}
 use Rattle.bus_world.specs.StartAnswers.{DiskStates, CountsDiskFault, failed_row}
-use Rattle.disk_looks.specs.Looks.{CanKeep}
-use Rattle.kept_starts.specs.LookedAt.{cells_in_bus}
-use Rattle.kept_starts.specs.KeepRows.{RefusesStart, BusKeepsDisk}
+use Rattle.kept_starts.specs.KeepRows.{RefusesStart, BusKeepsDisk, HoldsNoStore}
 use Rattle.bus_programs.specs.BusRoutes.{routes_of}
 use Rattle.can_logs.specs.LogRuns.{IsUnwritten, WritesWhole, WatchEnding, on_output, on_errors}
 use Rattle.endpoint_commands.specs.declared.rules.FrameRule.{FrameRule}
@@ -83,16 +79,6 @@ pub record StopsAtDisk (bus : NamedBus) (rules : List FrameRule) (image : Option
 -- the count of faults of the first disk rose, or is full
 abbrev pub FirstDiskFailed : DiskStates → Type 0
 FirstDiskFailed d = (disk : DiskState) → Rose (get_or d.before 0 disk).faults (get_or d.after 0 disk).faults
-
--- over these bytes the one node of the bus can go on: they are all zeros, or the node's store stands, and no other
-abbrev pub CanGoOn : NamedBus → List ℕ → Type 0
-CanGoOn bus x = CanKeep bus.kind bus.version (cells_in_bus bus) x
-    × CanStart Attach bus.kind bus.version (node_line_at bus.nodes 0).config x
-
--- the first disk tells bytes over which it can't
-abbrev pub HoldsNoStore : NamedBus → List DiskState → Type 0
-HoldsNoStore bus disks = (disk : DiskState) → (told : Told) × ((get_or disks 0 disk).told ≡ Some told)
-    × ¬ CanGoOn bus told.bytes
 
 -- ---- the table
 

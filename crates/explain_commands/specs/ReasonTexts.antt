@@ -41,6 +41,7 @@ reason_text reason.TrailerFirst = codes "verifies with freshness and authenticat
 reason_text (reason.OtherCover size) = text_with_number (codes "authenticated length of the payload is ") size
 reason_text (reason.OtherLow steps) = text_with_number (codes "freshness byte is another: ahead by ") steps
 reason_text (reason.FlippedBit byte bit) = flipped_text byte bit
+reason_text reason.CanAsId = codes "verifies with the CAN identifier as Data ID"
 reason_text (reason.TooShort size) = text_with_number (codes "too short for a payload of ") size
 reason_text reason.NoReason = codes "no reason found: key, or contents"
 

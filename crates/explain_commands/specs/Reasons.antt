@@ -1,6 +1,6 @@
 -- Why a frame fails: the reasons in the order in which they are looked for, and the first that holds
-use Rattle.std.specs.Prelude.{ℕ, ◌+◌, ◌*◌, ◌/◌, ◌%◌, ◌^◌, ◌==◌, ◌&&◌, not, nat_lt, Bool, true, false, if◌then◌else◌, List, [], ◌∷◌, length, reverse, filter, find, slice_get, slice_index, slice_set, bit_xor, Option, None, Some, option_map, unwrap_or}
-use Rattle.std.specs.List.{range_with_len}
+use Rattle.std.specs.Prelude.{ℕ, ◌+◌, ◌-◌, ◌*◌, ◌/◌, ◌%◌, ◌^◌, ◌==◌, ◌&&◌, not, nat_lt, Bool, true, false, if◌then◌else◌, List, [], ◌∷◌, length, reverse, filter, find, slice_get, slice_index, slice_set, bit_xor, Option, None, Some, option_map, unwrap_or}
+use Rattle.std.specs.List.{fold, range_with_len}
 use Rattle.can_logs.specs.declared.map_lines.MapLine.{MapLine}
 use Rattle.explain_commands.specs.declared.trials.Making.TheVariants as making
 use Rattle.explain_commands.specs.declared.trials.Comparison.{Comparison}
@@ -72,6 +72,19 @@ beyond r = r.window + 1
 abbrev pub flipped : ℕ → List ℕ → List ℕ
 flipped bit bytes = slice_set bytes (bit / 8) (bit_xor (slice_index bytes (bit / 8)) (2 ^ (bit % 8)))
 
+-- the low 16 bits of hexadecimal digits: a decimal digit is 48 more than its value, and a letter in lower case 87
+abbrev pub digit_number : ℕ → ℕ
+digit_number digit = if nat_lt 57 digit then digit - 87 else digit - 48
+
+abbrev pub low_16_bits : List ℕ → ℕ
+low_16_bits digits = fold (λ sum digit. (sum * 16 + digit_number digit) % 65536) 0 digits
+
+-- these of the CAN identifier as the Data ID, if they aren't the map's
+abbrev pub can_trial : Failing → MapLine → Comparison
+can_trial f l =
+    if low_16_bits l.can == f.receiver.id then compared.Skipped
+    else trial_within making.Standard (with_id (low_16_bits l.can) f.receiver) f.bytes
+
 abbrev pub trial_of : Failing → ReasonKind → ℕ → Comparison
 trial_of f kind.Replay i = again_at true f i
 trial_of f kind.UsedAgain i = again_at false f i
@@ -97,6 +110,7 @@ trial_of f kind.OtherCover i =
     if i + 1 == f.receiver.size then compared.Skipped else trial_covering f.receiver (i + 1) f.bytes
 trial_of f kind.OtherLow i = trial_unlike f.receiver f.bytes (f.receiver.counter + (i + 1))
 trial_of f kind.FlippedBit i = trial_within making.Standard f.receiver (flipped i f.bytes)
+trial_of f kind.CanAsId i = unwrap_or (option_map (can_trial f) (slice_get f.lines f.place)) compared.Skipped
 
 -- how many tries there are: each accepted frame that is kept; the 2^16 values of freshness behind the counter, or
 -- beyond the window; each length; each line of the map; one; each value within the window; each bit of the PDU
@@ -120,6 +134,7 @@ number_of_tries f kind.TrailerFirst = 1
 number_of_tries f kind.OtherCover = 60
 number_of_tries f kind.OtherLow = f.receiver.window
 number_of_tries f kind.FlippedBit = 8 * (f.receiver.size + 4)
+number_of_tries f kind.CanAsId = 1
 
 -- the number of the log's line of an accepted frame
 abbrev pub number_at : Failing → ℕ → ℕ
@@ -146,6 +161,7 @@ reason_at f kind.TrailerFirst i = reason.TrailerFirst
 reason_at f kind.OtherCover i = reason.OtherCover (i + 1)
 reason_at f kind.OtherLow i = reason.OtherLow (i + 1)
 reason_at f kind.FlippedBit i = reason.FlippedBit (i / 8) (i % 8)
+reason_at f kind.CanAsId i = reason.CanAsId
 
 -- ---- the first that holds
 
@@ -194,7 +210,7 @@ abbrev pub all_kinds : List ReasonKind
 all_kinds = kind.Replay ∷ kind.UsedAgain ∷ kind.Behind ∷ kind.FarAhead ∷ kind.OtherLength ∷ kind.OtherLine
     ∷ kind.OtherKey ∷ kind.OtherId ∷ kind.SwappedId ∷ kind.SwappedFreshness ∷ kind.NoId ∷ kind.ShortFreshness
     ∷ kind.LastBytes ∷ kind.ReversedTag ∷ kind.ReversedKey ∷ kind.TrailerFirst ∷ kind.OtherCover ∷ kind.OtherLow
-    ∷ kind.FlippedBit ∷ []
+    ∷ kind.FlippedBit ∷ kind.CanAsId ∷ []
 
 -- why a frame fails, and how many authenticators were computed to find it
 abbrev pub explained : Failing → Explained

@@ -6,6 +6,7 @@ ghost use Rattle.explain_commands.specs.Trials.{accepted_freshness, carried_tag}
 ghost use Rattle.explain_commands.specs.Explaining.{frame_at};
 ghost use Rattle.explain_commands.specs.Reasons.{receiver_of, trial_of, number_of_tries, reason_at, last_reason, beyond};
 ghost use Rattle.explain_commands.specs.Reasons.{flipped, number_at, passes_or_not, again_at};
+ghost use Rattle.explain_commands.specs.Reasons.{digit_number, low_16_bits, can_trial};
 
 use crate::recent::{Accepted, Recent};
 use crate::trials::{
@@ -63,6 +64,8 @@ pub enum ReasonKind {
     OtherLow,
     /// One bit of the PDU is another.
     FlippedBit,
+    /// The low 16 bits of the CAN identifier as the Data ID.
+    CanAsId,
 }
 
 /// Why a frame fails.
@@ -106,6 +109,8 @@ pub enum Reason {
     OtherLow(usize),
     /// It verifies if this bit of this byte is flipped. Both are counted from 0, the bits from the lowest.
     FlippedBit(usize, usize),
+    /// It verifies with the low 16 bits of the CAN identifier as the Data ID.
+    CanAsId,
     /// None of these: it has too few bytes for a payload of so many.
     TooShort(usize),
     /// None of these, and it is long enough.
@@ -134,7 +139,7 @@ pub struct Case<'a> {
 }
 
 impl<'a> Model for Case<'a> {
-    ghost use Rattle.std.specs.Prelude.{◌≡◌, ◌≤◌, length};
+    ghost use Rattle.std.specs.Prelude.{◌≡◌, ◌≤◌, ◌<◌, length};
     ghost use Rattle.secured_pdu.specs.declared.frame.TheConstants.{WIDEST_WINDOW};
     ghost use Rattle.explain_commands.specs.Reasons.{Failing};
 
@@ -152,7 +157,7 @@ impl<'a> Model for Case<'a> {
 
     ghost invariant = { λ c. (length c.numbers.now ≡ length c.lines.now) × (length c.counters.now ≡ length c.lines.now)
         × (length c.lines.now ≤ 256) × (length c.bytes.now ≤ 64)
-        × (c.receiver.size ≤ 60) × (c.receiver.window ≤ WIDEST_WINDOW) };
+        × (c.receiver.size ≤ 60) × (c.receiver.window ≤ WIDEST_WINDOW) × (c.place < length c.lines.now) };
 }
 
 /// What a receiver of a line of the map knows that accepted this freshness last.
@@ -253,6 +258,7 @@ impl<'a> Case<'a> {
             ReasonKind::OtherCover => self.other_cover(at),
             ReasonKind::OtherLow => trial_unlike(&self.receiver, self.bytes, at as u64 + 1),
             ReasonKind::FlippedBit => self.flipped_bit(at),
+            ReasonKind::CanAsId => self.can_as_id(),
         }
     }
 
@@ -273,7 +279,8 @@ impl<'a> Case<'a> {
             | ReasonKind::LastBytes
             | ReasonKind::ReversedTag
             | ReasonKind::ReversedKey
-            | ReasonKind::TrailerFirst => 1,
+            | ReasonKind::TrailerFirst
+            | ReasonKind::CanAsId => 1,
             ReasonKind::OtherLow => usize::from(self.receiver.window),
             ReasonKind::FlippedBit => 8 * (self.receiver.size + 4),
         }
@@ -304,6 +311,7 @@ impl<'a> Case<'a> {
             ReasonKind::OtherCover => Reason::OtherCover(at + 1),
             ReasonKind::OtherLow => Reason::OtherLow(at + 1),
             ReasonKind::FlippedBit => Reason::FlippedBit(at / 8, at % 8),
+            ReasonKind::CanAsId => Reason::CanAsId,
         }
     }
 
@@ -435,6 +443,26 @@ impl<'a> Case<'a> {
         trial_within(Making::Standard, &other, self.bytes)
     }
 
+    /// The CAN identifier as the Data ID.
+    fn can_as_id(&self) -> Comparison
+        ensures { result ≡ trial_of self.now kind.CanAsId 0 }
+    {
+        self.with_can(&self.lines[self.place])
+    }
+
+    /// The CAN identifier of a line as the Data ID.
+    fn with_can(&self, line: &MapLine) -> Comparison
+        ensures { result ≡ can_trial self.now line.now }
+    {
+        let id = low_16_bits(line.can.digits());
+        if id == self.receiver.id {
+            return Comparison::Skipped;
+        }
+        let mut other = self.receiver;
+        other.id = id;
+        trial_within(Making::Standard, &other, self.bytes)
+    }
+
     /// One bit flipped.
     fn flipped_bit(&self, bit: usize) -> Comparison
         ensures { result ≡ trial_of self.now kind.FlippedBit bit }
@@ -445,6 +473,28 @@ impl<'a> Case<'a> {
         flip(bit, bytes);
         trial_within(Making::Standard, &self.receiver, bytes)
     }
+}
+
+/// The low 16 bits of hexadecimal digits in lower case.
+fn low_16_bits(digits: &[u8]) -> u16
+    ensures { result ≡ low_16_bits digits.now }
+{
+    let mut sum = 0u32;
+    for digit in digits {
+        sum = (sum * 16 + digit_number(*digit)) % 65536;
+    }
+    sum as u16
+}
+
+/// The number of a hexadecimal digit in lower case.
+fn digit_number(digit: u8) -> u32
+    ensures value { result ≡ digit_number digit }
+    ensures few { result ≤ 255 }
+{
+    if digit > b'9' {
+        return u32::from(digit.saturating_sub(87));
+    }
+    u32::from(digit.saturating_sub(b'0'))
 }
 
 /// Whether a test passes, or whether it doesn't.

@@ -6,7 +6,7 @@ use crate::kinds::{Case, Explained, ReasonKind};
 use crate::trials::Comparison;
 
 /// The kinds in their order.
-const KINDS: [ReasonKind; 19] = [
+const KINDS: [ReasonKind; 20] = [
     ReasonKind::Replay,
     ReasonKind::UsedAgain,
     ReasonKind::Behind,
@@ -26,6 +26,7 @@ const KINDS: [ReasonKind; 19] = [
     ReasonKind::OtherCover,
     ReasonKind::OtherLow,
     ReasonKind::FlippedBit,
+    ReasonKind::CanAsId,
 ];
 
 /// What the tries of a kind come to: the first that agrees, and how many authenticators were computed.

@@ -96,6 +96,7 @@ fn push_reason(text: &mut Vec<u8>, reason: &Reason) -> Result<(), AllocError>
             push_with_number(text, b"freshness byte is another: ahead by ", steps as u64)
         }
         Reason::FlippedBit(byte, bit) => push_flipped(text, byte, bit),
+        Reason::CanAsId => text.extend_from_slice(b"verifies with the CAN identifier as Data ID"),
         Reason::TooShort(size) => {
             push_with_number(text, b"too short for a payload of ", size as u64)
         }

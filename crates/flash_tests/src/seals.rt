@@ -30,16 +30,19 @@ const NO_READ: PlaceRead = PlaceRead {
     is_closed: false,
 };
 
-/// What a test knows of the cells: what they have for sure, and what they may have, since a put was cut.
+/// What a test knows of the cells: what they have for sure, and what they may have, since a put was cut. And how many
+/// places cuts have taken at most, since a put was done.
 #[derive(Clone, Copy)]
 struct Sure {
     sure: [u8; 2],
     cut: [u8; 2],
+    taken: u32,
 }
 
 const ONES_AND_TWOS: Sure = Sure {
     sure: [1, 2],
     cut: [1, 2],
+    taken: 0,
 };
 
 /// How a life ends.
@@ -47,7 +50,7 @@ const ONES_AND_TWOS: Sure = Sure {
 enum LifeEnd {
     /// With the power, or an operation that failed.
     Cut,
-    /// The store jams, and says so.
+    /// The store jams, and says so, after cuts that took more places than the reserve has for them.
     Jammed,
     /// Something is wrong.
     Odd,
@@ -181,6 +184,11 @@ fn changed(sure: [u8; 2], cell: u8, value: u8) -> [u8; 2] {
     [sure[0], value]
 }
 
+/// A store may jam if cuts have taken enough places.
+fn jammed(may: bool) -> LifeEnd {
+    if may { LifeEnd::Jammed } else { LifeEnd::Odd }
+}
+
 /// Puts until something fails.
 fn put_some(
     part: &mut MemPart,
@@ -199,11 +207,17 @@ fn put_some(
         let cell = i % 2;
         known.cut = changed(known.sure, cell, value);
         match change_once(part, store, cells, cell as u16, value) {
-            Ok(()) => known.sure = known.cut,
-            Err(SealPutFault::Failed) => return LifeEnd::Cut,
+            Ok(()) => {
+                known.sure = known.cut;
+                known.taken = 0;
+            }
+            Err(SealPutFault::Failed) => {
+                known.taken = known.taken.saturating_add(2);
+                return LifeEnd::Cut;
+            }
             Err(SealPutFault::Exhausted) => {
                 known.cut = known.sure;
-                return LifeEnd::Jammed;
+                return jammed(known.taken >= SIZES.reserve);
             }
             Err(SealPutFault::NotReady) => return LifeEnd::Odd,
             Err(SealPutFault::NoCell) => return LifeEnd::Odd,
@@ -228,14 +242,18 @@ fn live_once(part: &mut MemPart, known: &mut Sure, bits: u64, stop: u64) -> Life
             *known = Sure {
                 sure: now,
                 cut: now,
+                taken: known.taken,
             };
             let mut store = store;
             let puts = ((bits >> 50) % 8) as u8;
             let first = ((bits >> 40) % 256) as u8;
             put_some(part, &mut store, &mut cells, known, puts, first)
         }
-        Err(SealStartFault::Failed) => LifeEnd::Cut,
-        Err(SealStartFault::Exhausted) => LifeEnd::Jammed,
+        Err(SealStartFault::Failed) => {
+            known.taken = known.taken.saturating_add(1);
+            LifeEnd::Cut
+        }
+        Err(SealStartFault::Exhausted) => jammed(known.taken > SIZES.reserve),
         Err(SealStartFault::NoStore) => LifeEnd::Odd,
         Err(SealStartFault::Unserved) => LifeEnd::Odd,
         Err(SealStartFault::Damaged) => LifeEnd::Odd,

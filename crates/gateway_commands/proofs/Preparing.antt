@@ -1,10 +1,10 @@
 -- The first phase, put together
 use Rattle.std.specs.Prelude.{◌≡◌, ℕ, List, [], ◌∷◌, length, get_or, Err}
-use Rattle.std.proofs.Common.{sym, ap, ◌∙◌, subst, arith, inl, inr}
+use Rattle.std.proofs.Common.{sym, ap, ◌∙◌, subst, arith}
 use Rattle.program_edge.specs.declared.input.InputFault.TheVariants as input
 use Rattle.program_edge.specs.Rows.{Row, memory_row}
 use Rattle.program_edge.specs.Inputs.{IsUnread}
-use Rattle.program_edge.proofs.CallerLemmas.{Lacks-whole, Lacks-unread}
+use Rattle.program_edge.proofs.CallerLemmas.{Lacks-unread}
 use Rattle.bus_config.specs.declared.node_lines.NodeLine.{NodeLine}
 use Rattle.bus_config.specs.Buses.{NamedBus}
 use Rattle.bus_script.specs.EventForms.{node_line_at, own_events_of}
@@ -30,10 +30,8 @@ RowOf-config i pairs row asks (file_refused fault text is told) unread = config_
 -- the bus doesn't take the pairs
 pub RowOf-pairs : (i : BusInputs) (bus : NamedBus) (pairs : List (ℕ × ℕ)) (row : Row) → AsksGateway i.words pairs → ReadsBus i.config bus → ChecksPairs bus pairs (Err row)
     → IsUnread i.script → RowOfInputs i row
-RowOf-pairs i bus pairs row asks reads (inl (text, refuses, is)) unread =
+RowOf-pairs i bus pairs row asks reads (text, refuses, is) unread =
     subst (RowOfInputs i) (sym is) (config_refused pairs text asks (of_bus bus text reads refuses) unread)
-RowOf-pairs i bus pairs row asks reads (inr memory) unread =
-    subst (RowOfInputs i) (sym memory) (no_config input.Memory (pairs, asks, Lacks-whole i.config reads.0 reads.1, unread))
 
 -- there is no script
 pub RowOf-script : (i : BusInputs) (bus : NamedBus) (pairs : List (ℕ × ℕ)) (row : Row) → SetsPairs i bus pairs → LacksLines (own_events_of bus.nodes) i.script row → RowOfInputs i row

@@ -1,9 +1,9 @@
 -- What the steps of the work say to one another
-use Rattle.std.specs.Prelude.{◌≡◌, ◌⊎◌, ℕ, ◌<◌, Bool, true, false, Option, None, Some, List, [], length}
+use Rattle.std.specs.Prelude.{◌≡◌, ℕ, ◌<◌, Bool, true, false, Option, None, Some, List, [], length}
 use Rattle.std.specs.Prelude.{slice_index_or}
 use Rattle.std.specs.Prelude.{Result, Ok, Err, Vec}
 use Rattle.std.specs.declared.alloc.Global.{Global}
-use Rattle.program_edge.specs.Rows.{Row, row_of, memory_row}
+use Rattle.program_edge.specs.Rows.{Row, row_of}
 use Rattle.program_edge.specs.Endings.{Ending, EndsInRow}
 use Rattle.bus_port.specs.Sink.{SinkState}
 use Rattle.run_driver.specs.declared.printing.Unwritten.{Unwritten}
@@ -19,7 +19,7 @@ use Rattle.secoc_gateway.specs.Pairs.{pair_in}
 use Rattle.secoc_gateway.specs.Turns.{GatewayTurn}
 use Rattle.gateway_commands.specs.declared.job.GatewayJob.{GatewayJob}
 use Rattle.gateway_commands.specs.Words.{pair_form, AsksGateway, AsksNoGateway}
-use Rattle.gateway_commands.specs.Texts.{gateway_text, pair_text}
+use Rattle.gateway_commands.specs.Texts.{gateway_text}
 use Rattle.bus_programs.specs.Inputs.{BusInputs}
 use Rattle.gateway_commands.specs.Inputs.{TakesPairs, RefusesPairs, SetsGateway}
 use Rattle.gateway_commands.specs.Rows.{RowOfInputs, DoneGateway}
@@ -38,15 +38,10 @@ AsksPairs words None = AsksNoGateway words
 
 -- ---- the bus
 
--- the row of a pair that isn't taken, by its number, or out of memory for its text
-abbrev pub IsPairRow : ℕ → Row → Type 0
-IsPairRow number row = (row ≡ row_of 3 (pair_text number)) ⊎ (row ≡ memory_row)
-
 -- the bus takes the pairs, or is refused
 abbrev pub ChecksPairs : NamedBus → List (ℕ × ℕ) → Result (Unit {0}) Row → Type 0
 ChecksPairs bus pairs (Ok _) = TakesPairs bus pairs
-ChecksPairs bus pairs (Err row) =
-    ((text : List ℕ) × RefusesPairs bus pairs text × (row ≡ row_of 3 text)) ⊎ (row ≡ memory_row)
+ChecksPairs bus pairs (Err row) = (text : List ℕ) × RefusesPairs bus pairs text × (row ≡ row_of 3 text)
 
 -- ---- the first phase
 

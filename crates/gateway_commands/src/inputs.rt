@@ -1,18 +1,19 @@
 //! Whether a gateway over the bus of a bus file takes the pairs.
-ghost use Rattle.std.specs.Prelude.{◌≤◌, MatchOption};
+ghost use Rattle.std.specs.Prelude.{◌≡◌, ◌≤◌, MatchOption};
+ghost use Rattle.program_edge.specs.Rows.{row_of};
 ghost use Rattle.freshness_routes.specs.declared.config.TheConstants.{MOST_ROUTES};
 ghost use Rattle.secoc_gateway.specs.Pairs.{AreGood, IsLowestBad};
-ghost use Rattle.gateway_commands.specs.Steps.{IsPairRow, ChecksPairs};
+ghost use Rattle.gateway_commands.specs.Texts.{pair_text};
+ghost use Rattle.gateway_commands.specs.Steps.{ChecksPairs};
 
 use bus_config::BusConfig;
 use freshness_routes::NodeConfig;
 use program_edge::Refusal;
 use secoc_gateway::lowest_bad;
-use std::alloc::{AllocError, Global};
 
 /// Whether the bus has one node, and a gateway over it takes these pairs; or the refusal that names the lowest that
-/// isn't taken.
-pub fn check_pairs(alloc: Global, bus: &BusConfig, pairs: &[(u16, u16)]) -> Result<(), Refusal>
+/// isn't taken. It takes no memory.
+pub fn check_pairs(bus: &BusConfig, pairs: &[(u16, u16)]) -> Result<(), Refusal>
     ensures { ChecksPairs bus.now pairs.now result }
 {
     let nodes = bus.nodes();
@@ -22,7 +23,7 @@ pub fn check_pairs(alloc: Global, bus: &BusConfig, pairs: &[(u16, u16)]) -> Resu
     let node = &nodes[0];
     match bad_pair(&node.config, pairs) {
         None => Ok(()),
-        Some(place) => Err(pair_refusal(alloc, place + 1)),
+        Some(place) => Err(pair_refusal(place + 1)),
     }
 }
 
@@ -36,11 +37,8 @@ fn bad_pair(config: &NodeConfig, pairs: &[(u16, u16)]) -> Option<u16>
 }
 
 // The refusal of the pair with this number, from 1.
-fn pair_refusal(alloc: Global, number: u16) -> Refusal
-    ensures { IsPairRow number result }
+fn pair_refusal(number: u16) -> Refusal
+    ensures { result ≡ row_of 3 (pair_text number) }
 {
-    match format!(in alloc; "config: pair {number}\n") {
-        Ok(text) => Refusal::made(3, text),
-        Err(AllocError) => Refusal::no_memory(),
-    }
+    Refusal::numbered(3, "config: pair ", u32::from(number), "\n")
 }

@@ -116,7 +116,7 @@ fn read_job<S: Source, T: Source>(
         result }
 {
     let bus = bus_from(alloc, config)?;
-    check_pairs(alloc, &bus, pairs.as_slice())?;
+    check_pairs(&bus, pairs.as_slice())?;
     let events = script_from::<OwnScript, T>(alloc, &bus, script)?;
     Ok(GatewayJob { bus, pairs, events })
 }

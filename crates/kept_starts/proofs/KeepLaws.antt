@@ -1,5 +1,5 @@
 -- A start over bytes that may be kept keeps each store that stands there
-use Rattle.std.specs.Prelude.{◌≡◌, ℕ, ◌<◌, ◌≤◌, ◌+◌, ◌*◌, ◌/◌, ◌%◌, ◌^◌, Option, Some, List, ◌∷◌, length, get_or}
+use Rattle.std.specs.Prelude.{◌≡◌, ◌⊎◌, ℕ, ◌<◌, ◌≤◌, ◌+◌, ◌*◌, ◌/◌, ◌%◌, ◌^◌, Option, Some, List, ◌∷◌, length, get_or}
 use Rattle.std.proofs.Common.{suc, zero, refl, sym, ap, ◌∙◌, subst, arith, inl, inr}
 use Rattle.std.proofs.lemmas.List.{get_or-take}
 use Rattle.std.proofs.lemmas.Option.{same_Some}
@@ -33,13 +33,14 @@ use Rattle.bus_script.specs.EventForms.{node_line_at}
 use Rattle.freshness_routes.specs.Config.{Config}
 use Rattle.secoc_node.specs.State.{NodeState}
 use Rattle.bus_world.specs.declared.start.Start.TheVariants.{Attach}
-use Rattle.bus_world.specs.TakingUp.{cells_in, TakenOver, FailedOver, LeavesDisk}
+use Rattle.bus_world.specs.TakingUp.{new_cells, TakenOver, FailedOver, LeavesDisk}
 use Rattle.bus_world.specs.Starts.{HasRoom, Opened}
 use Rattle.bus_world.specs.StartAnswers.{ComesOfStart}
 use Rattle.bus_world.proofs.CallerLemmas.{counted_once, older_one, no_disk, no_line, Comes-leaves}
-use Rattle.kept_starts.specs.LookedAt.{LookedAt}
+use Rattle.kept_starts.specs.LookedAt.{cells_in_bus, config_in_bus, KeepsInBus, UnfinishedInBus, LookedAt}
 use Rattle.kept_starts.proofs.LookLaws.{first_line, look_keeps, same_told}
-use Rattle.kept_starts.specs.KeptStores.{untouched, moved, unused, KeepsStores, FirstTells, StartsKeepStores, RefusedLooksWriteNothing}
+use Rattle.kept_starts.proofs.UnfinishedLaws.{unfinished_not_older, unfinished_stands_none}
+use Rattle.kept_starts.specs.KeptStores.{untouched, moved, unused, unfinished, KeepsStores, FirstTells, StartsKeepStores, RefusedLooksWriteNothing}
 
 -- ---- headers
 
@@ -51,7 +52,7 @@ number_of_header kind n head small e =
     let low : get_or head 11 0 ≡ n / 256 ^ 0 % 256 = ap (λ (l : List ℕ). get_or l 11 0) e in
     omega arith
 
-counted_of : (kind : Kind) (n : ℕ) (x : List ℕ) → n < 2 ^ 16 → HasHeader (layout kind One) n x → cells_counted x ≡ n
+pub counted_of : (kind : Kind) (n : ℕ) (x : List ℕ) → n < 2 ^ 16 → HasHeader (layout kind One) n x → cells_counted x ≡ n
 counted_of kind n x small head =
     let high : get_or (part 0 32 x) 10 0 ≡ get_or x 10 0 = get_or-take 32 x 10 0 (omega arith) in
     let low : get_or (part 0 32 x) 11 0 ≡ get_or x 11 0 = get_or-take 32 x 11 0 (omega arith) in
@@ -151,37 +152,54 @@ stands_not_blank kind Two n x there stands (inl is) blank =
 stands_not_blank kind version n x there stands (inr (two, is)) blank =
     first_not_blank kind x (first_alone x (store_header kind One n) (subst (λ (h : StoreHeader). HeaderStands x (Some h)) is stands) refl).1 (blank_low kind version n x blank)
 
-pub blank_zeros : (kind : Kind) (version : Version) (n : ℕ) (x : List ℕ) → CanKeep kind version n x → IsFound kind version n x Blank → AllZeros x
-blank_zeros kind version n x (inl zeros) blank = zeros
-blank_zeros kind version n x (inr (there, stands, wanted)) blank = absurd (stands_not_blank kind version n x there stands wanted blank)
+blank_can : (kind : Kind) (version : Version) (n : ℕ) (x : List ℕ) → CanKeep kind version n x → IsFound kind version n x Blank → AllZeros x
+blank_can kind version n x (inl zeros) blank = zeros
+blank_can kind version n x (inr (there, stands, wanted)) blank = absurd (stands_not_blank kind version n x there stands wanted blank)
+
+-- of all bytes that are kept
+module _ (bus : NamedBus) (x : List ℕ) where
+  pub blank_zeros : KeepsInBus bus x → IsFound bus.kind bus.version (cells_in_bus bus) x Blank → AllZeros x ⊎ UnfinishedInBus bus x
+  blank_zeros (inl can) blank = inl (blank_can bus.kind bus.version (cells_in_bus bus) x can blank)
+  blank_zeros (inr begun) blank = inr begun
+
+  kept_alone : KeepsInBus bus x → IsFound bus.kind bus.version (cells_in_bus bus) x Older → HeaderStands x (Some (store_header bus.kind One (cells_in_bus bus)))
+  kept_alone (inl can) older = older_alone bus.kind bus.version (cells_in_bus bus) x can older
+  kept_alone (inr u) older =
+      absurd (unfinished_not_older bus.kind bus.version (new_cells (config_in_bus bus)) x u bus.kind bus.version (cells_in_bus bus) older)
 
 -- ---- what is kept
 
-keeps_same : (t : Told) (new : Option Told) → new ≡ Some t → KeepsStores t new
-keeps_same t new same = record { stays = untouched same; cells = λ kind n. kept-same kind n (Some t) new same }
+keeps_same : (bus : NamedBus) (t : Told) (new : Option Told) → new ≡ Some t → KeepsStores bus t new
+keeps_same bus t new same = record { stays = untouched same; cells = λ kind n. kept-same kind n (Some t) new same }
 
 firm_of : (t : Told) (b : List ℕ) → Some t ≡ Some (firm b) → t ≡ firm b
 firm_of t b is = same_Some t (firm b) is
 
-keeps_unused : (t : Told) (new : Option Told) → AllZeros t.bytes → KeepsStores t new
-keeps_unused t new zeros = record {
+keeps_unused : (bus : NamedBus) (t : Told) (new : Option Told) → AllZeros t.bytes ⊎ UnfinishedInBus bus t.bytes → KeepsStores bus t new
+keeps_unused bus t new (inl zeros) = record {
   stays = unused zeros;
   cells = λ kind n b cells is count stands.
       absurd (zeros_stand_none kind cells b (subst (λ (u : Told). AllZeros u.bytes) (firm_of t b is) zeros) stands);
 }
+keeps_unused bus t new (inr begun) = record {
+  stays = unfinished begun;
+  cells = λ kind n b cells is count stands.
+      absurd (unfinished_stands_none bus.kind bus.version (new_cells (config_in_bus bus)) b
+      (subst (λ (u : Told). UnfinishedInBus bus u.bytes) (firm_of t b is) begun) kind cells stands);
+}
 
 -- all images of one store's cells
-module _ (kind : Kind) (n : ℕ) (t : Told) (new : Option Told) (alone : HeaderStands t.bytes (Some (store_header kind One n)))
-    (keeps : KeepsCounted kind n (Some t) new) where
+module _ (bus : NamedBus) (n : ℕ) (t : Told) (new : Option Told) (alone : HeaderStands t.bytes (Some (store_header bus.kind One n)))
+    (keeps : KeepsCounted bus.kind n (Some t) new) where
   each_keeps : (that : Kind) (m : ℕ) → KeepsCounted that m (Some t) new
   each_keeps that m b cells is count stands =
       let same : t ≡ firm b = firm_of t b is in
-      let one = alone_counts kind that n b cells stands.version (subst (λ (u : Told). HeaderStands u.bytes (Some (store_header kind One n))) same alone) stands.stands in
+      let one = alone_counts bus.kind that n b cells stands.version (subst (λ (u : Told). HeaderStands u.bytes (Some (store_header bus.kind One n))) same alone) stands.stands in
       subst (λ (k : Kind). EachImage new (StandsAsCounted k cells)) (sym one.0)
       (keeps b cells is one.1 (subst (λ (k : Kind). StandsAsCounted k cells b) one.0 stands))
 
-  keeps_moved : KeepsStores t new
-  keeps_moved = record { stays = moved kind n alone; cells = each_keeps }
+  keeps_moved : KeepsStores bus t new
+  keeps_moved = record { stays = moved bus.kind n alone; cells = each_keeps }
 
 -- a store that was moved stands in version 2 for the same cells
 migrated_keeps : (kind : Kind) (n : ℕ) (t : Told) (new : Option Told) → Migrated kind n t new → KeepsCounted kind n (Some t) new
@@ -193,32 +211,30 @@ migrated_keeps kind n t new m b cells is count stands u now x image =
     let two : StandsInTwo kind cells x = subst (λ (l : List (List ℕ)). StandsInTwo kind l x) list (m.images firm_is u now x image) in
     record { version = Two; counting = two.counting; stands = two.stands }
 
-module _ (kind : Kind) (version : Version) (config : Config) (before : DiskState) (t : Told) (told : before.told ≡ Some t)
-    (can : CanKeep kind version (cells_in config) t.bytes) where
-  taken_keeps : (new : Option Told) → TakenOver kind version config t new → KeepsStores t new
-  taken_keeps new (inl same) = keeps_same t new same
-  taken_keeps new (inr (inl (blank, fresh))) = keeps_unused t new (blank_zeros kind version (cells_in config) t.bytes can blank)
+module _ (bus : NamedBus) (before : DiskState) (t : Told) (told : before.told ≡ Some t) (can : KeepsInBus bus t.bytes) where
+  taken_keeps : (new : Option Told) → TakenOver bus.kind bus.version (config_in_bus bus) t new → KeepsStores bus t new
+  taken_keeps new (inl same) = keeps_same bus t new same
+  taken_keeps new (inr (inl (blank, fresh))) = keeps_unused bus t new (blank_zeros bus t.bytes can blank)
   taken_keeps new (inr (inr (older, migrated))) =
-      keeps_moved kind (cells_in config) t new (older_alone kind version (cells_in config) t.bytes can older)
-      (migrated_keeps kind (cells_in config) t new migrated)
+      keeps_moved bus (cells_in_bus bus) t new (kept_alone bus t.bytes can older) (migrated_keeps bus.kind (cells_in_bus bus) t new migrated)
 
-  failed_keeps : (after : DiskState) → FailedOver kind version (cells_in config) before after t → (found : Found) → IsFound kind version (cells_in config) t.bytes found
-      → KeepsStores t after.told
-  failed_keeps after failed Blank is = keeps_unused t after.told (blank_zeros kind version (cells_in config) t.bytes can is)
-  failed_keeps after failed Standing is = keeps_same t after.told (failed.standing is)
-  failed_keeps after failed Foreign is = keeps_same t after.told (failed.foreign is)
+  failed_keeps : (after : DiskState) → FailedOver bus.kind bus.version (cells_in_bus bus) before after t → (found : Found)
+      → IsFound bus.kind bus.version (cells_in_bus bus) t.bytes found → KeepsStores bus t after.told
+  failed_keeps after failed Blank is = keeps_unused bus t after.told (blank_zeros bus t.bytes can is)
+  failed_keeps after failed Standing is = keeps_same bus t after.told (failed.standing is)
+  failed_keeps after failed Foreign is = keeps_same bus t after.told (failed.foreign is)
   failed_keeps after failed Older is =
-      keeps_moved kind (cells_in config) t after.told (older_alone kind version (cells_in config) t.bytes can is)
-      (subst (λ (o : Option Told). KeepsCounted kind (cells_in config) o after.told) told (failed.older is))
+      keeps_moved bus (cells_in_bus bus) t after.told (kept_alone bus t.bytes can is)
+      (subst (λ (o : Option Told). KeepsCounted bus.kind (cells_in_bus bus) o after.told) told (failed.older is))
 
-  opened_keeps : (n : NodeState) → Opened Attach kind version config before n → KeepsStores t n.store.disk.told
+  opened_keeps : (n : NodeState) → Opened Attach bus.kind bus.version (config_in_bus bus) before n → KeepsStores bus t n.store.disk.told
   opened_keeps n opened = taken_keeps n.store.disk.told (opened.leaves t told)
 
-  left_keeps : (after : DiskState) → LeavesDisk Attach kind version config before after → KeepsStores t after.told
+  left_keeps : (after : DiskState) → LeavesDisk Attach bus.kind bus.version (config_in_bus bus) before after → KeepsStores bus t after.told
   left_keeps after leaves = elim (leaves t told) [
     | inl (taken, calm) ↦ taken_keeps after.told taken
     | inr failed ↦
-        let once = found-once kind version (cells_in config) t.bytes in
+        let once = found-once bus.kind bus.version (cells_in_bus bus) t.bytes in
         failed_keeps after failed.failed once.0 once.1
   ]
 
@@ -226,23 +242,20 @@ module _ (kind : Kind) (version : Version) (config : Config) (before : DiskState
 
 module _ (bus : NamedBus) (before seen : List DiskState) (t : Told) (one : length bus.nodes ≡ 1) (look : LookedAt bus before seen) (room : HasRoom bus before)
     (tells : FirstTells before t) where
-  abbrev config : Config
-  config = (node_line_at bus.nodes 0).config
-
   pub still : (d : DiskState) → (get_or seen 0 d).told ≡ Some t
   still d = same_told bus before seen look 0 d ∙ tells d
 
-  pub can : CanKeep bus.kind bus.version (cells_in config) t.bytes
+  pub can : KeepsInBus bus t.bytes
   can = look_keeps bus before seen look room no_disk t (tells no_disk)
 
-  bus_opened : (d : DiskState) (n : NodeState) → Opened Attach bus.kind bus.version config (get_or seen 0 d) n → KeepsStores t n.store.disk.told
-  bus_opened d n opened = opened_keeps bus.kind bus.version config (get_or seen 0 d) t (still d) can n opened
+  bus_opened : (d : DiskState) (n : NodeState) → Opened Attach bus.kind bus.version (config_in_bus bus) (get_or seen 0 d) n → KeepsStores bus t n.store.disk.told
+  bus_opened d n opened = opened_keeps bus (get_or seen 0 d) t (still d) can n opened
 
-  bus_left : (after : List DiskState) (row : Row) → ComesOfStart Attach bus (record { before = seen; after = after }) row → (d : DiskState) → KeepsStores t (get_or after 0 d).told
+  bus_left : (after : List DiskState) (row : Row) → ComesOfStart Attach bus (record { before = seen; after = after }) row → (d : DiskState) → KeepsStores bus t (get_or after 0 d).told
   bus_left after row comes d =
       let inside : 0 < length bus.nodes = omega (arith, one) in
       let left = (Comes-leaves Attach bus (record { before = seen; after = after }) row comes).leaves 0 no_line d inside in
-      left_keeps bus.kind bus.version config (get_or seen 0 d) t (still d) can (get_or after 0 d)
+      left_keeps bus (get_or seen 0 d) t (still d) can (get_or after 0 d)
       (subst (λ (n : NodeLine). LeavesDisk Attach bus.kind bus.version n.config (get_or seen 0 d) (get_or after 0 d)) (first_line bus.nodes 0 no_line one inside) left)
 
 pub starts_keep : StartsKeepStores

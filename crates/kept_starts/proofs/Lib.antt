@@ -1,6 +1,9 @@
+pub mod UnfinishedLaws
 pub mod LookLaws
 pub mod KeepLaws
 pub mod OlderLaws
+pub mod LookedUnfinished
 pub mod RefusedLaws
 pub mod RowLaws
+pub mod CutLaws
 pub mod CallerLemmas

@@ -35,14 +35,15 @@ use Rattle.secoc_node.specs.Causes.{AttachCause}
 use Rattle.secoc_node.specs.declared.faults.AttachFault.{AttachFault}
 use Rattle.secoc_node.specs.declared.faults.AttachFault.TheVariants as cells
 use Rattle.bus_config.specs.Buses.{NamedBus}
-use Rattle.bus_world.specs.TakingUp.{cells_in, HasNodeStore, KeptOn, NoNodes}
+use Rattle.bus_world.specs.TakingUp.{cells_in, new_cells, HasNodeStore, KeptOn, NoNodes}
 use Rattle.bus_world.specs.declared.start.Start.TheVariants.{Attach}
 use Rattle.bus_world.specs.Opening.{of_store, of_cells}
 use Rattle.bus_world.proofs.CallerLemmas.{older_one}
 use Rattle.kept_starts.specs.declared.first.KeepFault.{KeepFault}
 use Rattle.kept_starts.specs.declared.first.KeepFault.TheVariants as keep
-use Rattle.kept_starts.specs.LookedAt.{cells_in_bus, size_in_bus, config_in_bus, cells_calls, look_calls, SeenInBus, KeepsTold, KeepsOlder, HoldsOldCells, UnreadInBus, CellsNotInBus, KeepCause, FailsToKeepWithin, keep_fault_of_store, keep_fault_of_cells}
+use Rattle.kept_starts.specs.LookedAt.{cells_in_bus, size_in_bus, config_in_bus, cells_calls, look_calls, SeenInBus, KeepsTold, KeepsOlder, TellsUnfinished, HoldsOldCells, UnreadInBus, CellsNotInBus, KeepCause, FailsToKeepWithin, keep_fault_of_store, keep_fault_of_cells}
 use Rattle.kept_starts.proofs.LookLaws.{unlooked}
+use Rattle.kept_starts.proofs.UnfinishedLaws.{unfinished_not_older}
 use Rattle.kept_starts.proofs.KeepLaws.{blank_low, first_alone, second_there, first_not_blank}
 
 -- ---- what is seen
@@ -78,13 +79,13 @@ module _ (bus : NamedBus) (disk : DiskState) where
 
   told_unused : SeesTold see.Unused → KeepsTold bus disk × KeepsOlder bus disk
   told_unused sees = (
-    λ t tells. keep_unused bus t.bytes (sees t tells),
+    λ t tells. inl (keep_unused bus t.bytes (sees t tells)),
     λ t tells older. absurd (unused_not_older bus t.bytes (sees t tells) older),
   )
 
   told_standing : SeesTold see.Standing → KeepsTold bus disk × KeepsOlder bus disk
   told_standing sees = (
-    λ t tells. keep_standing bus t.bytes (sees t tells),
+    λ t tells. inl (keep_standing bus t.bytes (sees t tells)),
     λ t tells older. absurd (standing_not_older bus t.bytes (sees t tells) older),
   )
 
@@ -94,7 +95,7 @@ module _ (bus : NamedBus) (disk : DiskState) where
   told_either seen (inr is) sees = told_standing (subst SeesTold is sees)
 
   pub told_older : SeesTold see.Older → KeepsTold bus disk
-  told_older sees t tells = keep_older bus t.bytes (sees t tells)
+  told_older sees t tells = inl (keep_older bus t.bytes (sees t tells))
 
   pub older_held : HoldsOldCells bus disk → KeepsOlder bus disk
   older_held holds t tells older = holds t tells
@@ -102,8 +103,12 @@ module _ (bus : NamedBus) (disk : DiskState) where
   pub other_fails : (there : StoreHeader) → SeesTold (see.Other there) → FailsToKeepWithin (cells_calls bus) bus disk disk (keep.OtherStore there)
   other_fails there sees = record { runs = (unlooked (cells_calls bus) disk).runs; told = refl; cause = (refl, sees) }
 
-  pub neither_fails : SeesTold see.Neither → FailsToKeepWithin (cells_calls bus) bus disk disk keep.NotFormatted
-  neither_fails sees = record { runs = (unlooked (cells_calls bus) disk).runs; told = refl; cause = (refl, λ t tells. inl (sees t tells)) }
+  -- neither a store nor zeros, but the node's unfinished format
+  pub told_begun : TellsUnfinished bus disk → KeepsTold bus disk × KeepsOlder bus disk
+  told_begun begun = (
+    λ t tells. inr (begun t tells),
+    λ t tells older. absurd (unfinished_not_older bus.kind bus.version (new_cells (config_in_bus bus)) t.bytes (begun t tells) bus.kind bus.version (cells_in_bus bus) older),
+  )
 
 -- ---- the cells in version 1
 

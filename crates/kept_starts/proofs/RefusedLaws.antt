@@ -24,7 +24,7 @@ use Rattle.bus_world.specs.Starts.{HasRoom, OfNumber}
 use Rattle.bus_world.specs.StartRows.{StoreCause}
 use Rattle.bus_world.specs.StartAnswers.{ComesOfStart, disks_refused, store_refused, start_without_memory}
 use Rattle.bus_world.proofs.CallerLemmas.{older_one, no_line}
-use Rattle.kept_starts.specs.LookedAt.{config_in_bus, cells_in_bus, LookedAt}
+use Rattle.kept_starts.specs.LookedAt.{config_in_bus, cells_in_bus, UnfinishedInBus, LookedAt}
 use Rattle.kept_starts.specs.KeptStores.{FirstTells, RefusedStartsWriteNothing}
 use Rattle.kept_starts.proofs.LookLaws.{first_line, look_older, same_faults}
 use Rattle.kept_starts.proofs.KeepLaws.{blank_zeros, still, can}
@@ -85,14 +85,14 @@ module _ (bus : NamedBus) (before seen after : List DiskState) (t : Told) (one :
   cause_not_older fault.Memory cause older = cause
 
   taken_same : (f : StartFault) → StoreCause Attach bus seen after f → TakenOver bus.kind bus.version (config_in_bus bus) t (get_or after 0 d).told
-      → ((get_or after 0 d).told ≡ Some t) ⊎ AllZeros t.bytes
+      → ((get_or after 0 d).told ≡ Some t) ⊎ (AllZeros t.bytes ⊎ UnfinishedInBus bus t.bytes)
   taken_same f cause (inl same) = inl same
   taken_same f cause (inr (inl (blank, fresh))) =
-      inr (blank_zeros bus.kind bus.version (cells_in_bus bus) t.bytes (can bus before seen t one look room tells) blank)
+      inr (blank_zeros bus t.bytes (can bus before seen t one look room tells) blank)
   taken_same f cause (inr (inr (older, moved))) = absurd (cause_not_older f cause older)
 
   same_or_zeros : (row : Row) → ComesOfStart Attach bus (record { before = seen; after = after }) row → row.status ≡ 10
-      → ((get_or after 0 d).told ≡ Some t) ⊎ AllZeros t.bytes
+      → ((get_or after 0 d).told ≡ Some t) ⊎ (AllZeros t.bytes ⊎ UnfinishedInBus bus t.bytes)
   same_or_zeros _ (disks_refused f finds left) ten = absurd (let no : ⊥ = omega (arith, ten) in no)
   same_or_zeros _ (store_refused f there cause leaves) ten =
       let left = subst (λ (n : NodeLine). LeavesDisk Attach bus.kind bus.version n.config (get_or seen 0 d) (get_or after 0 d))

@@ -22,8 +22,9 @@ use Rattle.bus_world.specs.StartAnswers.{DiskStates, CountsDiskFault, failed_row
 use Rattle.bus_world.proofs.CallerLemmas.{no_disk, no_line, no_room_fault, failure_told, start_status, start_without_room, start_complete, start_memory}
 use Rattle.kept_starts.specs.declared.first.KeepFault.{KeepFault}
 use Rattle.kept_starts.specs.declared.first.KeepFault.TheVariants as keep
-use Rattle.kept_starts.specs.LookedAt.{cells_in_bus, config_in_bus, KeepsTold, FailsToKeep, LookedAt, NotKept}
+use Rattle.kept_starts.specs.LookedAt.{cells_in_bus, config_in_bus, KeepsInBus, UnfinishedInBus, KeepsTold, FailsToKeep, LookedAt, NotKept}
 use Rattle.kept_starts.specs.KeepRows.{keep_row, ComesKept, of_look, of_start, BusKeepsDisk, RefusesStart, at_look, at_start}
+use Rattle.kept_starts.proofs.UnfinishedLaws.{headless_none}
 use Rattle.kept_starts.proofs.LookLaws.{same_told, same_faults, room_then, room_before, quiet_then, unlooked_same}
 
 -- ---- of the look
@@ -64,11 +65,14 @@ neither_unkept bus x none not (inr (that, stands, wanted)) =
     let no : ⊥ = cc in no
 
 seen_other_unkept : (bus : NamedBus) (x : List ℕ) (there : StoreHeader) → LooksAs bus.kind bus.version (cells_in_bus bus) x (Other there)
-    → CanKeep bus.kind bus.version (cells_in_bus bus) x → ⊥
-seen_other_unkept bus x there (seen_other _ stands not) keeps = other_unkept bus x there stands not keeps
+    → KeepsInBus bus x → ⊥
+seen_other_unkept bus x there (seen_other _ stands not) (inl can) = other_unkept bus x there stands not can
+seen_other_unkept bus x there (seen_other _ stands not) (inr begun) = headless_none x there begun.headless stands
 
-seen_neither_unkept : (bus : NamedBus) (x : List ℕ) → LooksAs bus.kind bus.version (cells_in_bus bus) x Neither → CanKeep bus.kind bus.version (cells_in_bus bus) x → ⊥
-seen_neither_unkept bus x (seen_neither none not) keeps = neither_unkept bus x none not keeps
+seen_neither_unkept : (bus : NamedBus) (x : List ℕ) → LooksAs bus.kind bus.version (cells_in_bus bus) x Neither → ¬ UnfinishedInBus bus x
+    → KeepsInBus bus x → ⊥
+seen_neither_unkept bus x (seen_neither none not) other (inl can) = neither_unkept bus x none not can
+seen_neither_unkept bus x (seen_neither none not) other (inr begun) = other begun
 
 -- of a disk that tells bytes that may be kept and over which the node goes on, and that was quiet or didn't fail, memory
 -- was out
@@ -77,7 +81,7 @@ able_memory : (bus : NamedBus) (disk seen : DiskState) (fault : KeepFault) (t : 
     → IsQuiet disk ⊎ ¬ Rose disk.faults seen.faults → FailsToKeep bus disk seen fault → fault ≡ keep.Memory
 able_memory bus disk seen (keep.OtherStore there) t tells keeps goes serves f = absurd (seen_other_unkept bus t.bytes there (f.cause.1 t tells) (keeps t tells))
 able_memory bus disk seen keep.NotFormatted t tells keeps goes serves f = absurd (elim (f.cause.1 t tells) [
-  | inl neither ↦ seen_neither_unkept bus t.bytes neither (keeps t tells)
+  | inl (neither, other) ↦ seen_neither_unkept bus t.bytes neither other (keeps t tells)
   | inr no_node ↦ no_node.none goes.0 goes.1
 ])
 able_memory bus disk seen (keep.Damaged place) t tells keeps goes serves f = absurd ((f.cause.1 t tells).none goes.0 goes.1)

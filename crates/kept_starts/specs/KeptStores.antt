@@ -15,19 +15,21 @@ use Rattle.bus_world.specs.declared.start.Start.TheVariants.{Attach}
 use Rattle.bus_world.specs.Starts.{HasRoom, Opened}
 use Rattle.bus_world.specs.StartAnswers.{ComesOfStart}
 use Rattle.kept_starts.specs.declared.first.KeepFault.{KeepFault}
-use Rattle.kept_starts.specs.LookedAt.{LookedAt, NotKept}
+use Rattle.kept_starts.specs.LookedAt.{LookedAt, NotKept, UnfinishedInBus}
 
--- What a start leaves of told bytes: they are as they were; or the header that stands is that of a store of version 1,
--- which is moved to version 2, whole or in part; or nothing was ever written there
-pub data StoreStays (t : Told) (new : Option Told) : Type 0 where
-  untouched : new ≡ Some t → StoreStays t new
-  moved : (kind : Kind) (n : ℕ) → HeaderStands t.bytes (Some (store_header kind One n)) → StoreStays t new
-  unused : AllZeros t.bytes → StoreStays t new
+-- What a start of a bus leaves of told bytes: they are as they were; or the header that stands is that of a store of
+-- version 1, which is moved to version 2, whole or in part; or nothing was ever written there; or a cut within the first
+-- format of the very store of its node left them, so no header stands
+pub data StoreStays (bus : NamedBus) (t : Told) (new : Option Told) : Type 0 where
+  untouched : new ≡ Some t → StoreStays bus t new
+  moved : (kind : Kind) (n : ℕ) → HeaderStands t.bytes (Some (store_header kind One n)) → StoreStays bus t new
+  unused : AllZeros t.bytes → StoreStays bus t new
+  unfinished : UnfinishedInBus bus t.bytes → StoreStays bus t new
 
 -- That is left. And whichever store stood there, of whatever kind and number of cells: if none of its bytes was loose,
 -- whatever a power cut leaves stands for the same cells.
-pub record KeepsStores (t : Told) (new : Option Told) : Type 0 where
-  pub stays : StoreStays t new
+pub record KeepsStores (bus : NamedBus) (t : Told) (new : Option Told) : Type 0 where
+  pub stays : StoreStays bus t new
   pub cells : (kind : Kind) (n : ℕ) → KeepsCounted kind n (Some t) new
 
 -- the first of these disks tells these bytes
@@ -41,9 +43,9 @@ StartsKeepStores = (bus : NamedBus) (before seen : List DiskState) (t : Told) �
     → LookedAt bus before seen → HasRoom bus before → FirstTells before t
     → ((d : DiskState) (n : NodeState)
     → Opened Attach bus.kind bus.version (node_line_at bus.nodes 0).config (get_or seen 0 d) n
-    → KeepsStores t n.store.disk.told)
+    → KeepsStores bus t n.store.disk.told)
     × ((after : List DiskState) (row : Row) → ComesOfStart Attach bus (record { before = seen; after = after }) row
-    → (d : DiskState) → KeepsStores t (get_or after 0 d).told)
+    → (d : DiskState) → KeepsStores bus t (get_or after 0 d).told)
 
 -- and a look at which the start is refused leaves each byte of each disk
 abbrev pub RefusedLooksWriteNothing : Type 0
@@ -51,10 +53,11 @@ RefusedLooksWriteNothing = (bus : NamedBus) (before after : List DiskState) (fau
     → NotKept bus before after fault → (i : ℕ) (d : DiskState) → (get_or after i d).told ≡ (get_or before i d).told
 
 -- Under any bus of one node, over a first disk that tells its bytes and has room for the store: a start that is refused
--- with 10 after the look leaves each byte of the disk, if its count of faults didn't rise; or all bytes were zeros.
+-- with 10 after the look leaves each byte of the disk, if its count of faults didn't rise; or all bytes were zeros, or the
+-- node's unfinished format.
 abbrev pub RefusedStartsWriteNothing : Type 0
 RefusedStartsWriteNothing = (bus : NamedBus) (before seen after : List DiskState) (t : Told) (row : Row)
     → length bus.nodes ≡ 1 → LookedAt bus before seen → HasRoom bus before → FirstTells before t
     → ComesOfStart Attach bus (record { before = seen; after = after }) row → row.status ≡ 10
     → (d : DiskState) → ¬ Rose (get_or before 0 d).faults (get_or after 0 d).faults
-    → ((get_or after 0 d).told ≡ Some t) ⊎ AllZeros t.bytes
+    → ((get_or after 0 d).told ≡ Some t) ⊎ (AllZeros t.bytes ⊎ UnfinishedInBus bus t.bytes)

@@ -20,11 +20,12 @@ use Rattle.bus_machine.specs.Node.{Kept}
 use Rattle.secoc_node.specs.declared.faults.AttachFault.{AttachFault}
 use Rattle.secoc_node.specs.declared.faults.AttachFault.TheVariants as cells
 use Rattle.secoc_node.specs.Cells.{CellsOf, IsKept}
-use Rattle.bus_world.specs.TakingUp.{cells_in, NoNodeOn}
+use Rattle.bus_world.specs.TakingUp.{cells_in, new_cells, NoNodeOn}
 use Rattle.bus_world.specs.Opening.{of_store, of_cells}
 use Rattle.bus_world.specs.Starts.{HasRoom}
 use Rattle.kept_starts.specs.declared.first.KeepFault.{KeepFault}
 use Rattle.kept_starts.specs.declared.first.KeepFault.TheVariants as keep
+use Rattle.kept_starts.specs.Unfinished.{IsUnfinishedFormat}
 
 -- how many cells the store of the bus's one node has, and how many bytes
 abbrev pub cells_in_bus : NamedBus → ℕ
@@ -47,9 +48,19 @@ look_calls bus = 3 + cells_calls bus
 abbrev pub SeenInBus : NamedBus → List ℕ → Seen → Type 0
 SeenInBus bus x seen = LooksAs bus.kind bus.version (cells_in_bus bus) x seen
 
--- told bytes are such that a start keeps what stands there: all zeros, or the node's store
+-- a cut within the first format of the node's store left these of zeros
+abbrev pub UnfinishedInBus : NamedBus → List ℕ → Type 0
+UnfinishedInBus bus x = IsUnfinishedFormat bus.kind bus.version (new_cells (config_in_bus bus)) x
+
+abbrev pub TellsUnfinished : NamedBus → DiskState → Type 0
+TellsUnfinished bus disk = (t : Told) → disk.told ≡ Some t → UnfinishedInBus bus t.bytes
+
+-- the bytes are such that a start keeps what stands there: all zeros, or the node's store, or its unfinished format
+abbrev pub KeepsInBus : NamedBus → List ℕ → Type 0
+KeepsInBus bus x = CanKeep bus.kind bus.version (cells_in_bus bus) x ⊎ UnfinishedInBus bus x
+
 abbrev pub KeepsTold : NamedBus → DiskState → Type 0
-KeepsTold bus disk = (t : Told) → disk.told ≡ Some t → CanKeep bus.kind bus.version (cells_in_bus bus) t.bytes
+KeepsTold bus disk = (t : Told) → disk.told ≡ Some t → KeepsInBus bus t.bytes
 
 -- there is a disk with room for it
 abbrev pub HasStoreRoom : NamedBus → List DiskState → Type 0
@@ -87,15 +98,16 @@ UnreadInBus bus x fault = NoNodeOn bus.kind bus.version (config_in_bus bus) x (o
 abbrev pub CellsNotInBus : NamedBus → List ℕ → AttachFault → Type 0
 CellsNotInBus bus x fault = NoNodeOn bus.kind bus.version (config_in_bus bus) x (of_cells fault)
 
--- why a start doesn't go on: told bytes have another store; or neither a store nor zeros alone; or the node's store in
--- version 1, which is damaged, or a cell of which isn't the node's; and no call failed. Or a call of the disk failed; or
--- there was no memory
+-- why a start doesn't go on: told bytes have another store; or neither a store nor zeros alone, nor the node's unfinished
+-- format; or the node's store in version 1, which is damaged, or a cell of which isn't the node's; and no call failed. Or
+-- a call of the disk failed; or there was no memory
 abbrev pub KeepCause : NamedBus → DiskState → DiskState → KeepFault → Type 0
 KeepCause bus disk seen (keep.OtherStore there) = (seen.faults ≡ disk.faults)
     × ((t : Told) → disk.told ≡ Some t → SeenInBus bus t.bytes (Other there))
 KeepCause bus disk seen keep.NotFormatted = (seen.faults ≡ disk.faults)
     × ((t : Told) → disk.told ≡ Some t
-    → SeenInBus bus t.bytes Neither ⊎ UnreadInBus bus t.bytes store.NotFormatted)
+    → (SeenInBus bus t.bytes Neither × (¬ UnfinishedInBus bus t.bytes))
+    ⊎ UnreadInBus bus t.bytes store.NotFormatted)
 KeepCause bus disk seen (keep.Damaged place) = (seen.faults ≡ disk.faults)
     × ((t : Told) → disk.told ≡ Some t → UnreadInBus bus t.bytes (store.Damaged place))
 KeepCause bus disk seen (keep.BadSlot slot) = (seen.faults ≡ disk.faults)

@@ -10,6 +10,7 @@ ghost use Rattle.kept_starts.specs.LookedAt.{keep_fault_of_store, keep_fault_of_
 ghost use Rattle.freshness_routes.specs.Config.{IsConfig};
 ghost use Rattle.bus_world.specs.Starts.{HasRoom};
 
+use crate::unfinished::look_at_unfinished;
 use any_cells::{AnyCells, put_first, store_size};
 use bus_config::BusConfig;
 use cell_store::{Cells, StoreFault, Version};
@@ -26,7 +27,8 @@ use store_growing::StoreHeader;
 pub enum KeepFault {
     /// The header of this store stands there, of another kind, version or number of cells.
     OtherStore(StoreHeader),
-    /// No header of a store stands there, and a byte isn't zero.
+    /// No header of a store stands there, and a byte is neither zero nor what a cut within the first format of the node's
+    /// store leaves.
     NotFormatted,
     /// The node's store stands there in version 1, which a start would move, and this place of it is damaged.
     Damaged(u16),
@@ -41,9 +43,9 @@ pub enum KeepFault {
 }
 
 /// Looks at the first of these disks, if it has room for the store of the bus's one node. Ok if there is no such disk,
-/// or if its bytes are all zeros or have the node's store, also one in version 1 for a bus of version 2. Such a store is
-/// moved by the start, so its cells are read here: they have to be the node's. It writes nothing. The disks are in their
-/// places again.
+/// or if its bytes are all zeros, or what a cut within the first format of the node's store left of zeros, or have that
+/// store, also one in version 1 for a bus of version 2. Such a store is moved by the start, so its cells are read here:
+/// they have to be the node's. It writes nothing. The disks are in their places again.
 pub fn look_first<D: Disk>(
     alloc: Global,
     bus: &BusConfig,
@@ -94,7 +96,7 @@ fn cells_in_bus(bus: &BusConfig) -> u16
 }
 
 /// The configuration of the bus's one node.
-fn node_config(bus: &BusConfig) -> &NodeConfig
+pub(crate) fn node_config(bus: &BusConfig) -> &NodeConfig
     requires { length bus.now.nodes ≡ 1 }
     ensures config { result.now ≡ config_in_bus bus.now }
     ensures good { IsConfig result.now }
@@ -146,7 +148,7 @@ fn kept_as<D: Disk>(
         Seen::Unused | Seen::Standing => (disk, Ok(())),
         Seen::Older => look_at_older(alloc, bus, disk),
         Seen::Other(there) => (disk, Err(KeepFault::OtherStore(there))),
-        Seen::Neither => (disk, Err(KeepFault::NotFormatted)),
+        Seen::Neither => look_at_unfinished(alloc, bus, disk),
     }
 }
 

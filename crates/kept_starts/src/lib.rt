@@ -11,7 +11,8 @@
 mod first;
 mod laws;
 mod refusals;
+mod unfinished;
 
 pub use first::{KeepFault, look_first};
-pub use laws::starts_keep_stores;
+pub use laws::{a_first_start_that_is_cut_short_is_finished_next, starts_keep_stores};
 pub use refusals::keep_refusal;

@@ -27,7 +27,7 @@ pub record KeyFileInputs : Type 0 where
 
 -- the line that is printed if the arguments are malformed
 abbrev pub keyfile_usage : List ℕ
-keyfile_usage = line (codes "usage: station key make, read, confirm, bootmac")
+keyfile_usage = line (codes "usage: station key make, read, confirm, bootmac, derive")
 
 -- ---- files
 

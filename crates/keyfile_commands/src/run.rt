@@ -25,7 +25,7 @@ use key_commands::run_key;
 use program_edge::{DONE, Refusal, tell, tell_refusal};
 use std::alloc::{AllocError, Global};
 
-const USAGE: &str = "usage: station key make, read, confirm, bootmac\n";
+const USAGE: &str = "usage: station key make, read, confirm, bootmac, derive\n";
 
 /// Runs what the arguments ask for, the program's name and `key` left out, and gives the status that the program ends
 /// with. `first` is the file of the new key, of the boot MAC key, or of the authorising key of `read`; `second` that of

@@ -1,17 +1,24 @@
 -- The greatest counter of a unit and slot, and a row that is added
-use Rattle.std.proofs.Common.{◌≡◌, ◌∙◌, ℕ, ◌≤◌, Bool, true, false, cond, Option, None, Some, List, [], ◌∷◌, length, map, filter, All, Any, refl, ap, arith}
+use Rattle.std.proofs.Common.{◌≡◌, ◌∙◌, ℕ, ◌<◌, ◌≤◌, ◌&&◌, not, Bool, true, false, cond, Option, None, Some, List, [], ◌∷◌, length, map, filter, All, Any, refl, sym, ap, subst, arith}
 use Rattle.std.specs.List.{AllByRecursion}
 use Rattle.std.specs.List.Sorted.{IsPermutation}
 use Rattle.std.proofs.Math.Nat.{le_refl, le-max_left, le-max_right, max-le}
-use Rattle.std.proofs.lemmas.List.Elements.{All-from_recursion, recursion_from_All}
-use Rattle.std.proofs.lemmas.List.Sorted.{All-permutation, Contains-permutation, IsPermutation-sym, length_permutation}
+use Rattle.std.proofs.lemmas.List.Elements.{All-from_recursion, recursion_from_All, filter_agree}
+use Rattle.std.proofs.lemmas.List.Sorted.{All-permutation, Contains-permutation, IsPermutation-sym, IsPermutation-trans, length_permutation, list_any-IsPermutation}
 use Rattle.key_campaign.specs.declared.commands.Confirm.{Confirm}
 use Rattle.key_campaign.specs.declared.lines.LedgerRefusal.{LedgerRefusal}
 use Rattle.key_campaign.specs.declared.lines.LedgerRefusal.TheVariants as refusal
 use Rattle.ledger_rows.specs.declared.kinds.RowKind.TheVariants.{Issued, Confirmed}
 use Rattle.ledger_rows.specs.declared.kinds.SlotRow.{SlotRow}
+use Rattle.ledger_rows.specs.declared.remarks.RemarkKind.{RemarkKind}
+use Rattle.ledger_rows.specs.declared.remarks.RemarkKind.TheVariants.{Raise, Fail}
+use Rattle.ledger_rows.specs.declared.remarks.RemarkRefusal.{RemarkRefusal}
+use Rattle.ledger_rows.specs.declared.remarks.RemarkRefusal.TheVariants as unsaid
+use Rattle.ledger_rows.specs.declared.lists.ListKind.{ListKind}
+use Rattle.ledger_rows.specs.declared.lists.ListKind.TheVariants.{History, Open}
+use Rattle.ledger_rows.specs.Lists.{says_issued, confirms_counter, is_unconfirmed, ListsRows}
 use Rattle.ledger_rows.specs.Rows.{LedgerRow, is_row_of, slot_row, greatest_in, last_counter}
-use Rattle.ledger_rows.specs.Steps.{AddsRow, AnswersRow, HasConfirmed, RefusesAnswer, IsShown}
+use Rattle.ledger_rows.specs.Steps.{AddsRow, AnswersRow, HasConfirmed, RefusesAnswer, HasIssued, MayRemark, RefusesRemark, IsShown}
 
 -- the greatest counter of the rows, with one before them if b holds
 abbrev greatest_if : Bool → LedgerRow → List LedgerRow → ℕ
@@ -104,6 +111,24 @@ refuses_permuted k xs ys same refusal.NotFormatted h = absurd h
 refuses_permuted k xs ys same (refusal.Damaged cell) h = absurd h
 refuses_permuted k xs ys same (refusal.BadEntry cell) h = absurd h
 
+-- ---- what an operator says
+
+issued_permuted : (counter : ℕ) (xs ys : List SlotRow) → IsPermutation xs ys → HasIssued counter xs → HasIssued counter ys
+issued_permuted counter xs ys same h = any_permuted (λ (row : SlotRow). (row.kind ≡ Issued) × (row.counter ≡ counter)) xs ys same h
+
+pub remark_permuted : (kind : RemarkKind) (counter : ℕ) (xs ys : List SlotRow) → IsPermutation xs ys → MayRemark kind counter xs → MayRemark kind counter ys
+remark_permuted Raise counter xs ys same h = subst (λ n. n < counter) (greatest_permuted xs ys same) h
+remark_permuted Fail counter xs ys same h = (issued_permuted counter xs ys same h.0, unconfirmed_permuted counter xs ys same h.1)
+
+pub refuses_remark_permuted : (kind : RemarkKind) (counter : ℕ) (xs ys : List SlotRow) → IsPermutation xs ys → (why : RemarkRefusal) → RefusesRemark kind counter xs why → RefusesRemark kind counter ys why
+refuses_remark_permuted Raise counter xs ys same (unsaid.Behind last) h = (h.0 ∙ greatest_permuted xs ys same, h.1)
+refuses_remark_permuted Raise counter xs ys same unsaid.Unknown h = absurd h
+refuses_remark_permuted Raise counter xs ys same unsaid.AlreadyConfirmed h = absurd h
+refuses_remark_permuted Fail counter xs ys same (unsaid.Behind last) h = absurd h
+refuses_remark_permuted Fail counter xs ys same unsaid.Unknown h = λ has. h (issued_permuted counter ys xs (IsPermutation-sym xs ys same) has)
+refuses_remark_permuted Fail counter xs ys same unsaid.AlreadyConfirmed h =
+    (issued_permuted counter xs ys same h.0, any_permuted (λ (row : SlotRow). (row.kind ≡ Confirmed) × (row.counter ≡ counter)) xs ys same h.1)
+
 -- ---- what is shown
 
 no_rows : (xs ys : List SlotRow) → IsPermutation xs ys → xs ≡ [] → ys ≡ []
@@ -118,3 +143,14 @@ shown_permuted xs ys same (Some (counter, confirmed)) h =
       h.1 ∙ greatest_permuted xs ys same,
       (λ yes. any_permuted P xs ys same (h.2.0 yes), λ has. h.2.1 (any_permuted P ys xs (IsPermutation-sym xs ys same) has)),
     )
+
+-- ---- what is listed
+
+pub lists_permuted : (kind : ListKind) (xs ys listed : List SlotRow) → IsPermutation xs ys → ListsRows kind ys listed → ListsRows kind xs listed
+lists_permuted History xs ys listed same h = IsPermutation-trans xs ys listed same h
+lists_permuted Open xs ys listed same (order, mixed, is) = (
+  order,
+  IsPermutation-trans xs ys order same mixed,
+  is ∙ filter_agree (is_unconfirmed ys) (is_unconfirmed xs)
+      (λ row. ap (λ b. says_issued row.kind && not b) (sym (list_any-IsPermutation (confirms_counter row.counter) xs ys same))) order,
+)

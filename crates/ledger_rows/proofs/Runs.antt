@@ -13,10 +13,12 @@ use Rattle.std.proofs.lemmas.Slice.Eq.{bytes_eq-Decides}
 use Rattle.machine_runs.specs.Run.{Run}
 use Rattle.key_campaign.specs.Entries.{same_slot}
 use Rattle.key_campaign.specs.Steps.{ConfirmsWith}
-use Rattle.ledger_rows.specs.declared.kinds.RowKind.TheVariants.{Issued, Confirmed}
-use Rattle.ledger_rows.specs.Rows.{LedgerRow, last_counter}
-use Rattle.ledger_rows.specs.Steps.{AddsRow, IssuesRow, issued_row, confirmed_row}
-use Rattle.ledger_rows.specs.Files.{RowCommand, IssueBy, ConfirmBy, AddsBy, FileStep, FileMoment, answered_for, AnsweredCountersRise, StillHasRows, NoRowGoes, CarriesAnswer}
+use Rattle.ledger_rows.specs.declared.kinds.RowKind.TheVariants.{Issued, Confirmed, Failed, Raised}
+use Rattle.ledger_rows.specs.declared.remarks.RemarkKind.{RemarkKind}
+use Rattle.ledger_rows.specs.declared.remarks.RemarkKind.TheVariants.{Raise, Fail}
+use Rattle.ledger_rows.specs.Rows.{LedgerRow, slot_rows, last_counter}
+use Rattle.ledger_rows.specs.Steps.{AddsRow, IssuesRow, RemarksRow, MayRemark, issued_row, confirmed_row, remarked_kind, remarked_row}
+use Rattle.ledger_rows.specs.Files.{RowCommand, IssueBy, ConfirmBy, RemarkBy, AddsBy, FileStep, FileMoment, raised_by, answered_for, AnsweredCountersRise, StillHasRows, NoRowGoes, CarriesAnswer}
 use Rattle.ledger_rows.proofs.Counters.{added}
 
 -- ---- a step adds at most a row
@@ -24,6 +26,7 @@ use Rattle.ledger_rows.proofs.Counters.{added}
 adds_row : (old : List LedgerRow) (command : RowCommand) (counter : ℕ) (new : List LedgerRow) → AddsBy old command counter new → (row : LedgerRow) × AddsRow row old new
 adds_row old (IssueBy i origin) counter new h = (issued_row i origin counter, h.adds)
 adds_row old (ConfirmBy k origin) counter new h = (confirmed_row k origin counter, h.adds)
+adds_row old (RemarkBy r origin) counter new h = (remarked_row r origin, h.adds)
 
 abbrev Grows : List LedgerRow → List LedgerRow → Type 0
 Grows old new = (new ≡ old) ⊎ ((row : LedgerRow) × AddsRow row old new)
@@ -51,15 +54,30 @@ chosen : (b : Bool) (answer : Option ℕ) (counter : ℕ) → cond b answer None
 chosen true answer counter e = (refl, e)
 chosen false answer counter e = absurd (none-some counter e)
 
+of_raise : (kind : RemarkKind) (answer : Option ℕ) (counter : ℕ) → raised_by kind answer ≡ Some counter → (kind ≡ Raise) × (answer ≡ Some counter)
+of_raise Raise answer counter e = (refl, e)
+of_raise Fail answer counter e = absurd (none-some counter e)
+
 answered_now : (old : List LedgerRow) (command : RowCommand) (answer : Option ℕ) (new : List LedgerRow) (uid : List ℕ) (id counter : ℕ)
-    → FileStep old command answer new → answered_for uid id command answer ≡ Some counter → (counter ≡ last_counter uid id old + 1) × (counter ≤ last_counter uid id new)
+    → FileStep old command answer new → answered_for uid id command answer ≡ Some counter → (last_counter uid id old < counter) × (counter ≤ last_counter uid id new)
 answered_now old (IssueBy i origin) answer new uid id counter step e =
     let chose = chosen (same_slot uid id i.uid i.id) answer counter e in
     let is = slot_is uid id i.uid i.id chose.0 in
     let h : IssuesRow i origin counter old new = subst (λ a. FileStep old (IssueBy i origin) a new) chose.1 step in
     let up = added (issued_row i origin counter) old new h.adds i.uid i.id in
-    subst₂ (λ u j. (counter ≡ last_counter u j old + 1) × (counter ≤ last_counter u j new)) is.0 is.1 (h.next, up.0 (slot_itself i.uid i.id))
+    let next : counter ≡ last_counter i.uid i.id old + 1 = h.next in
+    subst₂ (λ u j. (last_counter u j old < counter) × (counter ≤ last_counter u j new)) is.0 is.1 (omega (arith, next), up.0 (slot_itself i.uid i.id))
 answered_now old (ConfirmBy k origin) answer new uid id counter step e = absurd (none-some counter e)
+answered_now old (RemarkBy r origin) answer new uid id counter step e =
+    let chose = chosen (same_slot uid id r.uid r.id) (raised_by r.kind answer) counter e in
+    let is = slot_is uid id r.uid r.id chose.0 in
+    let raise = of_raise r.kind answer counter chose.1 in
+    let h : RemarksRow r origin counter old new = subst (λ a. FileStep old (RemarkBy r origin) a new) raise.1 step in
+    let up = added (remarked_row r origin) old new h.adds r.uid r.id in
+    let above : last_counter r.uid r.id old < r.counter = subst (λ kind. MayRemark kind r.counter (slot_rows r.uid r.id old)) raise.0 h.may in
+    let there : r.counter ≤ last_counter r.uid r.id new = up.0 (slot_itself r.uid r.id) in
+    let same = h.is in
+    subst₂ (λ u j. (last_counter u j old < counter) × (counter ≤ last_counter u j new)) is.0 is.1 (omega (arith, above, same), omega (arith, there, same))
 
 abbrev Answers : List ℕ → ℕ → FileMoment → ℕ → Type 0
 Answers uid id m counter = answered_for uid id m.command m.line ≡ Some counter
@@ -112,10 +130,15 @@ first_or_behind : (first row : LedgerRow) (rows : List LedgerRow) → Contains (
 first_or_behind first row rows (zero, inside, is) = inl is
 first_or_behind first row rows (suc k, inside, is) = inr (k, omega (arith, inside), is)
 
+no_confirmation : (kind : RemarkKind) → remarked_kind kind ≡ Confirmed → ⊥
+no_confirmation Raise e = let f : Raised ≡ Confirmed = e in cc
+no_confirmation Fail e = let f : Failed ≡ Confirmed = e in cc
+
 carries : (old : List LedgerRow) (command : RowCommand) (counter : ℕ) (new : List LedgerRow) (h : AddsBy old command counter new) (row : LedgerRow)
     → (adds_row old command counter new h).0 ≡ row → row.kind ≡ Confirmed → CarriesAnswer row command
 unfolding adds_row
 carries old (IssueBy i origin) counter new h row is confirmed = absurd (let e : Issued ≡ Confirmed = ap (λ (r : LedgerRow). r.kind) is ∙ confirmed in cc)
+carries old (RemarkBy r origin) counter new h row is confirmed = absurd (no_confirmation r.kind (ap (λ (it : LedgerRow). it.kind) is ∙ confirmed))
 carries old (ConfirmBy k origin) counter new h row is confirmed =
     let found = h.answers in (
       sym (ap (λ (r : LedgerRow). r.uid) is),

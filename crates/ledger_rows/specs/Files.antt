@@ -6,19 +6,24 @@ use Rattle.key_campaign.specs.Entries.{same_slot}
 use Rattle.key_campaign.specs.Steps.{ConfirmsWith}
 use Rattle.machine_runs.specs.Run.{Moment, Run}
 use Rattle.ledger_rows.specs.declared.kinds.RowKind.TheVariants.{Confirmed}
+use Rattle.ledger_rows.specs.declared.remarks.Remark.{Remark}
+use Rattle.ledger_rows.specs.declared.remarks.RemarkKind.{RemarkKind}
+use Rattle.ledger_rows.specs.declared.remarks.RemarkKind.TheVariants.{Raise, Fail}
 use Rattle.ledger_rows.specs.Check.{key_check}
 use Rattle.ledger_rows.specs.Rows.{RowOrigin, LedgerRow}
-use Rattle.ledger_rows.specs.Steps.{IssuesRow, ConfirmsRow}
+use Rattle.ledger_rows.specs.Steps.{IssuesRow, ConfirmsRow, RemarksRow}
 
 -- a command that may add a row, with who asked for it
 pub data RowCommand : Type 0 where
   IssueBy : Issue → RowOrigin → RowCommand
   ConfirmBy : Confirm → RowOrigin → RowCommand
+  RemarkBy : Remark → RowOrigin → RowCommand
 
 -- the command adds a row with this counter
 abbrev pub AddsBy : List LedgerRow → RowCommand → ℕ → List LedgerRow → Type 0
 AddsBy old (IssueBy i origin) counter new = IssuesRow i origin counter old new
 AddsBy old (ConfirmBy k origin) counter new = ConfirmsRow k origin counter old new
+AddsBy old (RemarkBy r origin) counter new = RemarksRow r origin counter old new
 
 -- The answer is a counter, and its row was added. Without one, the command was refused, or it failed, or a crash cut it
 -- short: then no row was added, or that of some counter.
@@ -35,10 +40,16 @@ abbrev pub EachFile : (List LedgerRow → List FileMoment → List LedgerRow →
 EachFile Claim = (start : List LedgerRow) (ms : List FileMoment) (last : List LedgerRow) → Run FileStep start ms last
     → Claim start ms last
 
--- the counter that was answered to an issue for this unit and slot, if one was
+-- the counter that a remark begins to use: that of a raise
+abbrev pub raised_by : RemarkKind → Option ℕ → Option ℕ
+raised_by Raise answer = answer
+raised_by Fail answer = None
+
+-- the counter that was issued or raised for this unit and slot, if one was answered
 abbrev pub answered_for : List ℕ → ℕ → RowCommand → Option ℕ → Option ℕ
 answered_for uid id (IssueBy i origin) answer = if same_slot uid id i.uid i.id then answer else None
 answered_for uid id (ConfirmBy k origin) answer = None
+answered_for uid id (RemarkBy r origin) answer = if same_slot uid id r.uid r.id then raised_by r.kind answer else None
 
 -- of two counters that were answered for one unit and slot the later is greater
 abbrev pub AnsweredCountersRise : List FileMoment → Type 0
@@ -57,6 +68,7 @@ NoRowGoes start ms last = StillHasRows start last × All (λ m. StillHasRows m.a
 -- the command confirms this row, with a reply that confirms the update with its counter, and the key of its check value
 abbrev pub CarriesAnswer : LedgerRow → RowCommand → Type 0
 CarriesAnswer row (IssueBy i origin) = ⊥
+CarriesAnswer row (RemarkBy r origin) = ⊥
 CarriesAnswer row (ConfirmBy k origin) =
     (row.uid ≡ k.uid) × (row.id ≡ k.id) × (row.check ≡ key_check k.key) × ConfirmsWith k row.counter
 

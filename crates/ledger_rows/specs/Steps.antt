@@ -1,6 +1,6 @@
 -- What a command adds to the rows of a ledger (own; updates, their pairs of slots and their replies are those of the
 -- SHE specification)
-use Rattle.std.specs.Prelude.{◌≡◌, ◌≢◌, ◌↔◌, ℕ, ◌+◌, ◌≤◌, Bool, true, false, Option, None, Some, List, [], ◌∷◌, All, Any}
+use Rattle.std.specs.Prelude.{◌≡◌, ◌≢◌, ◌↔◌, ℕ, ◌+◌, ◌<◌, ◌≤◌, Bool, true, false, Option, None, Some, List, [], ◌∷◌, replicate, All, Any}
 use Rattle.std.specs.List.Sorted.{IsPermutation}
 use Rattle.key_slots.specs.Authority.{is_pair}
 use Rattle.key_campaign.specs.declared.commands.Issue.{Issue}
@@ -9,8 +9,14 @@ use Rattle.key_campaign.specs.declared.lines.LedgerRefusal.{LedgerRefusal}
 use Rattle.key_campaign.specs.declared.lines.LedgerRefusal.TheVariants as refusal
 use Rattle.key_campaign.specs.Entries.{greatest_counter}
 use Rattle.key_campaign.specs.Steps.{ConfirmsWith}
-use Rattle.ledger_rows.specs.declared.kinds.RowKind.TheVariants.{Issued, Confirmed}
+use Rattle.ledger_rows.specs.declared.kinds.RowKind.{RowKind}
+use Rattle.ledger_rows.specs.declared.kinds.RowKind.TheVariants.{Issued, Confirmed, Failed, Raised}
 use Rattle.ledger_rows.specs.declared.kinds.SlotRow.{SlotRow}
+use Rattle.ledger_rows.specs.declared.remarks.Remark.{Remark}
+use Rattle.ledger_rows.specs.declared.remarks.RemarkKind.{RemarkKind}
+use Rattle.ledger_rows.specs.declared.remarks.RemarkKind.TheVariants.{Raise, Fail}
+use Rattle.ledger_rows.specs.declared.remarks.RemarkRefusal.{RemarkRefusal}
+use Rattle.ledger_rows.specs.declared.remarks.RemarkRefusal.TheVariants as unsaid
 use Rattle.ledger_rows.specs.Check.{key_check}
 use Rattle.ledger_rows.specs.Rows.{RowOrigin, LedgerRow, slot_rows, greatest_in, last_counter}
 
@@ -81,6 +87,47 @@ RefusesAnswer rows k refusal.NotConfirmed =
     Any (λ row. row.kind ≡ Issued) rows × All (λ row. ¬ AnswersRow k row) rows
 RefusesAnswer rows k refusal.AlreadyConfirmed = Any (λ row. AnswersRow k row × HasConfirmed row.counter rows) rows
 RefusesAnswer rows k _ = ⊥
+
+-- ---- what an operator says of a counter
+
+-- a request with this counter was issued
+abbrev pub HasIssued : ℕ → List SlotRow → Type 0
+HasIssued counter rows = Any (λ row. (row.kind ≡ Issued) × (row.counter ≡ counter)) rows
+
+-- a raised counter is above the last one; a load that failed was issued, and wasn't confirmed
+abbrev pub MayRemark : RemarkKind → ℕ → List SlotRow → Type 0
+MayRemark Raise counter rows = greatest_in rows < counter
+MayRemark Fail counter rows = HasIssued counter rows × (¬ HasConfirmed counter rows)
+
+-- the refusals of a remark: the last counter if the raised one isn't above it; and nothing with the counter was issued,
+-- or it was confirmed
+abbrev pub RefusesRemark : RemarkKind → ℕ → List SlotRow → RemarkRefusal → Type 0
+RefusesRemark Raise counter rows (unsaid.Behind last) = (last ≡ greatest_in rows) × (counter ≤ last)
+RefusesRemark Fail counter rows unsaid.Unknown = ¬ HasIssued counter rows
+RefusesRemark Fail counter rows unsaid.AlreadyConfirmed = HasIssued counter rows × HasConfirmed counter rows
+RefusesRemark _ counter rows _ = ⊥
+
+abbrev pub remarked_kind : RemarkKind → RowKind
+remarked_kind Raise = Raised
+remarked_kind Fail = Failed
+
+-- a row without a key: its check value is zeros, and its authorising slot the slot itself
+abbrev pub remarked_row : Remark → RowOrigin → LedgerRow
+remarked_row r origin = record {
+  uid = r.uid;
+  id = r.id;
+  counter = r.counter;
+  kind = remarked_kind r.kind;
+  check = replicate 3 0;
+  auth = r.id;
+  origin = origin;
+}
+
+-- a row with this counter is added
+pub record RemarksRow (r : Remark) (origin : RowOrigin) (counter : ℕ) (old new : List LedgerRow) : Type 0 where
+  pub is : counter ≡ r.counter
+  pub may : MayRemark r.kind r.counter (slot_rows r.uid r.id old)
+  pub adds : AddsRow (remarked_row r origin) old new
 
 -- ---- a look
 

@@ -14,7 +14,7 @@ use key_slots::{Counter28, Flags};
 use memory_update::{Update, is_confirmed};
 
 /// The greatest counter of the rows, 0 if there is none.
-fn greatest(rows: &[SlotRow]) -> u32
+pub(crate) fn greatest(rows: &[SlotRow]) -> u32
     ensures value { result ≡ greatest_in rows.now }
     ensures fits { result < 2 ^ 28 }
 {
@@ -45,7 +45,7 @@ fn has_issued(rows: &[SlotRow]) -> bool
 }
 
 /// Whether the update with this counter was confirmed.
-fn has_confirmed(rows: &[SlotRow], counter: Counter28) -> bool
+pub(crate) fn has_confirmed(rows: &[SlotRow], counter: Counter28) -> bool
     ensures { IsTrue result ↔ HasConfirmed counter rows.now }
 {
     rows.iter().any(|row| row.kind == RowKind::Confirmed && row.counter == counter)

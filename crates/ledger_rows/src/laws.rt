@@ -1,7 +1,8 @@
 //! Laws of all runs of a ledger's file. Each function has an empty body, and its contract is the law.
 ghost use Rattle.ledger_rows.specs.Files.{FilesCountersRise, FilesKeepRows, FilesConfirmByAnswer};
 
-/// The counters that are answered for one unit and slot strictly rise, over all runs and whatever crashes leave.
+/// The counters that are issued or raised for one unit and slot strictly rise, over all runs and whatever crashes
+/// leave.
 pub fn answered_counters_rise()
     ensures { FilesCountersRise }
 {}

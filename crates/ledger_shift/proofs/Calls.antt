@@ -5,18 +5,20 @@ use Rattle.machine_runs.proofs.CallerLemmas.{Run-append}
 use Rattle.program_edge.specs.Told.{AppendedWell}
 use Rattle.key_campaign.specs.declared.commands.Issue.{Issue}
 use Rattle.key_campaign.specs.declared.commands.Confirm.{Confirm}
-use Rattle.key_campaign.specs.declared.lines.LedgerLine.{LedgerLine}
-use Rattle.key_campaign.specs.declared.lines.LedgerLine.TheVariants as line
 use Rattle.line_stream.specs.Pieces.{in_64_bits}
 use Rattle.line_stream.specs.Streams.{TakesLines, kept_of}
-use Rattle.campaign_commands.specs.LedgerTexts.{ledger_line_text}
 use Rattle.sqlite_trees.specs.declared.store.Store.{Ghosts}
 use Rattle.sqlite.specs.State.{HasCleanDisk}
 use Rattle.sqlite.specs.Effect.{Database}
-use Rattle.ledger_rows.specs.Files.{FileMoment, FileStep, FilesCountersRise, IssueBy, ConfirmBy}
+use Rattle.ledger_rows.specs.declared.lists.ListKind.{ListKind}
+use Rattle.ledger_rows.specs.declared.remarks.Remark.{Remark}
+use Rattle.ledger_rows.specs.Files.{FileMoment, FileStep, FilesCountersRise, IssueBy, ConfirmBy, RemarkBy}
 use Rattle.ledger_tables.specs.Held.{ledger_of}
 use Rattle.ledger_shift.specs.declared.line.ShiftLine.{ShiftLine}
 use Rattle.ledger_shift.specs.declared.line.ShiftLine.TheVariants as ask
+use Rattle.ledger_shift.specs.declared.told.ShiftTold.{ShiftTold}
+use Rattle.ledger_shift.specs.declared.told.ShiftTold.TheVariants as told
+use Rattle.ledger_shift.specs.Told.{shift_answer_text}
 use Rattle.ledger_shift.specs.Answers.{AnswersAsk}
 use Rattle.ledger_shift.specs.Shifts.{ShiftAt, conn_of, printed_line_number, ServesCommand, ServesNamed, ServesAsk, TakesShiftLine}
 use Rattle.ledger_shift.specs.Laws.{counter_told, rows_of, IsCallOf, AreCallsOf, ShiftsAreRuns}
@@ -32,42 +34,66 @@ module _ {S : Type 0} (g : Ghosts S) where
   none_of : (before after : ShiftAt S) (number : ℕ) → rows_of g after ≡ rows_of g before → Calls before number after
   none_of before after number same = ([], same, same)
 
-  one_of : (before after : ShiftAt S) (number : ℕ) (m : FileMoment) (told : LedgerLine) → m.line ≡ counter_told told → m.after ≡ rows_of g after
-      → FileStep (rows_of g before) m.command m.line m.after → AppendedWell before.sink after.sink (ledger_line_text (printed_line_number number) told) → Calls before number after
-  one_of before after number m told line_is after_is step wrote = (m ∷ [], (told, line_is, after_is, step, wrote), (step, sym after_is))
+  one_of : (before after : ShiftAt S) (number : ℕ) (m : FileMoment) (it : ShiftTold) → m.line ≡ counter_told it → m.after ≡ rows_of g after
+      → FileStep (rows_of g before) m.command m.line m.after → AppendedWell before.sink after.sink (shift_answer_text (printed_line_number number) it) → Calls before number after
+  one_of before after number m it line_is after_is step wrote = (m ∷ [], (it, line_is, after_is, step, wrote), (step, sym after_is))
 
   pub same_rows : (before after : ShiftAt S) → (conn_of g after).now ≡ (conn_of g before).now → rows_of g after ≡ rows_of g before
   same_rows before after same = ap (λ (d : Database). ledger_of (d.trees 0)) same
 
-  issue_calls : (before after : ShiftAt S) (number : ℕ) (i : Issue) (told : LedgerLine) → AnswersAsk before.origin (conn_of g before) (conn_of g after) (ask.Issue i) told
-      → AppendedWell before.sink after.sink (ledger_line_text (printed_line_number number) told) → Calls before number after
-  issue_calls before after number i (line.Issued counter request) does wrote =
-      one_of before after number (record { command = IssueBy i before.origin; line = Some counter; after = rows_of g after }) (line.Issued counter request) refl refl does.0 wrote
-  issue_calls before after number i (line.Refused why) does wrote =
-      one_of before after number (record { command = IssueBy i before.origin; line = None; after = rows_of g after }) (line.Refused why) refl refl (inl (same_rows before after does.1)) wrote
-  issue_calls before after number i (line.Confirmed counter) does wrote = absurd does
-  issue_calls before after number i (line.Shown told) does wrote = absurd does
-  issue_calls before after number i line.Up does wrote = absurd does
-  issue_calls before after number i line.Armed does wrote = absurd does
+  issue_calls : (before after : ShiftAt S) (number : ℕ) (i : Issue) (it : ShiftTold) → AnswersAsk before.origin (conn_of g before) (conn_of g after) (ask.Issue i) it
+      → AppendedWell before.sink after.sink (shift_answer_text (printed_line_number number) it) → Calls before number after
+  issue_calls before after number i (told.Issued counter request) does wrote =
+      one_of before after number (record { command = IssueBy i before.origin; line = Some counter; after = rows_of g after }) (told.Issued counter request) refl refl does.0 wrote
+  issue_calls before after number i (told.Refused why) does wrote =
+      one_of before after number (record { command = IssueBy i before.origin; line = None; after = rows_of g after }) (told.Refused why) refl refl (inl (same_rows before after does.1)) wrote
+  issue_calls before after number i (told.Confirmed counter) does wrote = absurd does
+  issue_calls before after number i (told.Shown it) does wrote = absurd does
+  issue_calls before after number i (told.Remarked kind counter) does wrote = absurd does
+  issue_calls before after number i (told.Unremarked why) does wrote = absurd does
+  issue_calls before after number i (told.Listed rows) does wrote = absurd does
 
-  confirm_calls : (before after : ShiftAt S) (number : ℕ) (k : Confirm) (told : LedgerLine) → AnswersAsk before.origin (conn_of g before) (conn_of g after) (ask.Confirm k) told
-      → AppendedWell before.sink after.sink (ledger_line_text (printed_line_number number) told) → Calls before number after
-  confirm_calls before after number k (line.Confirmed counter) does wrote =
-      one_of before after number (record { command = ConfirmBy k before.origin; line = Some counter; after = rows_of g after }) (line.Confirmed counter) refl refl does.0 wrote
-  confirm_calls before after number k (line.Refused why) does wrote =
-      one_of before after number (record { command = ConfirmBy k before.origin; line = None; after = rows_of g after }) (line.Refused why) refl refl (inl (same_rows before after does.1)) wrote
-  confirm_calls before after number k (line.Issued counter request) does wrote = absurd does
-  confirm_calls before after number k (line.Shown told) does wrote = absurd does
-  confirm_calls before after number k line.Up does wrote = absurd does
-  confirm_calls before after number k line.Armed does wrote = absurd does
+  confirm_calls : (before after : ShiftAt S) (number : ℕ) (k : Confirm) (it : ShiftTold) → AnswersAsk before.origin (conn_of g before) (conn_of g after) (ask.Confirm k) it
+      → AppendedWell before.sink after.sink (shift_answer_text (printed_line_number number) it) → Calls before number after
+  confirm_calls before after number k (told.Confirmed counter) does wrote =
+      one_of before after number (record { command = ConfirmBy k before.origin; line = Some counter; after = rows_of g after }) (told.Confirmed counter) refl refl does.0 wrote
+  confirm_calls before after number k (told.Refused why) does wrote =
+      one_of before after number (record { command = ConfirmBy k before.origin; line = None; after = rows_of g after }) (told.Refused why) refl refl (inl (same_rows before after does.1)) wrote
+  confirm_calls before after number k (told.Issued counter request) does wrote = absurd does
+  confirm_calls before after number k (told.Shown it) does wrote = absurd does
+  confirm_calls before after number k (told.Remarked kind counter) does wrote = absurd does
+  confirm_calls before after number k (told.Unremarked why) does wrote = absurd does
+  confirm_calls before after number k (told.Listed rows) does wrote = absurd does
 
-  show_calls : (before after : ShiftAt S) (number : ℕ) (uid : List ℕ) (id : ℕ) (told : LedgerLine) → AnswersAsk before.origin (conn_of g before) (conn_of g after) (ask.Show uid id) told → Calls before number after
-  show_calls before after number uid id (line.Shown told) does = none_of before after number (same_rows before after does.1)
-  show_calls before after number uid id (line.Issued counter request) does = absurd does
-  show_calls before after number uid id (line.Confirmed counter) does = absurd does
-  show_calls before after number uid id line.Up does = absurd does
-  show_calls before after number uid id line.Armed does = absurd does
-  show_calls before after number uid id (line.Refused why) does = absurd does
+  remark_calls : (before after : ShiftAt S) (number : ℕ) (r : Remark) (it : ShiftTold) → AnswersAsk before.origin (conn_of g before) (conn_of g after) (ask.Remark r) it
+      → AppendedWell before.sink after.sink (shift_answer_text (printed_line_number number) it) → Calls before number after
+  remark_calls before after number r (told.Remarked kind counter) does wrote =
+      one_of before after number (record { command = RemarkBy r before.origin; line = Some counter; after = rows_of g after }) (told.Remarked kind counter) refl refl does.1 wrote
+  remark_calls before after number r (told.Unremarked why) does wrote =
+      one_of before after number (record { command = RemarkBy r before.origin; line = None; after = rows_of g after }) (told.Unremarked why) refl refl (inl (same_rows before after does.1)) wrote
+  remark_calls before after number r (told.Issued counter request) does wrote = absurd does
+  remark_calls before after number r (told.Confirmed counter) does wrote = absurd does
+  remark_calls before after number r (told.Shown it) does wrote = absurd does
+  remark_calls before after number r (told.Refused why) does wrote = absurd does
+  remark_calls before after number r (told.Listed rows) does wrote = absurd does
+
+  show_calls : (before after : ShiftAt S) (number : ℕ) (uid : List ℕ) (id : ℕ) (it : ShiftTold) → AnswersAsk before.origin (conn_of g before) (conn_of g after) (ask.Show uid id) it → Calls before number after
+  show_calls before after number uid id (told.Shown it) does = none_of before after number (same_rows before after does.1)
+  show_calls before after number uid id (told.Issued counter request) does = absurd does
+  show_calls before after number uid id (told.Confirmed counter) does = absurd does
+  show_calls before after number uid id (told.Remarked kind counter) does = absurd does
+  show_calls before after number uid id (told.Unremarked why) does = absurd does
+  show_calls before after number uid id (told.Refused why) does = absurd does
+  show_calls before after number uid id (told.Listed rows) does = absurd does
+
+  list_calls : (before after : ShiftAt S) (number : ℕ) (kind : ListKind) (uid : List ℕ) (id : ℕ) (it : ShiftTold) → AnswersAsk before.origin (conn_of g before) (conn_of g after) (ask.List kind uid id) it → Calls before number after
+  list_calls before after number kind uid id (told.Listed rows) does = none_of before after number (same_rows before after does.1)
+  list_calls before after number kind uid id (told.Issued counter request) does = absurd does
+  list_calls before after number kind uid id (told.Confirmed counter) does = absurd does
+  list_calls before after number kind uid id (told.Shown it) does = absurd does
+  list_calls before after number kind uid id (told.Refused why) does = absurd does
+  list_calls before after number kind uid id (told.Remarked said counter) does = absurd does
+  list_calls before after number kind uid id (told.Unremarked why) does = absurd does
 
   abbrev pub Earlier : ShiftAt S → ℕ → ShiftAt S → Type 0
   Earlier before number after = IsClean before × Calls before number after
@@ -96,6 +122,21 @@ module _ {S : Type 0} (g : Ghosts S) where
           | inr failed ↦ absurd failed
         ],
       )
+  by_asked before after number (ask.Remark r) named clean =
+      let serves = was_named before.noted.is_named before after (printed_line_number number) (ask.Remark r) named in (
+        omega (arith, serves.survives.clean),
+        elim serves.ends [
+          | inl answered ↦ remark_calls before after number r answered.0 (answered.1 clean) answered.3
+          | inr failed ↦ absurd failed
+        ],
+      )
+  by_asked before after number (ask.List kind uid id) serves clean = (
+    omega (arith, serves.survives.clean),
+    elim serves.ends [
+      | inl answered ↦ list_calls before after number kind uid id answered.0 (answered.1 clean)
+      | inr failed ↦ absurd failed
+    ],
+  )
   by_asked before after number (ask.Show uid id) serves clean = (
     omega (arith, serves.survives.clean),
     elim serves.ends [

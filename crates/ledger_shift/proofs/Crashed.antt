@@ -5,18 +5,20 @@ use Rattle.machine_runs.proofs.CallerLemmas.{Run-append}
 use Rattle.program_edge.specs.Told.{AppendedWell}
 use Rattle.key_campaign.specs.declared.commands.Issue.{Issue}
 use Rattle.key_campaign.specs.declared.commands.Confirm.{Confirm}
-use Rattle.key_campaign.specs.declared.lines.LedgerLine.{LedgerLine}
-use Rattle.key_campaign.specs.declared.lines.LedgerLine.TheVariants as line
 use Rattle.line_stream.specs.Pieces.{in_64_bits}
 use Rattle.line_stream.specs.Streams.{TakesLines, kept_of}
-use Rattle.campaign_commands.specs.LedgerTexts.{ledger_line_text}
 use Rattle.sqlite_trees.specs.Tree.{Trees}
 use Rattle.sqlite_trees.specs.declared.store.Store.{Ghosts}
 use Rattle.ledger_rows.specs.Rows.{LedgerRow}
-use Rattle.ledger_rows.specs.Files.{RowCommand, FileMoment, FileStep, IssueBy, ConfirmBy}
+use Rattle.ledger_rows.specs.declared.lists.ListKind.{ListKind}
+use Rattle.ledger_rows.specs.declared.remarks.Remark.{Remark}
+use Rattle.ledger_rows.specs.Files.{RowCommand, FileMoment, FileStep, IssueBy, ConfirmBy, RemarkBy}
 use Rattle.ledger_tables.specs.Held.{ledger_of}
 use Rattle.ledger_shift.specs.declared.line.ShiftLine.{ShiftLine}
 use Rattle.ledger_shift.specs.declared.line.ShiftLine.TheVariants as ask
+use Rattle.ledger_shift.specs.declared.told.ShiftTold.{ShiftTold}
+use Rattle.ledger_shift.specs.declared.told.ShiftTold.TheVariants as told
+use Rattle.ledger_shift.specs.Told.{shift_answer_text}
 use Rattle.ledger_shift.specs.declared.port.ShiftEnd.{ShiftEnd}
 use Rattle.ledger_shift.specs.Answers.{AnswersAsk, MayAddRow}
 use Rattle.ledger_shift.specs.Shifts.{ShiftAt, conn_of, printed_line_number, ServesNamed, ServesAsk, TakesShiftLine}
@@ -66,58 +68,93 @@ module _ {S : Type 0} (g : Ghosts S) (left : Trees) where
   kept_line : (before after : ShiftAt S) (number : ℕ) → rows_of g after ≡ rows_of g before → Leaves before → LineLeft before number after
   kept_line before after number same leaves = ([], same, inl (leaves, tt))
 
-  one_left : (before after : ShiftAt S) (number : ℕ) (m : FileMoment) (told : LedgerLine) → m.line ≡ counter_told told → m.after ≡ rows_of g after
-      → FileStep (rows_of g before) m.command m.line m.after → AppendedWell before.sink after.sink (ledger_line_text (printed_line_number number) told)
+  one_left : (before after : ShiftAt S) (number : ℕ) (m : FileMoment) (it : ShiftTold) → m.line ≡ counter_told it → m.after ≡ rows_of g after
+      → FileStep (rows_of g before) m.command m.line m.after → AppendedWell before.sink after.sink (shift_answer_text (printed_line_number number) it)
       → (Leaves before × NoneAnswered (m ∷ [])) ⊎ LeavesRun (rows_of g before) (m ∷ []) → LineLeft before number after
-  one_left before after number m told line_is after_is step wrote rest = (m ∷ [], (told, line_is, after_is, step, wrote), rest)
+  one_left before after number m it line_is after_is step wrote rest = (m ∷ [], (it, line_is, after_is, step, wrote), rest)
 
-  issue_left : (before after : ShiftAt S) (number : ℕ) (i : Issue) (told : LedgerLine) → Leaves before ⊎ MayAddRow before.origin (conn_of g before) (ask.Issue i) left
-      → AnswersAsk before.origin (conn_of g before) (conn_of g after) (ask.Issue i) told
-      → AppendedWell before.sink after.sink (ledger_line_text (printed_line_number number) told) → Leaves after → LineLeft before number after
-  issue_left before after number i (line.Issued counter request) crash does wrote may =
+  issue_left : (before after : ShiftAt S) (number : ℕ) (i : Issue) (it : ShiftTold) → Leaves before ⊎ MayAddRow before.origin (conn_of g before) (ask.Issue i) left
+      → AnswersAsk before.origin (conn_of g before) (conn_of g after) (ask.Issue i) it
+      → AppendedWell before.sink after.sink (shift_answer_text (printed_line_number number) it) → Leaves after → LineLeft before number after
+  issue_left before after number i (told.Issued counter request) crash does wrote may =
       let m : FileMoment = record { command = IssueBy i before.origin; line = Some counter; after = rows_of g after } in
-      one_left before after number m (line.Issued counter request) refl refl does.0 wrote (inr (m ∷ [], refl, (does.0, ap (λ (t : Trees). ledger_of (t 0)) (does.2 left may))))
-  issue_left before after number i (line.Refused why) crash does wrote may =
+      one_left before after number m (told.Issued counter request) refl refl does.0 wrote (inr (m ∷ [], refl, (does.0, ap (λ (t : Trees). ledger_of (t 0)) (does.2 left may))))
+  issue_left before after number i (told.Refused why) crash does wrote may =
       let m : FileMoment = record { command = IssueBy i before.origin; line = None; after = rows_of g after } in
       let cut : FileMoment = record { command = IssueBy i before.origin; line = None; after = rows_left } in
-      one_left before after number m (line.Refused why) refl refl (inl (same_rows g before after does.1)) wrote (elim crash [
+      one_left before after number m (told.Refused why) refl refl (inl (same_rows g before after does.1)) wrote (elim crash [
         | inl leaves ↦ inl (leaves, (refl, tt))
         | inr adds ↦ inr (cut ∷ [], refl, (inr adds, refl))
       ])
-  issue_left before after number i (line.Confirmed counter) crash does wrote may = absurd does
-  issue_left before after number i (line.Shown told) crash does wrote may = absurd does
-  issue_left before after number i line.Up crash does wrote may = absurd does
-  issue_left before after number i line.Armed crash does wrote may = absurd does
+  issue_left before after number i (told.Confirmed counter) crash does wrote may = absurd does
+  issue_left before after number i (told.Shown it) crash does wrote may = absurd does
+  issue_left before after number i (told.Remarked kind counter) crash does wrote may = absurd does
+  issue_left before after number i (told.Unremarked why) crash does wrote may = absurd does
+  issue_left before after number i (told.Listed rows) crash does wrote may = absurd does
 
-  confirm_left : (before after : ShiftAt S) (number : ℕ) (k : Confirm) (told : LedgerLine) → Leaves before ⊎ MayAddRow before.origin (conn_of g before) (ask.Confirm k) left
-      → AnswersAsk before.origin (conn_of g before) (conn_of g after) (ask.Confirm k) told
-      → AppendedWell before.sink after.sink (ledger_line_text (printed_line_number number) told) → Leaves after → LineLeft before number after
-  confirm_left before after number k (line.Confirmed counter) crash does wrote may =
+  confirm_left : (before after : ShiftAt S) (number : ℕ) (k : Confirm) (it : ShiftTold) → Leaves before ⊎ MayAddRow before.origin (conn_of g before) (ask.Confirm k) left
+      → AnswersAsk before.origin (conn_of g before) (conn_of g after) (ask.Confirm k) it
+      → AppendedWell before.sink after.sink (shift_answer_text (printed_line_number number) it) → Leaves after → LineLeft before number after
+  confirm_left before after number k (told.Confirmed counter) crash does wrote may =
       let m : FileMoment = record { command = ConfirmBy k before.origin; line = Some counter; after = rows_of g after } in
-      one_left before after number m (line.Confirmed counter) refl refl does.0 wrote (inr (m ∷ [], refl, (does.0, ap (λ (t : Trees). ledger_of (t 0)) (does.1 left may))))
-  confirm_left before after number k (line.Refused why) crash does wrote may =
+      one_left before after number m (told.Confirmed counter) refl refl does.0 wrote (inr (m ∷ [], refl, (does.0, ap (λ (t : Trees). ledger_of (t 0)) (does.1 left may))))
+  confirm_left before after number k (told.Refused why) crash does wrote may =
       let m : FileMoment = record { command = ConfirmBy k before.origin; line = None; after = rows_of g after } in
       let cut : FileMoment = record { command = ConfirmBy k before.origin; line = None; after = rows_left } in
-      one_left before after number m (line.Refused why) refl refl (inl (same_rows g before after does.1)) wrote (elim crash [
+      one_left before after number m (told.Refused why) refl refl (inl (same_rows g before after does.1)) wrote (elim crash [
         | inl leaves ↦ inl (leaves, (refl, tt))
         | inr adds ↦ inr (cut ∷ [], refl, (inr adds, refl))
       ])
-  confirm_left before after number k (line.Issued counter request) crash does wrote may = absurd does
-  confirm_left before after number k (line.Shown told) crash does wrote may = absurd does
-  confirm_left before after number k line.Up crash does wrote may = absurd does
-  confirm_left before after number k line.Armed crash does wrote may = absurd does
+  confirm_left before after number k (told.Issued counter request) crash does wrote may = absurd does
+  confirm_left before after number k (told.Shown it) crash does wrote may = absurd does
+  confirm_left before after number k (told.Remarked kind counter) crash does wrote may = absurd does
+  confirm_left before after number k (told.Unremarked why) crash does wrote may = absurd does
+  confirm_left before after number k (told.Listed rows) crash does wrote may = absurd does
 
-  show_left : (before after : ShiftAt S) (number : ℕ) (uid : List ℕ) (id : ℕ) (told : LedgerLine) → Leaves before ⊎ MayAddRow before.origin (conn_of g before) (ask.Show uid id) left
-      → AnswersAsk before.origin (conn_of g before) (conn_of g after) (ask.Show uid id) told → LineLeft before number after
-  show_left before after number uid id (line.Shown told) crash does = elim crash [
+  remark_left : (before after : ShiftAt S) (number : ℕ) (r : Remark) (it : ShiftTold) → Leaves before ⊎ MayAddRow before.origin (conn_of g before) (ask.Remark r) left
+      → AnswersAsk before.origin (conn_of g before) (conn_of g after) (ask.Remark r) it
+      → AppendedWell before.sink after.sink (shift_answer_text (printed_line_number number) it) → Leaves after → LineLeft before number after
+  remark_left before after number r (told.Remarked kind counter) crash does wrote may =
+      let m : FileMoment = record { command = RemarkBy r before.origin; line = Some counter; after = rows_of g after } in
+      one_left before after number m (told.Remarked kind counter) refl refl does.1 wrote (inr (m ∷ [], refl, (does.1, ap (λ (t : Trees). ledger_of (t 0)) (does.2 left may))))
+  remark_left before after number r (told.Unremarked why) crash does wrote may =
+      let m : FileMoment = record { command = RemarkBy r before.origin; line = None; after = rows_of g after } in
+      let cut : FileMoment = record { command = RemarkBy r before.origin; line = None; after = rows_left } in
+      one_left before after number m (told.Unremarked why) refl refl (inl (same_rows g before after does.1)) wrote (elim crash [
+        | inl leaves ↦ inl (leaves, (refl, tt))
+        | inr adds ↦ inr (cut ∷ [], refl, (inr adds, refl))
+      ])
+  remark_left before after number r (told.Issued counter request) crash does wrote may = absurd does
+  remark_left before after number r (told.Confirmed counter) crash does wrote may = absurd does
+  remark_left before after number r (told.Shown it) crash does wrote may = absurd does
+  remark_left before after number r (told.Refused why) crash does wrote may = absurd does
+  remark_left before after number r (told.Listed rows) crash does wrote may = absurd does
+
+  show_left : (before after : ShiftAt S) (number : ℕ) (uid : List ℕ) (id : ℕ) (it : ShiftTold) → Leaves before ⊎ MayAddRow before.origin (conn_of g before) (ask.Show uid id) left
+      → AnswersAsk before.origin (conn_of g before) (conn_of g after) (ask.Show uid id) it → LineLeft before number after
+  show_left before after number uid id (told.Shown it) crash does = elim crash [
     | inl leaves ↦ kept_line before after number (same_rows g before after does.1) leaves
     | inr adds ↦ absurd adds
   ]
-  show_left before after number uid id (line.Issued counter request) crash does = absurd does
-  show_left before after number uid id (line.Confirmed counter) crash does = absurd does
-  show_left before after number uid id line.Up crash does = absurd does
-  show_left before after number uid id line.Armed crash does = absurd does
-  show_left before after number uid id (line.Refused why) crash does = absurd does
+  show_left before after number uid id (told.Issued counter request) crash does = absurd does
+  show_left before after number uid id (told.Confirmed counter) crash does = absurd does
+  show_left before after number uid id (told.Remarked kind counter) crash does = absurd does
+  show_left before after number uid id (told.Unremarked why) crash does = absurd does
+  show_left before after number uid id (told.Refused why) crash does = absurd does
+  show_left before after number uid id (told.Listed rows) crash does = absurd does
+
+  list_left : (before after : ShiftAt S) (number : ℕ) (kind : ListKind) (uid : List ℕ) (id : ℕ) (it : ShiftTold) → Leaves before ⊎ MayAddRow before.origin (conn_of g before) (ask.List kind uid id) left
+      → AnswersAsk before.origin (conn_of g before) (conn_of g after) (ask.List kind uid id) it → LineLeft before number after
+  list_left before after number kind uid id (told.Listed rows) crash does = elim crash [
+    | inl leaves ↦ kept_line before after number (same_rows g before after does.1) leaves
+    | inr adds ↦ absurd adds
+  ]
+  list_left before after number kind uid id (told.Issued counter request) crash does = absurd does
+  list_left before after number kind uid id (told.Confirmed counter) crash does = absurd does
+  list_left before after number kind uid id (told.Shown it) crash does = absurd does
+  list_left before after number kind uid id (told.Refused why) crash does = absurd does
+  list_left before after number kind uid id (told.Remarked said counter) crash does = absurd does
+  list_left before after number kind uid id (told.Unremarked why) crash does = absurd does
 
   asked_left : (before after : ShiftAt S) (number : ℕ) (asked : ShiftLine) → ServesAsk g before (printed_line_number number) asked after (Ok tt) → IsClean g after → Leaves after → LineLeft before number after
   asked_left before after number ask.Skipped (same, done) clean may = kept_line before after number (ap (rows_of g) same) (subst Leaves same may)
@@ -132,6 +169,17 @@ module _ {S : Type 0} (g : Ghosts S) (left : Trees) where
       let serves = was_named g before.noted.is_named before after (printed_line_number number) (ask.Confirm k) named in
       elim serves.ends [
         | inl answered ↦ confirm_left before after number k answered.0 (serves.survives.crash clean left may) (answered.1 clean) answered.3 may
+        | inr failed ↦ absurd failed
+      ]
+  asked_left before after number (ask.Remark r) named clean may =
+      let serves = was_named g before.noted.is_named before after (printed_line_number number) (ask.Remark r) named in
+      elim serves.ends [
+        | inl answered ↦ remark_left before after number r answered.0 (serves.survives.crash clean left may) (answered.1 clean) answered.3 may
+        | inr failed ↦ absurd failed
+      ]
+  asked_left before after number (ask.List kind uid id) serves clean may =
+      elim serves.ends [
+        | inl answered ↦ list_left before after number kind uid id answered.0 (serves.survives.crash clean left may) (answered.1 clean)
         | inr failed ↦ absurd failed
       ]
   asked_left before after number (ask.Show uid id) serves clean may =
@@ -203,11 +251,23 @@ module _ {S : Type 0} (g : Ghosts S) (left : Trees) where
   )
   confirm_cut false before after number k result (same, is) clean may = same_cut before after same clean may
 
+  remark_cut : (named : Bool) (before after : ShiftAt S) (number : ℕ) (r : Remark) (result : Result (Unit {0}) ShiftEnd) → ServesNamed g named before number (ask.Remark r) after result → IsClean g after → Leaves after → CutLeft before
+  remark_cut true before after number r result serves clean may = (
+    omega (arith, serves.survives.clean),
+    elim (serves.survives.crash clean left may) [ inl leaves ↦ inl leaves | inr adds ↦ inr (RemarkBy r before.origin, inr adds) ],
+  )
+  remark_cut false before after number r result (same, is) clean may = same_cut before after same clean may
+
   asked_cut : (before after : ShiftAt S) (number : ℕ) (asked : ShiftLine) (result : Result (Unit {0}) ShiftEnd) → ServesAsk g before number asked after result → IsClean g after → Leaves after → CutLeft before
   asked_cut before after number ask.Skipped result (same, done) clean may = same_cut before after same clean may
   asked_cut before after number (ask.By origin) result (same, done) clean may = (subst (IsClean g) same clean, inl (subst Leaves same may))
   asked_cut before after number (ask.Issue i) result named clean may = issue_cut before.noted.is_named before after number i result named clean may
   asked_cut before after number (ask.Confirm k) result named clean may = confirm_cut before.noted.is_named before after number k result named clean may
+  asked_cut before after number (ask.Remark r) result named clean may = remark_cut before.noted.is_named before after number r result named clean may
+  asked_cut before after number (ask.List kind uid id) result serves clean may = (
+    omega (arith, serves.survives.clean),
+    elim (serves.survives.crash clean left may) [ inl leaves ↦ inl leaves | inr adds ↦ absurd adds ],
+  )
   asked_cut before after number (ask.Show uid id) result serves clean may = (
     omega (arith, serves.survives.clean),
     elim (serves.survives.crash clean left may) [ inl leaves ↦ inl leaves | inr adds ↦ absurd adds ],

@@ -1,7 +1,6 @@
 -- How a command ends, by what was served
 use Rattle.std.proofs.Common.{◌≡◌, ◌⊎◌, inl, inr, ℕ, false, Result, Ok, Err, IfOk, IfErr, OnOk, OnErr, List, refl, sym, subst, subst₂}
 use Rattle.bus_port.specs.Sink.{SinkState}
-use Rattle.key_campaign.specs.declared.lines.LedgerLine.{LedgerLine}
 use Rattle.program_edge.specs.Rows.{Row}
 use Rattle.program_edge.specs.Told.{EndingTold}
 use Rattle.line_stream.specs.Streams.{Streamed}
@@ -14,17 +13,19 @@ use Rattle.sqlite.specs.State.{HasCleanDisk}
 use Rattle.sqlite.specs.declared.error.Error.{Error}
 use Rattle.ledger_tables.specs.Failing.{IsUndone}
 use Rattle.ledger_shift.specs.declared.line.ShiftLine.{ShiftLine}
+use Rattle.ledger_shift.specs.declared.told.ShiftTold.{ShiftTold}
+use Rattle.ledger_shift.specs.Told.{tells_refusal}
 use Rattle.ledger_shift.specs.declared.port.ShiftEnd.{ShiftEnd}
 use Rattle.ledger_shift.specs.Answers.{AnswersAsk, FailsAsk}
 use Rattle.ledger_shift.specs.declared.port.Noted.{Noted}
-use Rattle.ledger_shift.specs.Shifts.{ShiftAt, conn_of, nothing_noted, noted_of, tells_refusal, TellsServed, IsAnswered, HasFailedAt, TakesShiftLine, PausesShift, EndsShift}
+use Rattle.ledger_shift.specs.Shifts.{ShiftAt, conn_of, nothing_noted, noted_of, TellsServed, IsAnswered, HasFailedAt, TakesShiftLine, PausesShift, EndsShift}
 use Rattle.ledger_shift.specs.Statuses.{IsEndRow, nobody, ShiftCall, RunsShift}
 
 module _ {S : Type 0} (g : Ghosts S) (before after : ShiftAt S) (number : ℕ) (asked : ShiftLine) where
   abbrev IsClean : Type 0
   IsClean = HasCleanDisk (conn_of g after)
 
-  pub ends_of : (served : Result LedgerLine Error) (result : Result (Unit {0}) ShiftEnd)
+  pub ends_of : (served : Result ShiftTold Error) (result : Result (Unit {0}) ShiftEnd)
       → (IsClean → IfOk served (AnswersAsk before.origin (conn_of g before) (conn_of g after) asked))
       → (IsClean → IfErr served (FailsAsk before.origin (conn_of g before) (conn_of g after) asked))
       → (IsClean → OnErr served (IsUndone (conn_of g before) (conn_of g after)))
@@ -36,12 +37,12 @@ module _ {S : Type 0} (g : Ghosts S) (before after : ShiftAt S) (number : ℕ) (
       inr (subst (HasFailedAt g before asked after) (sym is) (same, λ clean. (fails clean, undone clean)))
 
 -- a look notes nothing
-pub noted_shown : (noted : Noted) (served : Result LedgerLine Error) → IfOk served (λ told. tells_refusal told ≡ false) → noted ≡ noted_of noted served
+pub noted_shown : (noted : Noted) (served : Result ShiftTold Error) → IfOk served (λ told. tells_refusal told ≡ false) → noted ≡ noted_of noted served
 noted_shown noted (Ok told) calm = rw calm refl
 noted_shown noted (Err e) calm = refl
 
 -- if the shift goes on, the command was served
-pub served_if : (P : Type 0) (before after : SinkState) (number : ℕ) (served : Result LedgerLine Error) (result : Result (Unit {0}) ShiftEnd) → TellsServed before after number served result → OnOk served P → OnOk result P
+pub served_if : (P : Type 0) (before after : SinkState) (number : ℕ) (served : Result ShiftTold Error) (result : Result (Unit {0}) ShiftEnd) → TellsServed before after number served result → OnOk served P → OnOk result P
 served_if P before after number (Ok told) (Ok done) tells p = p
 served_if P before after number (Ok told) (Err e) tells p = tt
 served_if P before after number (Err e) result (same, is) p = subst (λ r. OnOk r P) (sym is) tt

@@ -2,26 +2,27 @@
 use Rattle.std.specs.Prelude.{◌≡◌, ℕ, ◌+◌, Option, None, Some, List, [], ◌∷◌, ◌++◌}
 use Rattle.machine_runs.specs.Run.{Run}
 use Rattle.program_edge.specs.Told.{AppendedWell}
-use Rattle.key_campaign.specs.declared.lines.LedgerLine.{LedgerLine}
-use Rattle.key_campaign.specs.declared.lines.LedgerLine.TheVariants as line
 use Rattle.line_stream.specs.Pieces.{in_64_bits}
 use Rattle.line_stream.specs.Streams.{TakesLines}
-use Rattle.campaign_commands.specs.LedgerTexts.{ledger_line_text}
 use Rattle.sqlite_trees.specs.declared.store.Store.{Ghosts}
 use Rattle.sqlite.specs.State.{HasCleanDisk}
 use Rattle.ledger_rows.specs.Rows.{LedgerRow}
 use Rattle.ledger_rows.specs.Files.{FileMoment, FileStep, AnsweredCountersRise}
 use Rattle.ledger_tables.specs.Held.{ledger_in}
+use Rattle.ledger_shift.specs.declared.told.ShiftTold.{ShiftTold}
+use Rattle.ledger_shift.specs.declared.told.ShiftTold.TheVariants as told
+use Rattle.ledger_shift.specs.Told.{shift_answer_text}
 use Rattle.ledger_shift.specs.Shifts.{ShiftAt, conn_of, printed_line_number, TakesShiftLine}
 
--- the counter that a line tells
-abbrev pub counter_told : LedgerLine → Option ℕ
-counter_told (line.Issued counter request) = Some counter
-counter_told (line.Confirmed counter) = Some counter
-counter_told (line.Shown told) = None
-counter_told line.Up = None
-counter_told line.Armed = None
-counter_told (line.Refused why) = None
+-- the counter of the row that an answer tells
+abbrev pub counter_told : ShiftTold → Option ℕ
+counter_told (told.Issued counter request) = Some counter
+counter_told (told.Confirmed counter) = Some counter
+counter_told (told.Shown it) = None
+counter_told (told.Refused why) = None
+counter_told (told.Remarked kind counter) = Some counter
+counter_told (told.Unremarked why) = None
+counter_told (told.Listed rows) = None
 
 module _ {S : Type 0} (g : Ghosts S) where
   abbrev pub rows_of : ShiftAt S → List LedgerRow
@@ -32,9 +33,9 @@ module _ {S : Type 0} (g : Ghosts S) where
   abbrev pub IsCallOf : ShiftAt S → ℕ → ShiftAt S → List FileMoment → Type 0
   IsCallOf before number after [] = rows_of after ≡ rows_of before
   IsCallOf before number after (m ∷ []) =
-      (told : LedgerLine) × (m.line ≡ counter_told told) × (m.after ≡ rows_of after)
+      (it : ShiftTold) × (m.line ≡ counter_told it) × (m.after ≡ rows_of after)
       × FileStep (rows_of before) m.command m.line m.after
-      × AppendedWell before.sink after.sink (ledger_line_text (printed_line_number number) told)
+      × AppendedWell before.sink after.sink (shift_answer_text (printed_line_number number) it)
   IsCallOf before number after _ = ⊥
 
   -- the calls of these lines after so many, one after another
@@ -45,7 +46,7 @@ module _ {S : Type 0} (g : Ghosts S) where
       × IsCallOf before (in_64_bits (count + 1)) mid here × AreCallsOf (count + 1) mid lines last more
 
   -- As long as the disk has returned what was written, the calls of the lines that were taken are a run of the file. So
-  -- the counters that were written for a unit and slot strictly rise.
+  -- the counters that were issued or raised and written for a unit and slot strictly rise.
   abbrev pub ShiftsAreRuns : Type 0
   ShiftsAreRuns =
       (count : ℕ) (start last : ShiftAt S) (lines : List (List ℕ)) → TakesLines (TakesShiftLine g) count start lines last

@@ -1,4 +1,5 @@
 pub mod Asks
+pub mod Told
 pub mod Answers
 pub mod Shifts
 pub mod Opening

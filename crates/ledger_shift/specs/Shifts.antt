@@ -4,12 +4,9 @@ use Rattle.bus_port.specs.Fault.{Rose}
 use Rattle.bus_port.specs.Sink.{SinkState}
 use Rattle.bus_port.specs.Whole.{AppendedPart}
 use Rattle.program_edge.specs.Told.{AppendedWell}
-use Rattle.key_campaign.specs.declared.lines.LedgerLine.{LedgerLine}
-use Rattle.key_campaign.specs.declared.lines.LedgerLine.TheVariants as line
 use Rattle.text_lines.specs.Lines.{words_of}
 use Rattle.text_lines.specs.declared.fault.Cause.{Cause}
 use Rattle.text_lines.specs.declared.fault.ScriptFault.TheVariants.{At, Memory}
-use Rattle.campaign_commands.specs.LedgerTexts.{ledger_line_text}
 use Rattle.sqlite_trees.specs.declared.store.Store.{Ghosts}
 use Rattle.sqlite.specs.State.{State, HasCleanDisk, Survives}
 use Rattle.sqlite.specs.Held.{Held, state}
@@ -21,7 +18,9 @@ use Rattle.ledger_shift.specs.declared.line.ShiftLine.TheVariants as ask
 use Rattle.ledger_shift.specs.declared.port.Noted.{Noted}
 use Rattle.ledger_shift.specs.declared.port.ShiftEnd.{ShiftEnd}
 use Rattle.ledger_shift.specs.declared.port.ShiftEnd.TheVariants as end
+use Rattle.ledger_shift.specs.declared.told.ShiftTold.{ShiftTold}
 use Rattle.ledger_shift.specs.Asks.{shift_line_of}
+use Rattle.ledger_shift.specs.Told.{tells_refusal, shift_answer_text}
 use Rattle.ledger_shift.specs.Answers.{AnswersAsk, FailsAsk, MayAddRow}
 
 -- the connection, who enters its rows, what is noted, and the sink that is answered on
@@ -40,19 +39,10 @@ nothing_noted = record { is_named = false; has_refused = false }
 abbrev pub with_name : Noted → Noted
 with_name noted = record noted { is_named = true }
 
--- the line tells that nothing was done
-abbrev pub tells_refusal : LedgerLine → Bool
-tells_refusal (line.Issued counter request) = false
-tells_refusal (line.Confirmed counter) = false
-tells_refusal (line.Shown told) = false
-tells_refusal line.Up = false
-tells_refusal line.Armed = false
-tells_refusal (line.Refused why) = true
-
-abbrev pub noted_after : Noted → LedgerLine → Noted
+abbrev pub noted_after : Noted → ShiftTold → Noted
 noted_after noted told = if tells_refusal told then record noted { has_refused = true } else noted
 
-abbrev pub noted_of : Noted → Result LedgerLine Error → Noted
+abbrev pub noted_of : Noted → Result ShiftTold Error → Noted
 noted_of noted (Ok told) = noted_after noted told
 noted_of noted (Err e) = noted
 
@@ -71,8 +61,8 @@ TellsAnswer before after text (Err (end.Refused Memory)) = after ≡ before
 TellsAnswer before after text (Err _) = ⊥
 
 -- the same of what was served: if the file failed nothing is written
-abbrev pub TellsServed : SinkState → SinkState → ℕ → Result LedgerLine Error → Result (Unit {0}) ShiftEnd → Type 0
-TellsServed before after number (Ok told) result = TellsAnswer before after (ledger_line_text number told) result
+abbrev pub TellsServed : SinkState → SinkState → ℕ → Result ShiftTold Error → Result (Unit {0}) ShiftEnd → Type 0
+TellsServed before after number (Ok told) result = TellsAnswer before after (shift_answer_text number told) result
 TellsServed before after number (Err e) result = (after ≡ before) × (result ≡ Err (end.Failed e))
 
 module _ {S : Type 0} (g : Ghosts S) where
@@ -82,10 +72,10 @@ module _ {S : Type 0} (g : Ghosts S) where
   -- a command was done, and then answered
   abbrev pub IsAnswered : ShiftAt S → ℕ → ShiftLine → ShiftAt S → Result (Unit {0}) ShiftEnd → Type 0
   IsAnswered before number asked after result =
-      (told : LedgerLine)
+      (told : ShiftTold)
       × (HasCleanDisk (conn_of after) → AnswersAsk before.origin (conn_of before) (conn_of after) asked told)
       × (after.noted ≡ noted_after before.noted told)
-      × TellsAnswer before.sink after.sink (ledger_line_text number told) result
+      × TellsAnswer before.sink after.sink (shift_answer_text number told) result
 
   -- the file failed: nothing is printed, and the connection is shut or sees what it saw
   abbrev pub HasFailedAt : ShiftAt S → ShiftLine → ShiftAt S → Result (Unit {0}) ShiftEnd → Type 0
@@ -116,6 +106,10 @@ module _ {S : Type 0} (g : Ghosts S) where
       ServesNamed before.noted.is_named before number (ask.Issue i) after result
   ServesAsk before number (ask.Confirm k) after result =
       ServesNamed before.noted.is_named before number (ask.Confirm k) after result
+  ServesAsk before number (ask.Remark r) after result =
+      ServesNamed before.noted.is_named before number (ask.Remark r) after result
+  ServesAsk before number (ask.List kind uid id) after result =
+      ServesCommand before number (ask.List kind uid id) after result
   ServesAsk before number (ask.Show uid id) after result = ServesCommand before number (ask.Show uid id) after result
 
   -- A line that asks nothing by its form is refused, and nothing changes. Memory may be out for any line.

@@ -5,8 +5,8 @@ ghost use Rattle.ledger_shift.specs.Laws.{ShiftsAreRuns};
 use ledger_rows::laws::answered_counters_rise;
 use sqlite::Alter;
 
-/// The calls of the lines that were taken are a run of the ledger's file, so the counters that were written for a unit
-/// and slot strictly rise.
+/// The calls of the lines that were taken are a run of the ledger's file, so the counters that were written as issued or
+/// raised for a unit and slot strictly rise.
 pub fn shifts_are_runs<S: Alter>()
     ensures { ShiftsAreRuns S.Store }
 {

@@ -2,7 +2,6 @@
 ghost use Rattle.std.specs.Prelude.{◌≡◌, ◌<◌, ◌≤◌, ◌^◌, [], ◌∷◌, length, OnOk};
 ghost use Rattle.std.specs.List.{position_or_len};
 ghost use Rattle.text_lines.specs.Lines.{is_line_feed};
-ghost use Rattle.campaign_commands.specs.LedgerTexts.{ledger_line_text};
 ghost use Rattle.sqlite.specs.State.{HasCleanDisk};
 ghost use Rattle.sqlite.specs.Held.{state};
 ghost use Rattle.ledger_tables.specs.Held.{HasLedgerTable};
@@ -10,15 +9,17 @@ ghost use Rattle.ledger_shift.specs.declared.line.ShiftLine.TheVariants as ask;
 ghost use Rattle.ledger_shift.specs.declared.port.Noted.{Noted};
 ghost use Rattle.ledger_shift.specs.Shifts.{ShiftAt, TellsAnswer, TellsServed, ServesCommand, ServesAsk, ServesLine};
 ghost use Rattle.ledger_shift.specs.Shifts.{TakesShiftLine, PausesShift, EndsShift, printed_line_number};
-ghost use Rattle.ledger_shift.specs.Shifts.{tells_refusal, noted_of};
+ghost use Rattle.ledger_shift.specs.Shifts.{noted_of};
+ghost use Rattle.ledger_shift.specs.Told.{shift_answer_text};
 
 use crate::line::{ShiftLine, read_shift_line};
 use crate::origin::Origin;
-use crate::serving::{serve_confirm, serve_issue, serve_show};
+use crate::serving::{serve_confirm, serve_issue, serve_list, serve_remark, serve_show};
+use crate::told::{ShiftTold, is_refusal, push_told};
 use bus_port::{PortFailed, Sink, write_all};
-use campaign_commands::push_ledger_line;
-use key_campaign::{Confirm, Issue, LedgerLine};
+use key_campaign::{Confirm, Issue};
 use key_slots::SlotId;
+use ledger_rows::{ListKind, Remark};
 use line_stream::LineTaker;
 use memory_update::Uid;
 use sqlite::{Alter, Connection, Error};
@@ -66,12 +67,12 @@ fn answer<K: Sink>(
     alloc: Global,
     sink: &mut K,
     number: u32,
-    line: &LedgerLine,
+    told: &ShiftTold,
 ) -> Result<(), ShiftEnd>
-    ensures { TellsAnswer (K.state sink.old) (K.state sink.new) (ledger_line_text number line.now) result }
+    ensures { TellsAnswer (K.state sink.old) (K.state sink.new) (shift_answer_text number told.now) result }
 {
     let mut text = Vec::new(alloc);
-    match push_ledger_line(&mut text, number, line) {
+    match push_told(&mut text, number, told) {
         Ok(()) => (),
         Err(AllocError) => return Err(ShiftEnd::Refused(ScriptFault::Memory)),
     }
@@ -86,7 +87,7 @@ fn tell_served<K: Sink>(
     alloc: Global,
     sink: &mut K,
     number: u32,
-    served: Result<LedgerLine, Error>,
+    served: Result<ShiftTold, Error>,
 ) -> Result<(), ShiftEnd>
     ensures { TellsServed (K.state sink.old) (K.state sink.new) number served result }
 {
@@ -96,22 +97,8 @@ fn tell_served<K: Sink>(
     }
 }
 
-/// Whether a line tells that nothing was done.
-fn is_refusal(line: &LedgerLine) -> bool
-    ensures { result ≡ tells_refusal line.now }
-{
-    match line {
-        LedgerLine::Refused(_) => true,
-        LedgerLine::Issued { .. } => false,
-        LedgerLine::Confirmed(_) => false,
-        LedgerLine::Shown(_) => false,
-        LedgerLine::Up => false,
-        LedgerLine::Armed => false,
-    }
-}
-
 /// Notes whether a command was refused.
-fn note_served(noted: &mut Noted, served: &Result<LedgerLine, Error>)
+fn note_served(noted: &mut Noted, served: &Result<ShiftTold, Error>)
     ensures { noted.new ≡ noted_of noted.old served.now }
 {
     if let Ok(told) = served {
@@ -167,6 +154,29 @@ fn take_confirm<S: Alter, K: Sink>(
     tell_served(alloc, sink, number, served)
 }
 
+/// Serves a remark, and answers it.
+fn take_remark<S: Alter, K: Sink>(
+    alloc: Global,
+    conn: &mut Connection<S>,
+    origin: &Origin,
+    noted: &mut Noted,
+    sink: &mut K,
+    number: u32,
+    asked: &Remark,
+) -> Result<(), ShiftEnd>
+    requires { HasCleanDisk (state S.Store conn.old) → HasLedgerTable (state S.Store conn.old) }
+    ensures serves { ServesCommand S.Store
+        (record { conn = conn.old; origin = origin.now; noted = noted.old; sink = K.state sink.old }) number
+        (ask.Remark asked.now)
+        (record { conn = conn.new; origin = origin.now; noted = noted.new; sink = K.state sink.new }) result }
+    ensures ready { HasCleanDisk (state S.Store conn.new)
+        → OnOk result (HasLedgerTable (state S.Store conn.new)) }
+{
+    let served = serve_remark(conn, alloc, asked, origin);
+    note_served(noted, &served);
+    tell_served(alloc, sink, number, served)
+}
+
 /// Serves a look, and answers it.
 fn take_show<S: Alter, K: Sink>(
     alloc: Global,
@@ -186,6 +196,29 @@ fn take_show<S: Alter, K: Sink>(
         → OnOk result (HasLedgerTable (state S.Store conn.new)) }
 {
     let served = serve_show(conn, alloc, uid, id, origin);
+    tell_served(alloc, sink, number, served)
+}
+
+/// Serves a list, and answers it.
+fn take_list<S: Alter, K: Sink>(
+    alloc: Global,
+    conn: &mut Connection<S>,
+    origin: &Origin,
+    sink: &mut K,
+    number: u32,
+    kind: ListKind,
+    uid: &Uid,
+    id: SlotId,
+) -> Result<(), ShiftEnd>
+    requires { HasCleanDisk (state S.Store conn.old) → HasLedgerTable (state S.Store conn.old) }
+    ensures serves { (noted : Noted) → ServesCommand S.Store
+        (record { conn = conn.old; origin = origin.now; noted = noted; sink = K.state sink.old }) number
+        (ask.List kind uid.now id)
+        (record { conn = conn.new; origin = origin.now; noted = noted; sink = K.state sink.new }) result }
+    ensures ready { HasCleanDisk (state S.Store conn.new)
+        → OnOk result (HasLedgerTable (state S.Store conn.new)) }
+{
+    let served = serve_list(conn, alloc, kind, uid, id, origin);
     tell_served(alloc, sink, number, served)
 }
 
@@ -224,6 +257,15 @@ fn take_asked<S: Alter, K: Sink>(
                 return Err(ShiftEnd::Unnamed(number));
             }
             take_confirm(alloc, conn, origin, noted, sink, number, &confirm)
+        }
+        ShiftLine::Remark(remark) => {
+            if !noted.is_named {
+                return Err(ShiftEnd::Unnamed(number));
+            }
+            take_remark(alloc, conn, origin, noted, sink, number, &remark)
+        }
+        ShiftLine::List(kind, uid, id) => {
+            take_list(alloc, conn, origin, sink, number, kind, &uid, id)
         }
         ShiftLine::Show(uid, id) => take_show(alloc, conn, origin, sink, number, &uid, id),
     }

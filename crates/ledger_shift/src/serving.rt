@@ -8,12 +8,14 @@ ghost use Rattle.ledger_tables.specs.Held.{HasLedgerTable};
 ghost use Rattle.ledger_tables.specs.Failing.{IsUndone};
 ghost use Rattle.ledger_shift.specs.declared.line.ShiftLine.TheVariants as ask;
 ghost use Rattle.ledger_shift.specs.Answers.{AnswersAsk, FailsAsk, MayAddRow};
-ghost use Rattle.ledger_shift.specs.Shifts.{tells_refusal};
+ghost use Rattle.ledger_shift.specs.Told.{tells_refusal};
 
 use crate::origin::Origin;
-use key_campaign::{Confirm, Issue, LedgerLine};
+use crate::told::ShiftTold;
+use key_campaign::{Confirm, Issue};
 use key_slots::{Counter28, SlotId};
-use ledger_tables::{confirm, issue, show};
+use ledger_rows::{ListKind, Remark};
+use ledger_tables::{confirm, issue, list, remark, show};
 use memory_update::{Request, Uid, Update, build};
 use sqlite::{Alter, Connection, Error};
 use std::alloc::Global;
@@ -39,7 +41,7 @@ pub(crate) fn serve_issue<S: Alter>(
     alloc: Global,
     asked: &Issue,
     origin: &Origin,
-) -> Result<LedgerLine, Error>
+) -> Result<ShiftTold, Error>
     requires { HasCleanDisk (state S.Store conn.old) → HasLedgerTable (state S.Store conn.old) }
     ensures answers { HasCleanDisk (state S.Store conn.new) → IfOk result
         (AnswersAsk origin.now (state S.Store conn.old) (state S.Store conn.new) (ask.Issue asked.now)) }
@@ -60,11 +62,11 @@ pub(crate) fn serve_issue<S: Alter>(
         origin.operator(),
         origin.time(),
     ) {
-        Ok(Ok(counter)) => Ok(LedgerLine::Issued {
+        Ok(Ok(counter)) => Ok(ShiftTold::Issued {
             counter,
             request: request_for(asked, counter),
         }),
-        Ok(Err(why)) => Ok(LedgerLine::Refused(why)),
+        Ok(Err(why)) => Ok(ShiftTold::Refused(why)),
         Err(error) => Err(error),
     }
 }
@@ -75,7 +77,7 @@ pub(crate) fn serve_confirm<S: Alter>(
     alloc: Global,
     asked: &Confirm,
     origin: &Origin,
-) -> Result<LedgerLine, Error>
+) -> Result<ShiftTold, Error>
     requires { HasCleanDisk (state S.Store conn.old) → HasLedgerTable (state S.Store conn.old) }
     ensures answers { HasCleanDisk (state S.Store conn.new) → IfOk result
         (AnswersAsk origin.now (state S.Store conn.old) (state S.Store conn.new) (ask.Confirm asked.now)) }
@@ -96,8 +98,41 @@ pub(crate) fn serve_confirm<S: Alter>(
         origin.operator(),
         origin.time(),
     ) {
-        Ok(Ok(counter)) => Ok(LedgerLine::Confirmed(counter)),
-        Ok(Err(why)) => Ok(LedgerLine::Refused(why)),
+        Ok(Ok(counter)) => Ok(ShiftTold::Confirmed(counter)),
+        Ok(Err(why)) => Ok(ShiftTold::Refused(why)),
+        Err(error) => Err(error),
+    }
+}
+
+/// Records what an operator says. Its row is committed.
+pub(crate) fn serve_remark<S: Alter>(
+    conn: &mut Connection<S>,
+    alloc: Global,
+    asked: &Remark,
+    origin: &Origin,
+) -> Result<ShiftTold, Error>
+    requires { HasCleanDisk (state S.Store conn.old) → HasLedgerTable (state S.Store conn.old) }
+    ensures answers { HasCleanDisk (state S.Store conn.new) → IfOk result
+        (AnswersAsk origin.now (state S.Store conn.old) (state S.Store conn.new) (ask.Remark asked.now)) }
+    ensures ready { HasCleanDisk (state S.Store conn.new)
+        → OnOk result (HasLedgerTable (state S.Store conn.new)) }
+    ensures failed { HasCleanDisk (state S.Store conn.new) → IfErr result
+        (FailsAsk origin.now (state S.Store conn.old) (state S.Store conn.new) (ask.Remark asked.now)) }
+    ensures undone { HasCleanDisk (state S.Store conn.new)
+        → OnErr result (IsUndone (state S.Store conn.old) (state S.Store conn.new)) }
+    ensures survives { Survives (state S.Store conn.old) (state S.Store conn.new)
+        (MayAddRow origin.now (state S.Store conn.old) (ask.Remark asked.now)) }
+{
+    match remark(
+        conn,
+        alloc,
+        asked,
+        origin.station(),
+        origin.operator(),
+        origin.time(),
+    ) {
+        Ok(Ok(counter)) => Ok(ShiftTold::Remarked(asked.kind, counter)),
+        Ok(Err(why)) => Ok(ShiftTold::Unremarked(why)),
         Err(error) => Err(error),
     }
 }
@@ -109,7 +144,7 @@ pub(crate) fn serve_show<S: Alter>(
     uid: &Uid,
     id: SlotId,
     _origin: &Origin,
-) -> Result<LedgerLine, Error>
+) -> Result<ShiftTold, Error>
     requires { HasCleanDisk (state S.Store conn.old) → HasLedgerTable (state S.Store conn.old) }
     ensures answers { HasCleanDisk (state S.Store conn.new) → IfOk result
         (AnswersAsk _origin.now (state S.Store conn.old) (state S.Store conn.new) (ask.Show uid.now id)) }
@@ -124,7 +159,35 @@ pub(crate) fn serve_show<S: Alter>(
         (MayAddRow _origin.now (state S.Store conn.old) (ask.Show uid.now id)) }
 {
     match show(conn, alloc, uid, id) {
-        Ok(told) => Ok(LedgerLine::Shown(told)),
+        Ok(told) => Ok(ShiftTold::Shown(told)),
+        Err(error) => Err(error),
+    }
+}
+
+/// Lists rows of a unit's slot.
+pub(crate) fn serve_list<S: Alter>(
+    conn: &mut Connection<S>,
+    alloc: Global,
+    kind: ListKind,
+    uid: &Uid,
+    id: SlotId,
+    _origin: &Origin,
+) -> Result<ShiftTold, Error>
+    requires { HasCleanDisk (state S.Store conn.old) → HasLedgerTable (state S.Store conn.old) }
+    ensures answers { HasCleanDisk (state S.Store conn.new) → IfOk result
+        (AnswersAsk _origin.now (state S.Store conn.old) (state S.Store conn.new) (ask.List kind uid.now id)) }
+    ensures ready { HasCleanDisk (state S.Store conn.new)
+        → OnOk result (HasLedgerTable (state S.Store conn.new)) }
+    ensures failed { HasCleanDisk (state S.Store conn.new) → IfErr result
+        (FailsAsk _origin.now (state S.Store conn.old) (state S.Store conn.new) (ask.List kind uid.now id)) }
+    ensures undone { HasCleanDisk (state S.Store conn.new)
+        → OnErr result (IsUndone (state S.Store conn.old) (state S.Store conn.new)) }
+    ensures calm { IfOk result (λ told. tells_refusal told ≡ false) }
+    ensures survives { Survives (state S.Store conn.old) (state S.Store conn.new)
+        (MayAddRow _origin.now (state S.Store conn.old) (ask.List kind uid.now id)) }
+{
+    match list(conn, alloc, kind, uid, id) {
+        Ok(rows) => Ok(ShiftTold::Listed(rows)),
         Err(error) => Err(error),
     }
 }

@@ -10,9 +10,10 @@ use Rattle.sqlite.specs.Effect.{Database}
 use Rattle.sqlite.specs.State.{State, HasCleanDisk, IsUnchanged, Survives}
 use Rattle.sqlite.proofs.StateLemmas.{survives_then}
 use Rattle.ledger_rows.specs.declared.kinds.SlotRow.{SlotRow}
+use Rattle.ledger_rows.specs.declared.remarks.Remark.{Remark}
 use Rattle.ledger_rows.specs.Rows.{RowOrigin, LedgerRow, slot_rows, greatest_in}
-use Rattle.ledger_rows.specs.Steps.{AddsRow, issued_row, confirmed_row, IssuesRow, AnswersRow, HasConfirmed, ConfirmsRow}
-use Rattle.ledger_rows.proofs.CallerLemmas.{greatest_permuted, any_permuted, unconfirmed_permuted}
+use Rattle.ledger_rows.specs.Steps.{AddsRow, issued_row, confirmed_row, remarked_row, IssuesRow, AnswersRow, HasConfirmed, ConfirmsRow, MayRemark, RemarksRow}
+use Rattle.ledger_rows.proofs.CallerLemmas.{greatest_permuted, any_permuted, unconfirmed_permuted, remark_permuted}
 use Rattle.std.proofs.lemmas.List.Sorted.{IsPermutation-sym}
 use Rattle.ledger_tables.specs.Held.{ledger_of, ledger_in}
 
@@ -30,6 +31,14 @@ pub confirms : (k : Confirm) (origin : RowOrigin) (counter : ℕ) (old new : Lis
 confirms k origin counter old new read same answers none adds = record {
   answers = any_permuted (λ (row : SlotRow). AnswersRow k row × (row.counter ≡ counter)) read (slot_rows k.uid k.id old) (IsPermutation-sym _ _ same) answers;
   unconfirmed = unconfirmed_permuted counter read (slot_rows k.uid k.id old) (IsPermutation-sym _ _ same) none;
+  adds = adds;
+}
+
+pub remarks : (r : Remark) (origin : RowOrigin) (counter : ℕ) (old new : List LedgerRow) (read : List SlotRow) → IsPermutation (slot_rows r.uid r.id old) read → counter ≡ r.counter
+    → MayRemark r.kind r.counter read → AddsRow (remarked_row r origin) old new → RemarksRow r origin counter old new
+remarks r origin counter old new read same is may adds = record {
+  is = is;
+  may = remark_permuted r.kind r.counter read (slot_rows r.uid r.id old) (IsPermutation-sym _ _ same) may;
   adds = adds;
 }
 

@@ -20,9 +20,10 @@ use Rattle.sqlite.specs.declared.error.Error.{Error}
 use Rattle.sqlite.specs.declared.error.Error.TheVariants.{SqliteFailure}
 use Rattle.sqlite.specs.State.{State, HasCause, store_error}
 use Rattle.ledger_rows.specs.declared.kinds.SlotRow.{SlotRow}
+use Rattle.ledger_rows.specs.declared.remarks.Remark.{Remark}
 use Rattle.ledger_rows.specs.Kinds.{row_word}
 use Rattle.ledger_rows.specs.Rows.{RowOrigin, LedgerRow}
-use Rattle.ledger_rows.specs.Steps.{issued_row, confirmed_row}
+use Rattle.ledger_rows.specs.Steps.{issued_row, confirmed_row, remarked_row}
 use Rattle.ledger_tables.specs.Table.{entry_table, ledger_schema}
 use Rattle.ledger_tables.specs.Held.{HasLedgerTable, number_held, slot_row_in}
 
@@ -90,6 +91,9 @@ FailsToIssue i origin old new e =
 abbrev pub FailsToConfirm : Confirm → RowOrigin → State → State → Error → Type 0
 FailsToConfirm k origin old new e =
     FailsToLook k.uid k.id old new e ⊎ ((counter : ℕ) × FailsToAdd (confirmed_row k origin counter) old new e)
+
+abbrev pub FailsToRemark : Remark → RowOrigin → State → State → Error → Type 0
+FailsToRemark r origin old new e = FailsToLook r.uid r.id old new e ⊎ FailsToAdd (remarked_row r origin) old new e
 
 -- the connection is shut, or sees what it saw, and the ledger can be served
 pub record IsUndone (old new : State) : Type 0 where

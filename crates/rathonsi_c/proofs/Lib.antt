@@ -31,6 +31,7 @@ pub mod InputLaws
 pub mod FlashLaws
 pub mod FreshnessLaws
 pub mod CandidateLaws
+pub mod AnotherLaws
 pub mod WriteLaws
 pub mod SlotMacLaws
 pub mod StaleLaws

@@ -12,6 +12,10 @@ use Rattle.rathonsi_c.specs.Routes.{IsFreshnessOnly, BoundBelow, BoundCovers, Re
 use Rattle.rathonsi_c.specs.Steps.{BoundAnswers, NextFreshness}
 use Rattle.rathonsi_c.specs.Lives.{PlanDone, Memory, Deed, Lives, PlansBound, FinishesPlan, NeverRejoins}
 
+-- the route as it is if another module makes and checks the authenticators
+abbrev pub as_freshness_only : RathonsiRoute → RathonsiRoute
+as_freshness_only r = record r { freshness_only = 1 }
+
 -- the freshness is one to the window above the counter
 pub record WithinWindow (counter window freshness : ℕ) : Type 0 where
   pub above : counter < freshness

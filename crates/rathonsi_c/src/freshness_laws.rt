@@ -1,18 +1,22 @@
 //! What is true of the calls of a freshness manager: the contract of each function is the law, and its body is empty.
 //! The laws over all lives ([`crate::laws`]) hold of them, too: `sends` and `accepts` are their deeds as well.
-ghost use Rattle.std.specs.Prelude.{◌≡◌, ℕ, ◌+◌, ◌*◌, ◌%◌, ◌^◌, ◌<◌, ◌≤◌, ◌↔◌, ℤ, List};
+ghost use Rattle.std.specs.Prelude.{◌≡◌, ℕ, ◌+◌, ◌-◌, ◌*◌, ◌%◌, ◌^◌, ◌<◌, ◌≤◌, ◌↔◌, ℤ, List, length, take, drop};
 ghost use Rattle.freshness_routes.specs.declared.routes.Direction.{Direction};
 ghost use Rattle.freshness_routes.specs.declared.routes.Direction.TheVariants.{Receives, Sends};
-ghost use Rattle.secured_pdu.specs.Frame.{Ahead, AheadWithBits, TakesBits};
+ghost use Rattle.secured_pdu.specs.Frame.{Ahead, AheadWithBits, TakesBits, IsPayload};
+ghost use Rattle.secured_pdu.specs.Verdict.{low_of};
 ghost use Rattle.store_plan.specs.declared.planning.Plan.{Plan};
 ghost use Rattle.rathonsi_c.specs.Images.{ImageBound};
 ghost use Rattle.rathonsi_c.specs.Routes.{InUse, IsFreshnessOnly, BoundCovers, Reserves};
 ghost use Rattle.freshness_store.specs.Bound.{direction_number};
 ghost use Rattle.rathonsi_c.specs.Lives.{PlanDone, Memory, PoweredUp};
 ghost use Rattle.rathonsi_c.specs.Freshness.{WithinWindow, CandidateWrites, AskedWrites};
-ghost use Rattle.rathonsi_c.specs.Freshness.{NextAnswers, CandidateAnswers, AcceptAnswers};
+ghost use Rattle.rathonsi_c.specs.Freshness.{NextAnswers, CandidateAnswers, AcceptAnswers, as_freshness_only};
+ghost use Rattle.rathonsi_c.specs.Steps.{SendInputAnswers, CandidateOf, ReceiveMacAnswers};
 ghost use Rattle.rathonsi_c.specs.declared.TheConstants.{OK, RESERVE};
 ghost use Rattle.rathonsi_c.specs.declared.route.RathonsiRoute.{RathonsiRoute};
+ghost use Rattle.rathonsi_c.specs.declared.secoc.RathonsiVerdict.{RathonsiVerdict};
+ghost use Rattle.rathonsi_c.specs.declared.steps.RathonsiInput.{RathonsiInput};
 
 /// A candidate is the only freshness within the window that has its low bits (`alone`). That of eight bits is the one
 /// that `rathonsi_route_receive` takes for a PDU with this low byte (`low_byte`).
@@ -63,4 +67,22 @@ pub fn candidates_make_few_writes()
         → (first.routes k).direction ≡ direction_number Receives → 1 ≤ reserve
         → AskedWrites m n k reserve window first last
         → m * reserve + (first.routes k).counter < (last.routes k).counter + window + reserve }
+{}
+
+/// A send and a receive in two steps are these calls, with the authenticator of profile 1 in between; and those in one
+/// step are the ones in two ([`crate::step_laws`]). Of an open route a send has the status of `rathonsi_freshness_next`
+/// (`sent`). If a PDU has the authenticator of its input, its verdict has the status of the candidate of its low byte, which
+/// is that of the accept of its freshness (`received`). The counter moves in the same way: `RouteAdvances` is the contract
+/// of all of them.
+pub fn send_and_receive_are_these_calls()
+    ensures sent { (r : RathonsiRoute) (image payload : List ℕ) (status told : ℤ) → ¬ IsFreshnessOnly r → InUse r Sends
+        → IsPayload payload → SendInputAnswers r image payload status
+        → NextAnswers (as_freshness_only r) image told → status ≡ told }
+    ensures received { (r : RathonsiRoute) (image pdu mac : List ℕ) (bound : ℕ) (input : RathonsiInput)
+        (verdict : RathonsiVerdict) (told taken : ℤ) → ¬ IsFreshnessOnly r → InUse r Receives
+        → ImageBound image r.cell r.data_id Receives bound → CandidateOf r pdu input
+        → drop (length pdu - 3) pdu ≡ take 3 mac → ReceiveMacAnswers r image pdu input mac verdict
+        → CandidateAnswers (as_freshness_only r) image (low_of pdu) 8 told
+        → AcceptAnswers (as_freshness_only r) image input.freshness taken
+        → (verdict.status ≡ told) × ((told ≡ taken) × (verdict.freshness ≡ input.freshness)) }
 {}

@@ -244,31 +244,32 @@ module _ (P : List (List ℕ) → Type 0) (s : SealSizes) (f after : PartFlash) 
 
   -- ---- each start
 
-  whole_rests : Rests P s.log f → (d : FoundDeed) → IsLatestDeed s.log seen d → WholeOf s.log seen d
-  whole_rests (rests_in b g last cur chain copy now i) d l = whole_in b g last cur chain copy now i d l
-  whole_rests (rests_at m g last cur chain b copy i) d l = whole_at m g last cur chain b copy i d l
+  module _ (limit : ℕ) where
+    whole_rests : Rests P s.log limit f → (d : FoundDeed) → IsLatestDeed s.log seen d → WholeOf s.log seen d
+    whole_rests (rests_in b g last cur chain copy now i need enough ends) d l = whole_in b g last cur chain copy now i d l
+    whole_rests (rests_at m g last cur chain b copy i left home) d l = whole_at m g last cur chain b copy i d l
 
-  two_rests : Rests P s.log f → (t : ℕ) → HasTwoLatestIn (IsDeedPlace s.log) seen t → ⊥
-  two_rests (rests_in b g last cur chain copy now i) t two = two_in b g last cur chain copy now i t two
-  two_rests (rests_at m g last cur chain b copy i) t two = two_at m g last cur chain b copy i t two
+    two_rests : Rests P s.log limit f → (t : ℕ) → HasTwoLatestIn (IsDeedPlace s.log) seen t → ⊥
+    two_rests (rests_in b g last cur chain copy now i need enough ends) t two = two_in b g last cur chain copy now i t two
+    two_rests (rests_at m g last cur chain b copy i left home) t two = two_at m g last cur chain b copy i t two
 
-  some_rests : Rests P s.log f → HasNoDeedIn (IsDeedPlace s.log) seen → ⊥
-  some_rests (rests_in b g last cur chain copy now i) none = none b last g cur (last_inside b g last cur chain copy now i) (last_read b g last cur chain copy now i)
-  some_rests (rests_at m g last cur chain b copy i) none = none m last g cur (move_inside m g last cur chain b copy i) (move_read m g last cur chain b copy i)
+    some_rests : Rests P s.log limit f → HasNoDeedIn (IsDeedPlace s.log) seen → ⊥
+    some_rests (rests_in b g last cur chain copy now i need enough ends) none = none b last g cur (last_inside b g last cur chain copy now i) (last_read b g last cur chain copy now i)
+    some_rests (rests_at m g last cur chain b copy i left home) none = none m last g cur (move_inside m g last cur chain b copy i) (move_read m g last cur chain b copy i)
 
-  not_new : Rests P s.log f → IsLogNew s.log seen → ⊥
-  not_new i (has_no_deed none) = some_rests i none
-  not_new i (is_begun d xs l lines chain new) = (whole_rests i d l).1.1.old new
+    not_new : Rests P s.log limit f → IsLogNew s.log seen → ⊥
+    not_new i (has_no_deed none) = some_rests i none
+    not_new i (is_begun d xs l lines chain new) = (whole_rests i d l).1.1.old new
 
-  not_damaged : Rests P s.log f → IsLogDamaged s.log seen → ⊥
-  not_damaged i (has_two_latest t two) = two_rests i t two
-  not_damaged i (lacks_line d l lost) = (whole_rests i d l).1.1.lines lost
-  not_damaged i (lacks_deed d l none) = (let w = whole_rests i d l in none w.0 w.1.1.followed)
-  not_damaged i (lacks_copy d l old none) = (let w = whole_rests i d l in none w.1.0 w.1.1.home)
-  not_damaged i (lacks_home_line d l lost) = (whole_rests i d l).1.1.home_lines lost
+    not_damaged : Rests P s.log limit f → IsLogDamaged s.log seen → ⊥
+    not_damaged i (has_two_latest t two) = two_rests i t two
+    not_damaged i (lacks_line d l lost) = (whole_rests i d l).1.1.lines lost
+    not_damaged i (lacks_deed d l none) = (let w = whole_rests i d l in none w.0 w.1.1.followed)
+    not_damaged i (lacks_copy d l old none) = (let w = whole_rests i d l in none w.1.0 w.1.1.home)
+    not_damaged i (lacks_home_line d l lost) = (whole_rests i d l).1.1.home_lines lost
 
-  pub finds_store : Rests P s.log f → (end : StartEnd) (cells : List (List ℕ)) → StartFinds s.log seen end cells → (end ≢ NoStore) × (end ≢ Damaged)
-  finds_store i NoStore cells x = absurd (not_new i x)
-  finds_store i Damaged cells x = absurd (not_damaged i x)
-  finds_store i Exhausted cells x = (λ e. absurd (cc), λ e. absurd (cc))
-  finds_store i (Found found) cells x = (λ e. absurd (cc), λ e. absurd (cc))
+    pub finds_store : Rests P s.log limit f → (end : StartEnd) (cells : List (List ℕ)) → StartFinds s.log seen end cells → (end ≢ NoStore) × (end ≢ Damaged)
+    finds_store i NoStore cells x = absurd (not_new i x)
+    finds_store i Damaged cells x = absurd (not_damaged i x)
+    finds_store i Exhausted cells x = (λ e. absurd (cc), λ e. absurd (cc))
+    finds_store i (Found found) cells x = (λ e. absurd (cc), λ e. absurd (cc))

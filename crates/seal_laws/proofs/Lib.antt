@@ -1,10 +1,14 @@
 pub mod Flashes
 pub mod Sealed
+pub mod Within
 pub mod Writing
 pub mod Moving
 pub mod Starting
 pub mod StartingMoved
 pub mod Erasing
 pub mod Finding
+pub mod Jamming
 pub mod Resting
 pub mod Living
+pub mod Bounds
+pub mod Resets

@@ -1,6 +1,6 @@
 -- What holds of a part of blanks in all lives of a store.
 use Rattle.std.proofs.Common.{◌≡◌, ◌≢◌, ◌⊎◌, inl, inr, ℕ, suc, ◌+◌, ◌-◌, ◌<◌, ◌≤◌, true, Some, None, List, [], ◌∷◌, ◌++◌, length, set, refl, sym, ap, subst, ◌∙◌, arith}
-use Rattle.std.proofs.lemmas.Bool.{cases_eq}
+use Rattle.std.proofs.lemmas.Bool.{cases_lt, cases_eq}
 use Rattle.std.proofs.lemmas.Option.{same_Some}
 use Rattle.std.proofs.lemmas.List.{length-set}
 use Rattle.seal_parts.specs.declared.PartClass.TheVariants.{Blanks}
@@ -21,10 +21,12 @@ use Rattle.seal_logs.specs.Reads.{MakesOf, after_body}
 use Rattle.seal_laws.specs.declared.SealSizes.{SealSizes}
 use Rattle.seal_laws.specs.declared.SealPoint.{SealPoint}
 use Rattle.seal_laws.specs.Writes.{seal_line, deed_of, deed_writes, copy_writes, put_deed, put_writes, bank_after, move_deed, move_writes, first_writes, start_writes, started_at, put_on, moved_on, FitsPut, FitsMove}
+use Rattle.seal_laws.specs.Wear.{cut_places}
 use Rattle.seal_laws.specs.Lives.{seal_off, seal_ready, SealMachine, SealEvent, starts, puts_cell, makes_anew, cuts_start, cuts_puts, cuts_anew, rests, StartsSeal, CutsStartSeal, cuts_reads, cuts_writes, PutsSeal, goes_next, goes_on, CutsPutSeal, cuts_next, cuts_on, MakesAnewSeal, CutsAnewSeal, DoesSealEvent, SealLives, MayMakeSeal, PossibleSeal, FindsSeal, FormattedSeal, OnlyResets}
 use Rattle.seal_laws.proofs.Flashes.{firm_line, firm_reads, blank_no_content, Extends, chain_extends, chain_before, read_leaves, deed_done, done_firm, done_closed, LeavesBank, copy_done, deed_may, copy_may, does_both, may_both}
 use Rattle.seal_laws.proofs.Sealed.{OlderIn, FreeFrom, SoundBank, HasDeeds, in_bank_more, at_move_more, free_here, deeds_on}
-use Rattle.seal_laws.proofs.Writing.{Rests, rests_in, rests_at, Ready, ready_in, ready_at, rests_ready, ready_line_may, move_on, next_left, next_done}
+use Rattle.seal_laws.proofs.Within.{whole_within, left_whole}
+use Rattle.seal_laws.proofs.Writing.{Rests, rests_in, rests_at, Ready, ready_in, ready_at, rests_ready, ready_within, ready_line_may, move_on, next_left, next_done}
 use Rattle.seal_laws.proofs.Moving.{home_ready, move_done, move_whole, move_cut, move_may}
 use Rattle.seal_laws.proofs.StartingMoved.{start_leaves}
 use Rattle.seal_laws.proofs.Finding.{finds_store}
@@ -32,25 +34,25 @@ use Rattle.seal_laws.proofs.Resting.{nothing_written, nothing_moved}
 
 -- ---- more cells may be, and which are
 
-pub rests_more : (P Q : List (List ℕ) → Type 0) (s : LogSizes) (f : PartFlash) → ((c : List (List ℕ)) → P c → Q c) → Rests P s f → Rests Q s f
-rests_more P Q s f more (rests_in b g last cur chain copy now i) = rests_in b g last cur chain copy now (in_bank_more P Q more s f b g last cur chain copy now i)
-rests_more P Q s f more (rests_at m g last cur chain b copy i) = rests_at m g last cur chain b copy (at_move_more P Q more s f m g last cur chain b copy i)
+pub rests_more : (P Q : List (List ℕ) → Type 0) (s : LogSizes) (limit : ℕ) (f : PartFlash) → ((c : List (List ℕ)) → P c → Q c) → Rests P s limit f → Rests Q s limit f
+rests_more P Q s limit f more (rests_in b g last cur chain copy now i need enough ends) = rests_in b g last cur chain copy now (in_bank_more P Q more s f b g last cur chain copy now i) need enough ends
+rests_more P Q s limit f more (rests_at m g last cur chain b copy i left home) = rests_at m g last cur chain b copy (at_move_more P Q more s f m g last cur chain b copy i) left home
 
-pub ready_may : (P : List (List ℕ) → Type 0) (s : LogSizes) (f : PartFlash) (p : SealPoint) (cells : List (List ℕ)) → Ready P s f p cells → P cells
-ready_may P s f p cells (ready_in b g last cur chain copy lacking i free is) = i.may
-ready_may P s f p cells (ready_at m g last cur chain b i free is) = i.may
+pub ready_may : (P : List (List ℕ) → Type 0) (s : LogSizes) (limit : ℕ) (f : PartFlash) (p : SealPoint) (cells : List (List ℕ)) → Ready P s limit f p cells → P cells
+ready_may P s limit f p cells (ready_in b g last cur chain copy lacking i enough free ends is) = i.may
+ready_may P s limit f p cells (ready_at m g last cur chain b i free left low is) = i.may
 
 -- a store that is ready has these cells, and no others may be
-pub ready_only : (P Q : List (List ℕ) → Type 0) (s : LogSizes) (f : PartFlash) (p : SealPoint) (cells : List (List ℕ)) → Q cells → Ready P s f p cells → Ready Q s f p cells
-ready_only P Q s f p cells may (ready_in b g last cur chain copy lacking i free is) = ready_in b g last cur chain copy lacking (record {
+pub ready_only : (P Q : List (List ℕ) → Type 0) (s : LogSizes) (limit : ℕ) (f : PartFlash) (p : SealPoint) (cells : List (List ℕ)) → Q cells → Ready P s limit f p cells → Ready Q s limit f p cells
+ready_only P Q s limit f p cells may (ready_in b g last cur chain copy lacking i enough free ends is) = ready_in b g last cur chain copy lacking (record {
   deeds = i.deeds;
   cells = i.cells;
   home = i.home;
   may = may;
   stand = λ k d far below held. absurd (blank_no_content (f.unit b k Line) _ (free k (omega (arith, far)) below) held);
   older = i.older;
-}) free is
-ready_only P Q s f p cells may (ready_at m g last cur chain b i free is) = ready_at m g last cur chain b (record {
+}) enough free ends is
+ready_only P Q s limit f p cells may (ready_at m g last cur chain b i free left low is) = ready_at m g last cur chain b (record {
   deeds = i.deeds;
   move = i.move;
   apart = i.apart;
@@ -62,7 +64,7 @@ ready_only P Q s f p cells may (ready_at m g last cur chain b i free is) = ready
   stand = λ k d far below held. absurd (blank_no_content (f.unit b k Line) _ (free k far below) held);
   loose = i.loose;
   older = i.older;
-}) free is
+}) free left low is
 
 body_count : (body : DeedBody) (cells : List (List ℕ)) → length (after_body body cells) ≡ length cells
 body_count Opens cells = refl
@@ -74,19 +76,19 @@ makes_count : (p : ℕ → PlaceRead) (g : ℕ) (ks : List ℕ) (cells now : Lis
 makes_count p g [] cells now h = ap (λ (z : List (List ℕ)). length z) h
 makes_count p g (k ∷ ks) cells now h = ap (λ (z : List (List ℕ)). length z) h.1.1.1.1 ∙ (body_count h.0.body h.1.1.0 ∙ makes_count p g ks cells h.1.1.0 h.1.1.1.0)
 
-ready_count : (P : List (List ℕ) → Type 0) (s : LogSizes) (f : PartFlash) (p : SealPoint) (cells : List (List ℕ)) → Ready P s f p cells → length cells ≡ s.cells
-ready_count P s f p cells (ready_in b g last cur chain copy lacking i free is) = makes_count (firm_reads f b) g chain copy cells i.cells.makes ∙ i.cells.count
-ready_count P s f p cells (ready_at m g last cur chain b i free is) = i.count
+ready_count : (P : List (List ℕ) → Type 0) (s : LogSizes) (limit : ℕ) (f : PartFlash) (p : SealPoint) (cells : List (List ℕ)) → Ready P s limit f p cells → length cells ≡ s.cells
+ready_count P s limit f p cells (ready_in b g last cur chain copy lacking i enough free ends is) = makes_count (firm_reads f b) g chain copy cells i.cells.makes ∙ i.cells.count
+ready_count P s limit f p cells (ready_at m g last cur chain b i free left low is) = i.count
 
 -- ---- the machine
 
-pub data Stands (P : List (List ℕ) → Type 0) (s : SealSizes) (a : SealMachine) : Type 0 where
-  stands_off : a.stage ≡ seal_off → Rests P s.log a.flash → Stands P s a
-  stands_ready : (p : SealPoint) (cells : List (List ℕ)) → a.stage ≡ seal_ready p cells → Ready P s.log a.flash p cells → Stands P s a
+pub data Stands (P : List (List ℕ) → Type 0) (s : SealSizes) (limit : ℕ) (a : SealMachine) : Type 0 where
+  stands_off : a.stage ≡ seal_off → Rests P s.log limit a.flash → Stands P s limit a
+  stands_ready : (p : SealPoint) (cells : List (List ℕ)) → a.stage ≡ seal_ready p cells → Ready P s.log limit a.flash p cells → Stands P s limit a
 
-pub stands_more : (P Q : List (List ℕ) → Type 0) (s : SealSizes) (a : SealMachine) → ((c : List (List ℕ)) → P c → Q c) → Stands P s a → Stands Q s a
-stands_more P Q s a more (stands_off e i) = stands_off e (rests_more P Q s.log a.flash more i)
-stands_more P Q s a more (stands_ready p cells e i) = stands_ready p cells e (ready_only P Q s.log a.flash p cells (more cells (ready_may P s.log a.flash p cells i)) i)
+pub stands_more : (P Q : List (List ℕ) → Type 0) (s : SealSizes) (limit : ℕ) (a : SealMachine) → ((c : List (List ℕ)) → P c → Q c) → Stands P s limit a → Stands Q s limit a
+stands_more P Q s limit a more (stands_off e i) = stands_off e (rests_more P Q s.log limit a.flash more i)
+stands_more P Q s limit a more (stands_ready p cells e i) = stands_ready p cells e (ready_only P Q s.log limit a.flash p cells (more cells (ready_may P s.log limit a.flash p cells i)) i)
 
 not_off : (p : SealPoint) (cells : List (List ℕ)) → seal_off ≡ seal_ready p cells → ⊥
 not_off p cells e = absurd (cc)
@@ -97,119 +99,215 @@ one_point p q cells now e = cc
 one_list : (p q : SealPoint) (cells now : List (List ℕ)) → seal_ready p cells ≡ seal_ready q now → cells ≡ now
 one_list p q cells now e = cc
 
-module _ (P : List (List ℕ) → Type 0) (s : SealSizes) (a : SealMachine) where
-  pub off_rests : Stands P s a → Rests P s.log a.flash
-  off_rests (stands_off e i) = i
-  off_rests (stands_ready p cells e i) = rests_ready P s.log a.flash p cells i
+-- a bank is full if a put doesn't fit
+full_within : (s : SealSizes) (limit : ℕ) (p : SealPoint) → (FitsPut s p → ⊥) → p.next + p.lacking ≤ limit → s.log.places ≤ limit + s.reserve
+full_within s limit p full within = elim (cases_lt (p.next + (p.lacking - 1) + s.reserve) s.log.places) [
+  | inl less ↦ absurd (full less)
+  | inr far ↦ omega (arith, far, within)
+]
 
-  pub ready_stands : (p : SealPoint) (cells : List (List ℕ)) → a.stage ≡ seal_ready p cells → Stands P s a → Ready P s.log a.flash p cells
+module _ (P : List (List ℕ) → Type 0) (s : SealSizes) (limit : ℕ) (a : SealMachine) where
+  pub off_rests : Stands P s limit a → Rests P s.log limit a.flash
+  off_rests (stands_off e i) = i
+  off_rests (stands_ready p cells e i) = rests_ready P s.log limit a.flash p cells i
+
+  pub ready_stands : (p : SealPoint) (cells : List (List ℕ)) → a.stage ≡ seal_ready p cells → Stands P s limit a → Ready P s.log limit a.flash p cells
   ready_stands p cells is (stands_off e i) = absurd (not_off p cells (sym e ∙ is))
   ready_stands p cells is (stands_ready q now e i) =
       let same = sym e ∙ is in
-      subst (λ (z : SealPoint). Ready P s.log a.flash z cells) (one_point q p now cells same) (subst (λ (z : List (List ℕ)). Ready P s.log a.flash q z) (one_list q p now cells same) i)
+      subst (λ (z : SealPoint). Ready P s.log limit a.flash z cells) (one_point q p now cells same) (subst (λ (z : List (List ℕ)). Ready P s.log limit a.flash q z) (one_list q p now cells same) i)
 
 -- ---- one event
 
 abbrev pub After : SealEvent → (List (List ℕ) → Type 0) → List (List ℕ) → Type 0
 After event P c = (old : List (List ℕ)) × (P old × MayMakeSeal event old c)
 
-module _ (P : List (List ℕ) → Type 0) (s : SealSizes) (two : 2 ≤ s.log.banks) (a b : SealMachine) (i : Stands P s a) where
-  after_starts : StartsSeal Blanks s a b → Stands (After starts P) s b
+-- what a put makes of the limit: one place more, within the reserve; or that of a new bank, and then the old one was full
+abbrev pub PutLimit : (s : SealSizes) (cell : ℕ) (payload : List ℕ) (a b : SealMachine) → PutsSeal Blanks s cell payload a b → ℕ → ℕ → Type 0
+PutLimit s cell payload a b (goes_next p cells fits below w) old new = (new ≤ suc old) × (new + s.reserve ≤ s.log.places)
+PutLimit s cell payload a b (goes_on p cells full fits below w) old new = (new ≡ s.log.cells + 2) × (s.log.places ≤ old + s.reserve)
+
+-- .. and each event
+abbrev pub LimitAfter : (s : SealSizes) (event : SealEvent) (a b : SealMachine) → DoesSealEvent Blanks s event a b → ℕ → ℕ → Type 0
+LimitAfter s (puts_cell cell payload) a b x old new = PutLimit s cell payload a b x old new
+LimitAfter s (makes_anew made) a b x old new = new ≡ s.log.cells + 2
+LimitAfter s starts a b x old new = new ≤ old + cut_places starts
+LimitAfter s cuts_start a b x old new = new ≤ old + cut_places cuts_start
+LimitAfter s (cuts_puts cell payload) a b x old new = new ≤ old + cut_places (cuts_puts cell payload)
+LimitAfter s (cuts_anew made) a b x old new = new ≤ old + cut_places (cuts_anew made)
+LimitAfter s rests a b x old new = new ≤ old + cut_places rests
+
+pub record StandsAfter (Q : List (List ℕ) → Type 0) (s : SealSizes) (b : SealMachine) (Limit : ℕ → Type 0) : Type 0 where
+  pub limit : ℕ
+  pub least : s.log.cells + 2 ≤ limit
+  pub is : Limit limit
+  pub stands : Stands Q s limit b
+
+module _ (P : List (List ℕ) → Type 0) (s : SealSizes) (two : 2 ≤ s.log.banks) (limit : ℕ) (least : s.log.cells + 2 ≤ limit) (a b : SealMachine) (i : Stands P s limit a) where
+  after_starts : StartsSeal Blanks s a b → StandsAfter (After starts P) s b (λ (n : ℕ). n ≤ limit + 0)
   after_starts x =
       let between : x.between ≡ a.flash = read_leaves a.flash x.between x.finds.view x.finds.reads in
-      let leaves = start_leaves P s a.flash x.between x.finds.view x.finds.reads x.found x.cells (off_rests P s a i) x.finds.finds in
+      let leaves = start_leaves P s a.flash x.between x.finds.view x.finds.reads x.found x.cells limit (off_rests P s limit a i) x.finds.finds in
       let ready = leaves.does b.flash (subst (λ (z : PartFlash). DoesPartWrites Blanks (start_writes Blanks s x.found) z b.flash) between x.writes) in
       let point = started_at s x.found x.found.latest.deed.body in
-      stands_ready point x.cells x.now (ready_only P (After starts P) s.log b.flash point x.cells (x.cells, (ready_may P s.log b.flash point x.cells ready, refl)) ready)
+      record {
+        limit = limit;
+        least = least;
+        is = omega arith;
+        stands = stands_ready point x.cells x.now (ready_only P (After starts P) s.log limit b.flash point x.cells (x.cells, (ready_may P s.log limit b.flash point x.cells ready, refl)) ready);
+      }
 
-  after_cut_start : CutsStartSeal Blanks s a b → Stands (After cuts_start P) s b
-  after_cut_start (cuts_reads view was reads off) = stands_off off (rests_more P (After cuts_start P) s.log b.flash (λ c may. (c, (may, refl)))
-      (subst (λ (z : PartFlash). Rests P s.log z) (sym (read_leaves a.flash b.flash view reads)) (off_rests P s a i)))
+  after_cut_start : CutsStartSeal Blanks s a b → StandsAfter (After cuts_start P) s b (λ (n : ℕ). n ≤ limit + 1)
+  after_cut_start (cuts_reads view was reads off) = record {
+    limit = limit;
+    least = least;
+    is = omega arith;
+    stands = stands_off off (rests_more P (After cuts_start P) s.log limit b.flash (λ c may. (c, (may, refl)))
+        (subst (λ (z : PartFlash). Rests P s.log limit z) (sym (read_leaves a.flash b.flash view reads)) (off_rests P s limit a i)));
+  }
   after_cut_start (cuts_writes found cells between finds cuts off) =
       let same : between ≡ a.flash = read_leaves a.flash between finds.view finds.reads in
-      let leaves = start_leaves P s a.flash between finds.view finds.reads found cells (off_rests P s a i) finds.finds in
-      stands_off off (rests_more P (After cuts_start P) s.log b.flash (λ c may. (c, (may, refl)))
-      (leaves.cuts b.flash (subst (λ (z : PartFlash). CutsPartWrites Blanks (start_writes Blanks s found) z b.flash) same cuts)))
+      let leaves = start_leaves P s a.flash between finds.view finds.reads found cells limit (off_rests P s limit a i) finds.finds in
+      record {
+        limit = suc limit;
+        least = omega (arith, least);
+        is = omega arith;
+        stands = stands_off off (rests_more P (After cuts_start P) s.log (suc limit) b.flash (λ c may. (c, (may, refl)))
+            (leaves.cuts b.flash (subst (λ (z : PartFlash). CutsPartWrites Blanks (start_writes Blanks s found) z b.flash) same cuts)));
+      }
 
   -- a store that is ready is written: these cells, or those that are made of them
   module _ (p : SealPoint) (cells made : List (List ℕ)) (was : a.stage ≡ seal_ready p cells) where
     abbrev Either : List (List ℕ) → Type 0
     Either c = (c ≡ cells) ⊎ (c ≡ made)
 
-    ready : Ready P s.log a.flash p cells
-    ready = ready_stands P s a p cells was i
+    ready : Ready P s.log limit a.flash p cells
+    ready = ready_stands P s limit a p cells was i
 
-    either : Ready Either s.log a.flash p cells
-    either = ready_only P Either s.log a.flash p cells (inl refl) ready
+    either : Ready Either s.log limit a.flash p cells
+    either = ready_only P Either s.log limit a.flash p cells (inl refl) ready
 
     may : P cells
-    may = ready_may P s.log a.flash p cells ready
+    may = ready_may P s.log limit a.flash p cells ready
 
-    after_ready : (event : SealEvent) (q : SealPoint) → MayMakeSeal event cells made → b.stage ≡ seal_ready q made → Ready Either s.log b.flash q made → Stands (After event P) s b
-    after_ready event q makes now r = stands_ready q made now (ready_only Either (After event P) s.log b.flash q made (cells, (may, makes)) r)
+    after_ready : (event : SealEvent) (q : SealPoint) (more : ℕ) → MayMakeSeal event cells made → b.stage ≡ seal_ready q made → Ready Either s.log more b.flash q made → Stands (After event P) s more b
+    after_ready event q more makes now r = stands_ready q made now (ready_only Either (After event P) s.log more b.flash q made (cells, (may, makes)) r)
 
-    after_cut : (event : SealEvent) → MayMakeSeal event cells cells → MayMakeSeal event cells made → b.stage ≡ seal_off → Rests Either s.log b.flash → Stands (After event P) s b
-    after_cut event same makes now r = stands_off now (rests_more Either (After event P) s.log b.flash (λ c x. elim x [
-      | inl e ↦ (cells, (may, subst (λ (z : List (List ℕ)). MayMakeSeal event cells z) (sym e) same))
-      | inr e ↦ (cells, (may, subst (λ (z : List (List ℕ)). MayMakeSeal event cells z) (sym e) makes))
-    ]) r)
+    -- a cut takes two places more
+    after_cut : (event : SealEvent) → MayMakeSeal event cells cells → MayMakeSeal event cells made → b.stage ≡ seal_off → Rests Either s.log (limit + 2) b.flash → StandsAfter (After event P) s b (λ (n : ℕ). n ≤ limit + 2)
+    after_cut event same makes now r = record {
+      limit = limit + 2;
+      least = omega (arith, least);
+      is = omega arith;
+      stands = stands_off now (rests_more Either (After event P) s.log (limit + 2) b.flash (λ c x. elim x [
+        | inl e ↦ (cells, (may, subst (λ (z : List (List ℕ)). MayMakeSeal event cells z) (sym e) same))
+        | inr e ↦ (cells, (may, subst (λ (z : List (List ℕ)). MayMakeSeal event cells z) (sym e) makes))
+      ]) r);
+    }
+
+    most : p.next + p.lacking + 1 < limit + 2
+    most = (let x = (ready_within P s.log limit a.flash p cells ready).0 in omega (arith, x))
 
     module _ (count : length made ≡ length cells) (fits : FitsMove s p) where
       counted : length made ≡ s.log.cells
-      counted = count ∙ ready_count P s.log a.flash p cells ready
+      counted = count ∙ ready_count P s.log limit a.flash p cells ready
 
-      moved : DoesPartWrites Blanks (move_writes Blanks s p made) a.flash b.flash → Ready Either s.log b.flash (moved_on s p) made
-      moved does = move_done Either s two p cells made counted (inr refl) fits a.flash b.flash either does
+      moved : DoesPartWrites Blanks (move_writes Blanks s p made) a.flash b.flash → Ready Either s.log (s.log.cells + 2) b.flash (moved_on s p) made
+      moved does = move_done Either s two p cells made counted (inr refl) fits limit a.flash b.flash either does
 
-      cut_move : CutsPartWrites Blanks (move_writes Blanks s p made) a.flash b.flash → Rests Either s.log b.flash
-      cut_move cuts = move_cut Either s two p cells made counted (inr refl) fits a.flash b.flash either cuts
+      cut_move : CutsPartWrites Blanks (move_writes Blanks s p made) a.flash b.flash → Rests Either s.log (limit + 2) b.flash
+      cut_move cuts = move_cut Either s two p cells made counted (inr refl) fits limit (limit + 2) (omega arith) most a.flash b.flash either cuts
 
   place_of : (p : SealPoint) → FitsPut s p → p.next < s.log.places
   place_of p fits = omega (arith, fits)
 
-  after_puts : (cell : ℕ) (payload : List ℕ) → PutsSeal Blanks s cell payload a b → Stands (After (puts_cell cell payload) P) s b
+  after_puts : (cell : ℕ) (payload : List ℕ) (x : PutsSeal Blanks s cell payload a b) → StandsAfter (After (puts_cell cell payload) P) s b (λ (n : ℕ). PutLimit s cell payload a b x limit n)
   after_puts cell payload (goes_next p cells fits below w) =
       let made = set cells cell payload in
-      let n = next_done (Either p cells made w.was) s.log a.flash b.flash cells (Puts cell payload) tt (inr refl) p (either p cells made w.was) (place_of p fits) w.does in
-      after_ready p cells made w.was (puts_cell cell payload) (put_on p) refl w.now (ready_in p.bank p.generation p.next n.cur n.chain n.copy (p.lacking - 1) n.bank n.free refl)
+      let n = next_done (Either p cells made w.was) s.log a.flash b.flash cells (Puts cell payload) tt (inr refl) limit p (either p cells made w.was) (place_of p fits) w.does in
+      let within = ready_within P s.log limit a.flash p cells (ready p cells made w.was) in
+      let within_more = within.0 in
+      let within_least = within.1 in
+      let more : ℕ = suc p.next + (p.lacking - 1) in
+      record {
+        limit = more;
+        least = omega (arith, within_least);
+        is = (omega (arith, within_more), omega (arith, fits));
+        stands = after_ready p cells made w.was (puts_cell cell payload) (put_on p) more refl w.now
+            (ready_in p.bank p.generation p.next n.cur n.chain n.copy (p.lacking - 1) n.bank n.long n.whole.free (whole_within n.whole (omega arith)) refl);
+      }
   after_puts cell payload (goes_on p cells full fits below w) =
       let made = set cells cell payload in
-      after_ready p cells made w.was (puts_cell cell payload) (moved_on s p) refl w.now (moved p cells made w.was (length-set _ _ _) fits w.does)
+      let within = (ready_within P s.log limit a.flash p cells (ready p cells made w.was)).0 in
+      record {
+        limit = s.log.cells + 2;
+        least = omega arith;
+        is = (refl, full_within s limit p full within);
+        stands = after_ready p cells made w.was (puts_cell cell payload) (moved_on s p) (s.log.cells + 2) refl w.now (moved p cells made w.was (length-set _ _ _) fits w.does);
+      }
 
-  after_anew : (made : List (List ℕ)) → MakesAnewSeal Blanks s made a b → Stands (After (makes_anew made) P) s b
-  after_anew made x = after_ready x.point x.cells made x.writes.was (makes_anew made) (moved_on s x.point) refl x.writes.now (moved x.point x.cells made x.writes.was x.count x.fits x.writes.does)
+  after_anew : (made : List (List ℕ)) → MakesAnewSeal Blanks s made a b → StandsAfter (After (makes_anew made) P) s b (λ (n : ℕ). n ≡ s.log.cells + 2)
+  after_anew made x = record {
+    limit = s.log.cells + 2;
+    least = omega arith;
+    is = refl;
+    stands = after_ready x.point x.cells made x.writes.was (makes_anew made) (moved_on s x.point) (s.log.cells + 2) refl x.writes.now (moved x.point x.cells made x.writes.was x.count x.fits x.writes.does);
+  }
 
-  after_cut_put : (cell : ℕ) (payload : List ℕ) → CutsPutSeal Blanks s cell payload a b → Stands (After (cuts_puts cell payload) P) s b
+  after_cut_put : (cell : ℕ) (payload : List ℕ) → CutsPutSeal Blanks s cell payload a b → StandsAfter (After (cuts_puts cell payload) P) s b (λ (n : ℕ). n ≤ limit + 2)
   after_cut_put cell payload (cuts_next p cells fits below w) =
       let made = set cells cell payload in
       after_cut p cells made w.was (cuts_puts cell payload) (inl refl) (inr refl) w.now
-      (next_left (Either p cells made w.was) s.log a.flash b.flash cells (Puts cell payload) tt (inr refl) p (either p cells made w.was) (place_of p fits) w.cuts)
+      (next_left (Either p cells made w.was) s.log a.flash b.flash cells (Puts cell payload) tt (inr refl) limit (limit + 2) (omega arith) p (either p cells made w.was) (place_of p fits) (most p cells made w.was) w.cuts)
   after_cut_put cell payload (cuts_on p cells full fits below w) =
       let made = set cells cell payload in
       after_cut p cells made w.was (cuts_puts cell payload) (inl refl) (inr refl) w.now (cut_move p cells made w.was (length-set _ _ _) fits w.cuts)
 
-  after_cut_anew : (made : List (List ℕ)) → CutsAnewSeal Blanks s made a b → Stands (After (cuts_anew made) P) s b
+  after_cut_anew : (made : List (List ℕ)) → CutsAnewSeal Blanks s made a b → StandsAfter (After (cuts_anew made) P) s b (λ (n : ℕ). n ≤ limit + 2)
   after_cut_anew made x = after_cut x.point x.cells made x.cuts.was (cuts_anew made) (inl refl) (inr refl) x.cuts.now (cut_move x.point x.cells made x.cuts.was x.count x.fits x.cuts.cuts)
 
-  pub after_event : (event : SealEvent) → DoesSealEvent Blanks s event a b → Stands (After event P) s b
+  pub after_event : (event : SealEvent) (x : DoesSealEvent Blanks s event a b) → StandsAfter (After event P) s b (λ (n : ℕ). LimitAfter s event a b x limit n)
   after_event starts x = after_starts x
   after_event (puts_cell cell payload) x = after_puts cell payload x
   after_event (makes_anew made) x = after_anew made x
   after_event cuts_start x = after_cut_start x
   after_event (cuts_puts cell payload) x = after_cut_put cell payload x
   after_event (cuts_anew made) x = after_cut_anew made x
-  after_event rests x = stands_off x.1 (rests_more P (After rests P) s.log b.flash (λ c may. (c, (may, refl))) (subst (λ (z : PartFlash). Rests P s.log z) (sym x.0) (off_rests P s a i)))
+  after_event rests x = record {
+    limit = limit;
+    least = least;
+    is = omega arith;
+    stands = stands_off x.1 (rests_more P (After rests P) s.log limit b.flash (λ c may. (c, (may, refl))) (subst (λ (z : PartFlash). Rests P s.log limit z) (sym x.0) (off_rests P s limit a i)));
+  }
 
 -- ---- all lives
 
 abbrev pub AfterAll : List SealEvent → (List (List ℕ) → Type 0) → List (List ℕ) → Type 0
 AfterAll events P c = (old : List (List ℕ)) × (P old × PossibleSeal events old c)
 
-pub after_lives : (P : List (List ℕ) → Type 0) (s : SealSizes) → 2 ≤ s.log.banks → (events : List SealEvent) (a b : SealMachine) → Stands P s a → SealLives Blanks s events a b → Stands (AfterAll events P) s b
-after_lives P s two [] a b i is = subst (λ (z : SealMachine). Stands (AfterAll [] P) s z) (sym is) (stands_more P (AfterAll [] P) s a (λ c may. (c, (may, refl))) i)
-after_lives P s two (event ∷ events) a b i run =
-    stands_more (AfterAll events (After event P)) (AfterAll (event ∷ events) P) s b (λ c x. (x.1.0.0, (x.1.0.1.0, (x.0, (x.1.0.1.1, x.1.1)))))
-    (after_lives (After event P) s two events run.0 b (after_event P s two a run.0 i event run.1.0) run.1.1)
+-- what these events make of the limit
+abbrev pub LimitsAfter : (s : SealSizes) (events : List SealEvent) (a c : SealMachine) → SealLives Blanks s events a c → ℕ → ℕ → Type 0
+LimitsAfter s [] a c run old new = new ≡ old
+LimitsAfter s (event ∷ events) a c run old new =
+    (between : ℕ) × (LimitAfter s event a run.0 run.1.0 old between × ((s.log.cells + 2 ≤ between) × LimitsAfter s events run.0 c run.1.1 between new))
+
+pub after_lives : (P : List (List ℕ) → Type 0) (s : SealSizes) → 2 ≤ s.log.banks → (limit : ℕ) → s.log.cells + 2 ≤ limit → (events : List SealEvent) (a b : SealMachine) → Stands P s limit a
+    → (run : SealLives Blanks s events a b) → StandsAfter (AfterAll events P) s b (λ (n : ℕ). LimitsAfter s events a b run limit n)
+after_lives P s two limit least [] a b i run = record {
+  limit = limit;
+  least = least;
+  is = refl;
+  stands = subst (λ (z : SealMachine). Stands (AfterAll [] P) s limit z) (sym run) (stands_more P (AfterAll [] P) s limit a (λ c may. (c, (may, refl))) i);
+}
+after_lives P s two limit least (event ∷ events) a b i run =
+    let one = after_event P s two limit least a run.0 i event run.1.0 in
+    let rest = after_lives (After event P) s two one.limit one.least events run.0 b one.stands run.1.1 in
+    record {
+      limit = rest.limit;
+      least = rest.least;
+      is = (one.limit, (one.is, (one.least, rest.is)));
+      stands = stands_more (AfterAll events (After event P)) (AfterAll (event ∷ events) P) s rest.limit b (λ c x. (x.1.0.0, (x.1.0.1.0, (x.0, (x.1.0.1.1, x.1.1))))) rest.stands;
+    }
 
 -- ---- the first store
 
@@ -305,7 +403,7 @@ module _ (s : SealSizes) (cells : List (List ℕ)) (a : SealMachine) (x : Format
     lines = λ k c far below held. absurd (blank_no_content (x.before.unit 0 k Line) c (x.blank 0 k Line) held);
   }
 
-  pub first_rests : Rests (λ (c : List (List ℕ)). c ≡ cells) s.log a.flash
+  pub first_rests : Rests (λ (c : List (List ℕ)). c ≡ cells) s.log (n + 2) a.flash
   first_rests =
       let room = x.fits.room in
       let two = x.fits.two in
@@ -345,81 +443,96 @@ module _ (s : SealSizes) (cells : List (List ℕ)) (a : SealMachine) (x : Format
       let m = move_on (λ (z : List (List ℕ)). z ≡ cells) s.log g3 a.flash 0 (suc (suc n)) 1 third from3 blank3 w4 below3 free3 (suc n) 1 (suc n ∷ n ∷ []) cells deeds3.sound older3 refl one_not_zero ready refl chain3
       (done_firm 0 (suc (suc n)) (seal_line 1 third) g3 a.flash last.1.1) in
       rests_at 0 1 (suc (suc n)) third (suc (suc n) ∷ suc n ∷ n ∷ []) 1 cells m.0
+      (left_whole (record { free = free_here s.log g3 a.flash 0 (suc (suc n)) 1 third from3 blank3 w4 free3; closed = done_closed 0 (suc (suc n)) (seal_line 1 third) g3 a.flash last.1.1 }))
+      (record { next = n; from = from0; free = m.1; room = omega arith })
 
-  pub first_stands : Stands (λ (c : List (List ℕ)). c ≡ cells) s a
+  pub first_stands : Stands (λ (c : List (List ℕ)). c ≡ cells) s (n + 2) a
   first_stands = stands_off x.off first_rests
 
 -- ---- the laws
 
+abbrev pub Only : List (List ℕ) → List (List ℕ) → Type 0
+Only cells c = c ≡ cells
+
 module _ (s : SealSizes) (events : List SealEvent) (first cells now : List (List ℕ)) (a b : SealMachine) where
   -- from a machine that has these cells alone
-  from_cells : (q : SealPoint) → 2 ≤ s.log.banks → Stands (λ (c : List (List ℕ)). c ≡ cells) s a → SealLives Blanks s events a b → b.stage ≡ seal_ready q now → PossibleSeal events cells now
-  from_cells q two i run is =
-      let P : List (List ℕ) → Type 0 = AfterAll events (λ (c : List (List ℕ)). c ≡ cells) in
-      let may : P now = ready_may P s.log b.flash q now (ready_stands P s b q now is (after_lives (λ (c : List (List ℕ)). c ≡ cells) s two events a b i run)) in
+  from_cells : (limit : ℕ) → s.log.cells + 2 ≤ limit → (q : SealPoint) → 2 ≤ s.log.banks → Stands (Only cells) s limit a → SealLives Blanks s events a b → b.stage ≡ seal_ready q now → PossibleSeal events cells now
+  from_cells limit least q two i run is =
+      let after = after_lives (Only cells) s two limit least events a b i run in
+      let P : List (List ℕ) → Type 0 = AfterAll events (Only cells) in
+      let may : P now = ready_may P s.log after.limit b.flash q now (ready_stands P s after.limit b q now is after.stands) in
       subst (λ (z : List (List ℕ)). PossibleSeal events z now) may.1.0 may.1.1
 
   pub formatted_lives : (q : SealPoint) → FormattedSeal Blanks s cells a → SealLives Blanks s events a b → b.stage ≡ seal_ready q now → PossibleSeal events cells now
-  formatted_lives q x run is = from_cells q x.fits.two (first_stands s cells a x) run is
+  formatted_lives q x run is = from_cells (s.log.cells + 2) (omega arith) q x.fits.two (first_stands s cells a x) run is
 
   pub later_lives : (earlier : List SealEvent) (start : SealMachine) (p q : SealPoint) → FormattedSeal Blanks s first start → SealLives Blanks s earlier start a → a.stage ≡ seal_ready p cells
       → SealLives Blanks s events a b → b.stage ≡ seal_ready q now → PossibleSeal events cells now
   later_lives earlier start p q x before was run is =
-      let P : List (List ℕ) → Type 0 = λ (c : List (List ℕ)). c ≡ first in
-      let i = after_lives P s x.fits.two earlier start a (first_stands s first start x) before in
-      let r = ready_stands (AfterAll earlier P) s a p cells was i in
-      from_cells q x.fits.two (stands_ready p cells was (ready_only (AfterAll earlier P) (λ (c : List (List ℕ)). c ≡ cells) s.log a.flash p cells refl r)) run is
+      let i = after_lives (Only first) s x.fits.two (s.log.cells + 2) (omega arith) earlier start a (first_stands s first start x) before in
+      let r = ready_stands (AfterAll earlier (Only first)) s i.limit a p cells was i.stands in
+      from_cells i.limit i.least q x.fits.two (stands_ready p cells was (ready_only (AfterAll earlier (Only first)) (Only cells) s.log i.limit a.flash p cells refl r)) run is
 
 module _ (s : SealSizes) (events : List SealEvent) (cells : List (List ℕ)) (a b : SealMachine) (x : FormattedSeal Blanks s cells a) (run : SealLives Blanks s events a b) where
   abbrev Any : List (List ℕ) → Type 0
-  Any = AfterAll events (λ (c : List (List ℕ)). c ≡ cells)
+  Any = AfterAll events (Only cells)
 
-  stands_then : Stands Any s b
-  stands_then = after_lives (λ (c : List (List ℕ)). c ≡ cells) s x.fits.two events a b (first_stands s cells a x) run
+  pub stands_then : StandsAfter Any s b (λ (n : ℕ). LimitsAfter s events a b run (s.log.cells + 2) n)
+  stands_then = after_lives (Only cells) s x.fits.two (s.log.cells + 2) (omega arith) events a b (first_stands s cells a x) run
+
+  abbrev limit : ℕ
+  limit = stands_then.limit
+
+  ready_then : (p : SealPoint) (now : List (List ℕ)) → b.stage ≡ seal_ready p now → Ready Any s.log limit b.flash p now
+  ready_then p now is = ready_stands Any s limit b p now is stands_then.stands
 
   pub start_finds : (end : StartEnd) (found : List (List ℕ)) (after : PartFlash) → FindsSeal Blanks s b end found after → (end ≢ NoStore) × (end ≢ Damaged)
-  start_finds end found after f = finds_store Any s b.flash after f.view f.reads (off_rests Any s b stands_then) end found f.finds
+  start_finds end found after f = finds_store Any s b.flash after f.view f.reads limit (off_rests Any s limit b stands_then.stands) end found f.finds
 
   pub start_may : (found : FoundStore) (now : List (List ℕ)) (after : PartFlash) → FindsSeal Blanks s b (Found found) now after → MayDoPartWrites Blanks (start_writes Blanks s found) after
   start_may found now after f = subst (λ (z : PartFlash). MayDoPartWrites Blanks (start_writes Blanks s found) z) (sym (read_leaves b.flash after f.view f.reads))
-      (start_leaves Any s b.flash after f.view f.reads found now (off_rests Any s b stands_then) f.finds).may
+      (start_leaves Any s b.flash after f.view f.reads found now limit (off_rests Any s limit b stands_then.stands) f.finds).may
 
   pub put_may : (p : SealPoint) (now : List (List ℕ)) (cell : ℕ) (payload : List ℕ) → b.stage ≡ seal_ready p now → FitsPut s p → MayDoPartWrites Blanks (put_writes Blanks p cell payload) b.flash
-  put_may p now cell payload is fits = ready_line_may Any s.log b.flash p now (seal_line p.generation (put_deed p cell payload)) (ready_stands Any s b p now is stands_then) (omega (arith, fits))
+  put_may p now cell payload is fits = ready_line_may Any s.log limit b.flash p now (seal_line p.generation (put_deed p cell payload)) (ready_then p now is) (omega (arith, fits))
 
-  pub moves_may : (p : SealPoint) (now made : List (List ℕ)) → b.stage ≡ seal_ready p now → FitsMove s p → length made ≡ length now → MayDoPartWrites Blanks (move_writes Blanks s p made) b.flash
-  moves_may p now made is fits count =
-      let Either : List (List ℕ) → Type 0 = λ (c : List (List ℕ)). (c ≡ now) ⊎ (c ≡ made) in
-      let ready = ready_stands Any s b p now is stands_then in
-      move_may Either s x.fits.two p now made (count ∙ ready_count Any s.log b.flash p now ready) (inr refl) fits b.flash (ready_only Any Either s.log b.flash p now (inl refl) ready)
+  -- a store that is ready, before these cells are made of its own
+  module _ (p : SealPoint) (now made : List (List ℕ)) (is : b.stage ≡ seal_ready p now) where
+    abbrev Both : List (List ℕ) → Type 0
+    Both c = (c ≡ now) ⊎ (c ≡ made)
+
+    ready_both : Ready Both s.log limit b.flash p now
+    ready_both = ready_only Any Both s.log limit b.flash p now (inl refl) (ready_then p now is)
+
+    count_both : length made ≡ length now → length made ≡ s.log.cells
+    count_both count = count ∙ ready_count Any s.log limit b.flash p now (ready_then p now is)
+
+    pub moves_may : FitsMove s p → length made ≡ length now → MayDoPartWrites Blanks (move_writes Blanks s p made) b.flash
+    moves_may fits count = move_may Both s x.fits.two p now made (count_both count) (inr refl) fits limit b.flash ready_both
+
+    pub nothing_after_move : (c : SealMachine) (found : FoundStore) (after : PartFlash) (read : List (List ℕ)) → FitsMove s p → length made ≡ length now
+        → DoesPartWrites Blanks (move_writes Blanks s p made) b.flash c.flash → FindsSeal Blanks s c (Found found) read after → start_writes Blanks s found ≡ []
+    nothing_after_move c found after read fits count does finds =
+        let w = move_whole Both s x.fits.two p now made (count_both count) (inr refl) fits limit b.flash c.flash ready_both does in
+        nothing_moved Both s c.flash after finds.view finds.reads found read p.bank p.generation (p.next + p.lacking) (move_deed s p) w.chain (bank_after s.log.banks p.bank) made w.move w.whole w.apart finds.finds
 
   pub nothing_after_put : (p : SealPoint) (now made : List (List ℕ)) (cell : ℕ) (payload : List ℕ) (c : SealMachine) (found : FoundStore) (after : PartFlash) → b.stage ≡ seal_ready p now → FitsPut s p
       → DoesPartWrites Blanks (put_writes Blanks p cell payload) b.flash c.flash → FindsSeal Blanks s c (Found found) made after → start_writes Blanks s found ≡ []
   nothing_after_put p now made cell payload c found after is fits does finds =
-      let Either : List (List ℕ) → Type 0 = λ (z : List (List ℕ)). (z ≡ now) ⊎ (z ≡ set now cell payload) in
-      let ready = ready_only Any Either s.log b.flash p now (inl refl) (ready_stands Any s b p now is stands_then) in
-      let n = next_done Either s.log b.flash c.flash now (Puts cell payload) tt (inr refl) p ready (omega (arith, fits)) does in
-      nothing_written Either s c.flash after finds.view finds.reads found made p.bank p.generation p.next n.cur n.chain n.copy (set now cell payload) n.bank n.free
-      (done_closed p.bank p.next (seal_line p.generation (put_deed p cell payload)) b.flash c.flash does) finds.finds
-
-  pub nothing_after_move : (p : SealPoint) (now fresh made : List (List ℕ)) (c : SealMachine) (found : FoundStore) (after : PartFlash) → b.stage ≡ seal_ready p now → FitsMove s p → length fresh ≡ length now
-      → DoesPartWrites Blanks (move_writes Blanks s p fresh) b.flash c.flash → FindsSeal Blanks s c (Found found) made after → start_writes Blanks s found ≡ []
-  nothing_after_move p now fresh made c found after is fits count does finds =
-      let Either : List (List ℕ) → Type 0 = λ (z : List (List ℕ)). (z ≡ now) ⊎ (z ≡ fresh) in
-      let ready = ready_stands Any s b p now is stands_then in
-      let w = move_whole Either s x.fits.two p now fresh (count ∙ ready_count Any s.log b.flash p now ready) (inr refl) fits b.flash c.flash (ready_only Any Either s.log b.flash p now (inl refl) ready) does in
-      nothing_moved Either s c.flash after finds.view finds.reads found made p.bank p.generation (p.next + p.lacking) (move_deed s p) w.chain (bank_after s.log.banks p.bank) fresh w.move w.free w.apart w.closed finds.finds
+      let later = set now cell payload in
+      let n = next_done (Both p now later is) s.log b.flash c.flash now (Puts cell payload) tt (inr refl) limit p (ready_both p now later is) (omega (arith, fits)) does in
+      nothing_written (Both p now later is) s c.flash after finds.view finds.reads found made p.bank p.generation p.next n.cur n.chain n.copy later n.bank n.whole finds.finds
 
 -- ---- resets while a start would write nothing
 
 module _ (s : SealSizes) (Q : PartFlash → Type 0)
     (nothing : (c : SealMachine) (found : FoundStore) (made : List (List ℕ)) (after : PartFlash) → Q c.flash → FindsSeal Blanks s c (Found found) made after → start_writes Blanks s found ≡ []) where
-  start_still : (c d : SealMachine) → Q c.flash → StartsSeal Blanks s c d → d.flash ≡ c.flash
+  pub start_still : (c d : SealMachine) → Q c.flash → StartsSeal Blanks s c d → d.flash ≡ c.flash
   start_still c d does x =
       let same : d.flash ≡ x.between = subst (λ (ws : List PartWrite). DoesPartWrites Blanks ws x.between d.flash) (nothing c x.found x.cells x.between does x.finds) x.writes in
       same ∙ read_leaves c.flash x.between x.finds.view x.finds.reads
 
-  cut_still : (c d : SealMachine) → Q c.flash → CutsStartSeal Blanks s c d → d.flash ≡ c.flash
+  pub cut_still : (c d : SealMachine) → Q c.flash → CutsStartSeal Blanks s c d → d.flash ≡ c.flash
   cut_still c d does (cuts_reads view was reads off) = read_leaves c.flash d.flash view reads
   cut_still c d does (cuts_writes found made between finds cut off) =
       absurd (subst (λ (ws : List PartWrite). CutsPartWrites Blanks ws between d.flash) (nothing c found made between does finds) cut)

@@ -1,82 +1,41 @@
 -- A start after a put or a move that was done finds a clean end.
-use Rattle.std.proofs.Common.{◌≡◌, inl, inr, ℕ, zero, suc, ◌<◌, ◌≤◌, Bool, true, if◌then◌else◌, None, List, [], ◌++◌, refl, sym, ap, subst, ◌∙◌, arith}
-use Rattle.std.proofs.lemmas.Bool.{true≢false, cases_lt, cases_eq, le-ltb}
+use Rattle.std.proofs.Common.{◌≡◌, inl, inr, ℕ, suc, ◌≤◌, Bool, if◌then◌else◌, None, List, [], ◌++◌, sym, ap, subst, ◌∙◌, arith}
+use Rattle.std.proofs.lemmas.Bool.{le-ltb}
 use Rattle.seal_parts.specs.declared.PartClass.TheVariants.{Blanks}
-use Rattle.seal_parts.specs.declared.UnitKind.TheVariants.{Line, SecondConfirm}
-use Rattle.seal_parts.specs.declared.UnitContent.TheVariants.{Mark}
+use Rattle.seal_parts.specs.declared.UnitKind.TheVariants.{Line}
 use Rattle.seal_parts.specs.declared.LogDeed.{LogDeed}
 use Rattle.seal_parts.specs.declared.DeedBody.{DeedBody}
 use Rattle.seal_parts.specs.declared.DeedBody.TheVariants.{Opens}
-use Rattle.seal_parts.specs.Parts.{PartFlash, PartView, ReadsUnits, blank_unit, whole_unit}
+use Rattle.seal_parts.specs.Parts.{PartFlash, PartView, ReadsUnits, blank_unit}
 use Rattle.seal_logs.specs.declared.finding.FoundDeed.{FoundDeed}
 use Rattle.seal_logs.specs.declared.starting.FoundStore.{FoundStore}
-use Rattle.seal_logs.specs.Reads.{LogReads, ReadsDeed, EndsBefore}
+use Rattle.seal_logs.specs.Reads.{LogReads, EndsBefore}
 use Rattle.seal_logs.specs.Starts.{IsMove, IsStoreFound, home_bank, home_generation}
-use Rattle.seal_logs.proofs.CallerLemmas.{one_deed}
 use Rattle.seal_laws.specs.declared.SealSizes.{SealSizes}
 use Rattle.seal_laws.specs.Writes.{reads_of, seal_line, deed_of, deed_writes, open_writes, start_writes}
-use Rattle.seal_laws.proofs.Flashes.{blank_no_content, reads_firm, line_held, blank_unbegun, mark_read}
-use Rattle.seal_laws.proofs.Sealed.{FreeFrom, HasDeeds, InBank, AtMove}
-use Rattle.seal_laws.proofs.Writing.{last_from, last_below}
-use Rattle.seal_laws.proofs.Starting.{FoundAt, found_at, mk, stay_not_move, latest_in, ends_at_cells}
+use Rattle.seal_laws.proofs.Flashes.{blank_no_content, line_held}
+use Rattle.seal_laws.proofs.Sealed.{FreeFrom, InBank, AtMove}
+use Rattle.seal_laws.proofs.Within.{IsWholeEnd}
+use Rattle.seal_laws.proofs.Starting.{FoundAt, found_at, mk, stay_not_move, latest_in, ends_at_cells, end_clean, end_latest}
 use Rattle.seal_laws.proofs.StartingMoved.{latest_at}
 use Rattle.seal_laws.proofs.Erasing.{clean_writes}
-
-module _ (s : SealSizes) (f after : PartFlash) (view : PartView) (reads : ReadsUnits Blanks f view after) (found : FoundStore) (cells : List (List ℕ)) (b g last : ℕ) (cur : LogDeed) (chain : List ℕ)
-    (deeds : HasDeeds s.log f b g last cur chain) (free : FreeFrom s.log f b (suc last)) (closed : f.unit b last SecondConfirm ≡ whole_unit Mark) where
-  abbrev seen : LogReads
-  seen = reads_of Blanks view
-
-  read_cur : ReadsDeed (seen b last) g cur
-  read_cur = reads_firm f after view reads b last _ deeds.is
-
-  end_is : (next : ℕ) → EndsBefore s.log (seen b) g next → next ≡ suc last
-  end_is zero ends = absurd (ends.none last (omega arith) (last_below s.log f b g last cur chain deeds) (inr (cur, read_cur)))
-  end_is (suc k) ends = elim (cases_lt last k) [
-    | inl less ↦ (
-        let under : k < s.log.places = (let z = ends.below in omega (arith, z)) in
-        let blank = free k (omega (arith, less)) under in
-        elim (ends.last k (let z = last_from s.log f b g last cur chain deeds in omega (arith, z, less)) refl) [
-          | inl begun ↦ absurd (true≢false (sym begun ∙ blank_unbegun f after view reads b k deeds.sound.erased blank))
-          | inr deed ↦ absurd (blank_no_content (f.unit b k Line) _ blank (line_held f after view reads b k _ deed.1))
-        ])
-    | inr far ↦ elim (cases_eq k last) [
-      | inl is ↦ ap suc is
-      | inr ne ↦ absurd (ends.none last (omega (arith, far, ne)) (last_below s.log f b g last cur chain deeds) (inr (cur, read_cur)))
-    ]
-  ]
-
-  module _ (p : ℕ) (d : LogDeed) (x : FoundAt s.log seen found cells (mk b p g d)) (more : last ≤ p) where
-    place_is : p ≡ last
-    place_is = elim (cases_lt last p) [
-      | inl less ↦ absurd (blank_no_content (f.unit b p Line) _ (free p (omega (arith, less)) x.whole.latest.inside.1.1) (line_held f after view reads b p _ x.whole.latest.is))
-      | inr far ↦ omega (arith, more, far)
-    ]
-
-    pub ends_clean : found.is_clean ≡ true
-    ends_clean = (let e = place_is in let n = end_is found.next x.next in
-        x.clean.1 (omega (arith, e, n), subst (λ (z : ℕ). (seen b z).is_closed ≡ true) (sym e) (mark_read f after view reads b last SecondConfirm closed)))
-
-    pub latest_is_last : d ≡ cur
-    latest_is_last = one_deed (seen b last) g d cur (subst (λ (z : ℕ). ReadsDeed (seen b z) g d) place_is x.whole.latest.is) read_cur
 
 module _ (P : List (List ℕ) → Type 0) (s : SealSizes) (f after : PartFlash) (view : PartView) (reads : ReadsUnits Blanks f view after) (found : FoundStore) (cells : List (List ℕ)) where
   abbrev seen_here : LogReads
   seen_here = reads_of Blanks view
 
   -- the log is in a bank
-  pub nothing_written : (b g last : ℕ) (cur : LogDeed) (chain : List ℕ) (copy now : List (List ℕ)) → InBank P s.log f b g last cur chain copy now → FreeFrom s.log f b (suc last)
-      → f.unit b last SecondConfirm ≡ whole_unit Mark → IsStoreFound s.log seen_here found cells → start_writes Blanks s found ≡ []
-  nothing_written b g last cur chain copy now i free closed x =
+  pub nothing_written : (b g last : ℕ) (cur : LogDeed) (chain : List ℕ) (copy now : List (List ℕ)) → InBank P s.log f b g last cur chain copy now → IsWholeEnd s.log f b last
+      → IsStoreFound s.log seen_here found cells → start_writes Blanks s found ≡ []
+  nothing_written b g last cur chain copy now i w x =
       let e = latest_in P s f after view reads b g last cur chain copy now i found.latest x.whole.latest in
       let y : FoundAt s.log seen_here found cells (mk b found.latest.place g found.latest.deed) = subst (λ (z : FoundDeed). FoundAt s.log seen_here found cells z) e.0 (found_at s.log seen_here found cells x) in
-      let clean = ends_clean s f after view reads found cells b g last cur chain i.deeds free closed found.latest.place found.latest.deed y e.1 in
-      let same = latest_is_last s f after view reads found cells b g last cur chain i.deeds free closed found.latest.place found.latest.deed y e.1 in
+      let clean = y.clean.1 (end_clean s.log f after view reads b g last cur chain i.deeds w found.latest.place found.latest.deed y.whole.latest e.1 found.next y.next) in
+      let same = end_latest s.log f after view reads b g last cur chain i.deeds w found.latest.place found.latest.deed y.whole.latest e.1 in
       clean_writes Blanks s found clean (subst (λ (z : LogDeed). IsMove z.body → ⊥) (sym same) (stay_not_move cur.body i.home))
 
   -- the log has moved, and its new bank has no deed
-  module _ (m g last : ℕ) (cur : LogDeed) (chain : List ℕ) (b : ℕ) (copy : List (List ℕ)) (i : AtMove P s.log f m g last cur chain b copy) (free : FreeFrom s.log f m (suc last)) (apart : FreeFrom s.log f b s.log.cells)
-      (closed : f.unit m last SecondConfirm ≡ whole_unit Mark) where
+  module _ (m g last : ℕ) (cur : LogDeed) (chain : List ℕ) (b : ℕ) (copy : List (List ℕ)) (i : AtMove P s.log f m g last cur chain b copy) (w : IsWholeEnd s.log f m last) (apart : FreeFrom s.log f b s.log.cells) where
     -- the latest deed is the move
     module _ (p : ℕ) (y : FoundAt s.log seen_here found cells (mk m p g cur)) (is : found.latest.deed ≡ cur) (more : last ≤ p) where
       home_is : found.home ≡ b
@@ -95,7 +54,7 @@ module _ (P : List (List ℕ) → Type 0) (s : SealSizes) (f after : PartFlash) 
 
       moved_none : start_writes Blanks s found ≡ []
       moved_none = ap (λ (c : Bool). (if c then [] else deed_writes Blanks found.latest.bank found.next (seal_line found.latest.generation found.latest.deed)) ++ open_writes Blanks s found found.latest.deed.body)
-          (ends_clean s f after view reads found cells m g last cur chain i.deeds free closed p cur y more) ∙ open_none
+          (y.clean.1 (end_clean s.log f after view reads m g last cur chain i.deeds w p cur y.whole.latest more found.next y.next)) ∙ open_none
 
     pub nothing_moved : IsStoreFound s.log seen_here found cells → start_writes Blanks s found ≡ []
     nothing_moved x = elim (latest_at P s f after view reads m g last cur chain b copy i found.latest x.whole.latest) [

@@ -297,6 +297,10 @@ pub record Before (s : LogSizes) (f : PartFlash) (b g k : ℕ) (copy : List (Lis
   pub makes : MakesOf (firm_reads f b) g ks copy between
   pub made_is : made ≡ after_body d.body between
 
+-- .. and how many deeds there are then, at least
+abbrev pub LongBefore : LogSizes → PartFlash → ℕ → ℕ → ℕ → List (List ℕ) → LogDeed → List (List ℕ) → ℕ → Type 0
+LongBefore s f b g k copy d made least = (e : Before s f b g k copy d made) × (least ≤ suc (length e.ks))
+
 module _ (s : LogSizes) (f : PartFlash) (b g last : ℕ) (cur : LogDeed) (copy now : List (List ℕ)) where
   rest_of : (chain : List ℕ) → IsChain s (firm_reads f b) g s.places (Some last) chain → (d : LogDeed) → ReadsDeed (firm_reads f b last) g d → (ks : List ℕ) × ((chain ≡ last ∷ ks) × IsChain s (firm_reads f b) g last d.prev ks)
   rest_of [] h d is = absurd h
@@ -304,23 +308,38 @@ module _ (s : LogSizes) (f : PartFlash) (b g last : ℕ) (cur : LogDeed) (copy n
       let e : h.1.1.1.0 ≡ d = one_deed (firm_reads f b last) g h.1.1.1.0 d h.1.1.1.1.0 is in
       (ks, (ap (λ (z : ℕ). z ∷ ks) h.0, subst (λ (z : LogDeed). IsChain s (firm_reads f b) g last z.prev ks) e h.1.1.1.1.1))
 
-  pub before_again : (chain : List ℕ) → HasDeeds s f b g last cur chain → MakesOf (firm_reads f b) g chain copy now → (k : ℕ) → last ≤ k → Before s f b g k copy cur now
-  before_again chain deeds makes k more =
+  -- .. again: they are as many as before
+  pub long_again : (chain : List ℕ) → HasDeeds s f b g last cur chain → MakesOf (firm_reads f b) g chain copy now → (k : ℕ) → last ≤ k → LongBefore s f b g k copy cur now (length chain)
+  long_again chain deeds makes k more =
       let rest = rest_of chain deeds.followed cur deeds.is in
       let m : MakesOf (firm_reads f b) g (last ∷ rest.0) copy now = subst (λ (ks : List ℕ). MakesOf (firm_reads f b) g ks copy now) rest.1.0 makes in
-      record {
-        ks = rest.0;
-        chain = chain_within s (firm_reads f b) g last k cur.prev rest.0 more rest.1.1;
-        between = m.1.1.0;
-        makes = m.1.1.1.0;
-        made_is = m.1.1.1.1 ∙ ap (λ (z : LogDeed). after_body z.body m.1.1.0) (one_deed (firm_reads f b last) g m.0 cur m.1.0 deeds.is);
-      }
+      let count : length chain ≡ suc (length rest.0) = ap (λ (z : List ℕ). length z) rest.1.0 in (
+        record {
+          ks = rest.0;
+          chain = chain_within s (firm_reads f b) g last k cur.prev rest.0 more rest.1.1;
+          between = m.1.1.0;
+          makes = m.1.1.1.0;
+          made_is = m.1.1.1.1 ∙ ap (λ (z : LogDeed). after_body z.body m.1.1.0) (one_deed (firm_reads f b last) g m.0 cur m.1.0 deeds.is);
+        },
+        (let e : length chain ≤ suc (length rest.0) = omega (arith, count) in e),
+      )
+
+  pub before_again : (chain : List ℕ) → HasDeeds s f b g last cur chain → MakesOf (firm_reads f b) g chain copy now → (k : ℕ) → last ≤ k → Before s f b g k copy cur now
+  before_again chain deeds makes k more = (long_again chain deeds makes k more).0
+
+  -- .. and then one more
+  pub long_next : (chain : List ℕ) → HasDeeds s f b g last cur chain → MakesOf (firm_reads f b) g chain copy now → (k : ℕ) → last < k → (body : DeedBody)
+      → LongBefore s f b g k copy (deed_of (Some last) body) (after_body body now) (suc (length chain))
+  long_next chain deeds makes k more body = (
+    record {
+      ks = chain;
+      chain = chain_before s (firm_reads f b) g s.places k (Some last) chain (λ at e. (let x = same_Some _ _ e in omega (arith, x, more))) deeds.followed;
+      between = now;
+      makes = makes;
+      made_is = refl;
+    },
+    (let e : suc (length chain) ≤ suc (length chain) = omega arith in e),
+  )
 
   pub before_next : (chain : List ℕ) → HasDeeds s f b g last cur chain → MakesOf (firm_reads f b) g chain copy now → (k : ℕ) → last < k → (body : DeedBody) → Before s f b g k copy (deed_of (Some last) body) (after_body body now)
-  before_next chain deeds makes k more body = record {
-    ks = chain;
-    chain = chain_before s (firm_reads f b) g s.places k (Some last) chain (λ at e. (let x = same_Some _ _ e in omega (arith, x, more))) deeds.followed;
-    between = now;
-    makes = makes;
-    made_is = refl;
-  }
+  before_next chain deeds makes k more body = (long_next chain deeds makes k more body).0

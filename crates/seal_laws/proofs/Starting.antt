@@ -1,5 +1,5 @@
 -- What a start finds on a part of blanks, and what its writes leave.
-use Rattle.std.proofs.Common.{◌≡◌, ◌⊎◌, ◌↔◌, inl, inr, ℕ, zero, suc, ◌<◌, ◌≤◌, Bool, true, false, nat_lt, if◌then◌else◌, Some, None, List, [], ◌∷◌, ◌++◌, refl, sym, ap, subst, ◌∙◌, arith}
+use Rattle.std.proofs.Common.{◌≡◌, ◌⊎◌, ◌↔◌, inl, inr, ℕ, zero, suc, ◌+◌, ◌-◌, ◌<◌, ◌≤◌, Bool, true, false, nat_lt, if◌then◌else◌, Some, None, List, [], ◌∷◌, ◌++◌, length, refl, sym, ap, subst, ◌∙◌, arith}
 use Rattle.std.proofs.lemmas.Bool.{true≢false, cases_lt, cases_eq}
 use Rattle.seal_parts.specs.declared.PartClass.TheVariants.{Blanks}
 use Rattle.seal_parts.specs.declared.UnitKind.TheVariants.{Line, SecondConfirm}
@@ -19,9 +19,10 @@ use Rattle.seal_logs.proofs.CallerLemmas.{one_deed, chain_at, chain_one, copy_on
 use Rattle.seal_laws.specs.declared.SealSizes.{SealSizes}
 use Rattle.seal_laws.specs.declared.SealPoint.{SealPoint}
 use Rattle.seal_laws.specs.Writes.{reads_of, seal_line, deed_writes, open_writes, point_at, started_at}
-use Rattle.seal_laws.proofs.Flashes.{firm_reads, firm_is, blank_no_content, blank_not_firm, chain_extends, makes_extends, copy_extends, chain_within, reads_firm, line_held, mark_held, unbegun_blank, blank_unbegun, deed_done, deed_cut, done_firm}
-use Rattle.seal_laws.proofs.Sealed.{FreeFrom, SoundBank, StaysHome, MayStand, stands_again, InBank, line_one, free_here, Before, before_again}
-use Rattle.seal_laws.proofs.Writing.{Rests, Ready, ready_in, last_from, last_below, free_may, home_on, in_bank_left}
+use Rattle.seal_laws.proofs.Flashes.{firm_reads, firm_is, blank_no_content, blank_not_firm, chain_extends, makes_extends, copy_extends, chain_within, reads_firm, line_held, mark_held, mark_read, unbegun_blank, blank_unbegun, deed_done, deed_cut, done_firm, done_closed}
+use Rattle.seal_laws.proofs.Sealed.{FreeFrom, SoundBank, HasDeeds, StaysHome, MayStand, stands_again, InBank, AtMove, line_one, free_here, Before, before_again}
+use Rattle.seal_laws.proofs.Within.{IsWholeEnd, EndsWithin, whole_within, next_within, lacks_enough, lacks_within}
+use Rattle.seal_laws.proofs.Writing.{Rests, Ready, ready_in, last_from, last_below, last_before, free_may, home_on, in_bank_left}
 
 -- ---- a start, by its latest deed
 
@@ -32,6 +33,7 @@ pub record FoundAt (s : LogSizes) (r : LogReads) (f : FoundStore) (cells : List 
   pub whole : IsWholeLog s r d chain copy
   pub home : f.home ≡ home_bank d d.deed.body
   pub generation : f.generation ≡ home_generation d d.deed.body
+  pub lacking : f.lacking ≡ 2 - length chain
   pub next : EndsBefore s (r d.bank) d.generation f.next
   pub home_next : EndsBefore s (r f.home) f.generation f.home_next
   pub clean : (f.is_clean ≡ true) ↔ IsClean r d f.next
@@ -47,6 +49,7 @@ found_at s r f cells x = record {
   whole = x.whole;
   home = x.home;
   generation = x.generation;
+  lacking = x.lacking;
   next = x.next;
   home_next = x.home_next;
   clean = x.clean;
@@ -70,10 +73,16 @@ same_started s f Opens = refl
 same_started s f IsNew = refl
 same_started s f (Puts cell payload) = refl
 
--- what its writes leave, done and cut
-pub record StartLeaves (P : List (List ℕ) → Type 0) (s : SealSizes) (f : PartFlash) (writes : List PartWrite) (point : SealPoint) (cells : List (List ℕ)) : Type 0 where
-  pub does : (h : PartFlash) → DoesPartWrites Blanks writes f h → Ready P s.log h point cells
-  pub cuts : (h : PartFlash) → CutsPartWrites Blanks writes f h → Rests P s.log h
+-- the end of the log is whole: a start writes nothing
+pub data Quiet (P : List (List ℕ) → Type 0) (s : LogSizes) (f : PartFlash) : Type 0 where
+  quiet_in : (b g last : ℕ) (cur : LogDeed) (chain : List ℕ) (copy now : List (List ℕ)) → InBank P s f b g last cur chain copy now → IsWholeEnd s f b last → Quiet P s f
+  quiet_at : (m g last : ℕ) (cur : LogDeed) (chain : List ℕ) (b : ℕ) (copy : List (List ℕ)) → AtMove P s f m g last cur chain b copy → IsWholeEnd s f m last → FreeFrom s f b s.cells → Quiet P s f
+
+-- what its writes leave, done and cut: a cut takes one place more
+pub record StartLeaves (P : List (List ℕ) → Type 0) (s : SealSizes) (limit : ℕ) (f : PartFlash) (writes : List PartWrite) (point : SealPoint) (cells : List (List ℕ)) : Type 0 where
+  pub does : (h : PartFlash) → DoesPartWrites Blanks writes f h → Ready P s.log limit h point cells
+  pub cuts : (h : PartFlash) → CutsPartWrites Blanks writes f h → Rests P s.log (suc limit) h
+  pub quiet : (h : PartFlash) → DoesPartWrites Blanks writes f h → (writes ≡ []) ⊎ Quiet P s.log h
   pub may : MayDoPartWrites Blanks writes f
 
 abbrev pub mk : ℕ → ℕ → ℕ → LogDeed → FoundDeed
@@ -122,7 +131,7 @@ stay_point s found d c b g IsNew h e z = absurd h
 
 module _ (s : LogSizes) (q : ℕ → PlaceRead) (g limit p : ℕ) (d : LogDeed) (ks chain : List ℕ) (copy between cells : List (List ℕ)) (followed : IsChain s q g limit (Some p) chain) (is : ReadsDeed (q p) g d)
     (rest : IsChain s q g p d.prev ks) (makes : MakesOf q g ks copy between) where
-  chain_is : chain ≡ p ∷ ks
+  pub chain_is : chain ≡ p ∷ ks
   chain_is = chain_one s q g limit (Some p) chain (p ∷ ks) followed
       (let c = chain_at s q g limit p chain followed in (refl, (c.0, (c.1.0, (d, (is, rest))))))
 
@@ -139,18 +148,22 @@ module _ (s : LogSizes) (f after : PartFlash) (view : PartView) (reads : ReadsUn
   pub free_next : (b g next : ℕ) → f.is_erased b ≡ true → EndsBefore s (r b) g next → FreeFrom s f b next
   free_next b g next erased ends k far below = unbegun_blank f after view reads b k erased (λ e. ends.none k far below (inl e))
 
-  -- a bank of blank lines ends with its copy
-  pub ends_at_cells : (b g next : ℕ) → f.is_erased b ≡ true → FreeFrom s f b s.cells → EndsBefore s (r b) g next → next ≡ s.cells
-  ends_at_cells b g zero erased free ends = (let x = ends.from in omega (arith, x))
-  ends_at_cells b g (suc k) erased free ends = elim (cases_lt k s.cells) [
-    | inl less ↦ (let x = ends.from in omega (arith, x, less))
+  -- a bank ends where nothing stands from some place on, or before it
+  pub ends_by : (b g next from : ℕ) → f.is_erased b ≡ true → s.cells ≤ from → FreeFrom s f b from → EndsBefore s (r b) g next → next ≤ from
+  ends_by b g zero from erased low free ends = omega arith
+  ends_by b g (suc k) from erased low free ends = elim (cases_lt k from) [
+    | inl less ↦ omega (arith, less)
     | inr more ↦ (
         let blank = free k more (let x = ends.below in omega (arith, x)) in
-        elim (ends.last k more refl) [
+        elim (ends.last k (omega (arith, low, more)) refl) [
           | inl begun ↦ absurd (true≢false (sym begun ∙ blank_unbegun f after view reads b k erased blank))
           | inr deed ↦ absurd (blank_no_content (f.unit b k Line) _ blank (line_held f after view reads b k _ deed.1))
         ])
   ]
+
+  -- a bank of blank lines ends with its copy
+  pub ends_at_cells : (b g next : ℕ) → f.is_erased b ≡ true → FreeFrom s f b s.cells → EndsBefore s (r b) g next → next ≡ s.cells
+  ends_at_cells b g next erased free ends = (let x = ends.from in let y = ends_by b g next s.cells erased (omega arith) free ends in omega (arith, x, y))
 
   -- a place whose last confirm is read has its line firm
   pub closed_firm : (b g p : ℕ) → SoundBank s f b g → s.cells ≤ p → (r b p).is_closed ≡ true → (d : LogDeed) × ReadsDeed (firm_reads f b p) g d
@@ -158,6 +171,39 @@ module _ (s : LogSizes) (f after : PartFlash) (view : PartView) (reads : ReadsUn
     | inl blank ↦ absurd (blank_no_content (f.unit b p SecondConfirm) Mark blank (mark_held f after view reads b p SecondConfirm closed))
     | inr firm ↦ firm
   ]
+
+-- ---- a bank whose end is whole
+
+module _ (s : LogSizes) (f after : PartFlash) (view : PartView) (reads : ReadsUnits Blanks f view after) (b g last : ℕ) (cur : LogDeed) (chain : List ℕ) (deeds : HasDeeds s f b g last cur chain) (w : IsWholeEnd s f b last) where
+  abbrev there : LogReads
+  there = reads_of Blanks view
+
+  read_cur : ReadsDeed (there b last) g cur
+  read_cur = reads_firm f after view reads b last _ deeds.is
+
+  end_is : (next : ℕ) → EndsBefore s (there b) g next → next ≡ suc last
+  end_is next ends = elim (cases_lt last next) [
+    | inl less ↦ (
+        let from = last_from s f b g last cur chain deeds in
+        let most = ends_by s f after view reads b g next (suc last) deeds.sound.erased (omega (arith, from)) w.free ends in
+        omega (arith, less, most))
+    | inr far ↦ absurd (ends.none last far (last_below s f b g last cur chain deeds) (inr (cur, read_cur)))
+  ]
+
+  module _ (p : ℕ) (d : LogDeed) (l : IsLatestDeed s there (mk b p g d)) (more : last ≤ p) where
+    place_is : p ≡ last
+    place_is = elim (cases_lt last p) [
+      | inl less ↦ absurd (blank_no_content (f.unit b p Line) _ (w.free p (omega (arith, less)) l.inside.1.1) (line_held f after view reads b p _ l.is))
+      | inr far ↦ omega (arith, more, far)
+    ]
+
+    -- a start finds it clean, and the latest deed is the last one
+    pub end_clean : (next : ℕ) → EndsBefore s (there b) g next → IsClean there (mk b p g d) next
+    end_clean next ends = (let e = place_is in let n = end_is next ends in
+        (omega (arith, e, n), subst (λ (z : ℕ). (there b z).is_closed ≡ true) (sym e) (mark_read f after view reads b last SecondConfirm w.closed)))
+
+    pub end_latest : d ≡ cur
+    end_latest = one_deed (there b last) g d cur (subst (λ (z : ℕ). ReadsDeed (there b z) g d) place_is l.is) read_cur
 
 -- ---- the log is in a bank
 
@@ -244,10 +290,30 @@ module _ (P : List (List ℕ) → Type 0) (s : SealSizes) (f after : PartFlash) 
       pub record Made : Type 0 where
         pub made : List (List ℕ)
         pub before : Before s.log f b g p copy d made
+        pub long : length chain ≤ suc (length before.ks)
         pub home : StaysHome d.body
         pub may : P made
 
-      module _ (y : Made) where
+      module _ (y : Made) (limit need : ℕ) (enough : 2 ≤ need + length chain) (ends : EndsWithin s.log f limit b last need) where
+        chain_seen : x.chain ≡ p ∷ y.before.ks
+        chain_seen = chain_is s.log (seen b) g s.log.places p d y.before.ks x.chain copy y.before.between cells x.whole.followed read_here
+            (chain_extends s.log (firm_reads f b) (seen b) g (reads_firm f after view reads b) p d.prev y.before.ks y.before.chain)
+            (makes_extends s.log (firm_reads f b) (seen b) g (reads_firm f after view reads b) y.before.ks copy y.before.between y.before.makes)
+
+        count_seen : length x.chain ≡ suc (length y.before.ks)
+        count_seen = ap (λ (z : List ℕ). length z) chain_seen
+
+        lacks : found.lacking ≤ need
+        lacks =
+            let e = x.lacking in
+            let n = count_seen in
+            let long = y.long in
+            let most : 2 - length x.chain ≤ need = lacks_within (length x.chain) need (omega (arith, enough, long, n)) in
+            omega (arith, e, most)
+
+        lacks_seen : 2 ≤ found.lacking + length x.chain
+        lacks_seen = (let e = x.lacking in let v = lacks_enough (length x.chain) in omega (arith, e, v))
+
         copy_same : x.copy ≡ copy
         copy_same = copy_one (seen b) g x.copy copy (x.whole.home.count ∙ sym i.cells.count) (stay_copy (mk b p g d) d.body y.home seen x.copy x.whole.home.copied) (copy_extends s.log (firm_reads f b) (seen b) g (reads_firm f after view reads b) copy i.cells.copied)
 
@@ -257,7 +323,7 @@ module _ (P : List (List ℕ) → Type 0) (s : SealSizes) (f after : PartFlash) 
             (makes_extends s.log (firm_reads f b) (seen b) g (reads_firm f after view reads b) y.before.ks copy y.before.between y.before.makes)
             (subst (λ (z : List (List ℕ)). MakesOf (seen b) g x.chain z cells) copy_same (x.stayed (stay_not_move d.body y.home))) ∙ sym y.before.made_is
 
-        later : (k : ℕ) → p ≤ k → Before s.log f b g k copy d y.made
+        abbrev later : (k : ℕ) → p ≤ k → Before s.log f b g k copy d y.made
         later k far = record {
           ks = y.before.ks;
           chain = chain_within s.log (firm_reads f b) g p k d.prev y.before.ks far y.before.chain;
@@ -284,36 +350,60 @@ module _ (P : List (List ℕ) → Type 0) (s : SealSizes) (f after : PartFlash) 
         may_here : MayStand P s.log f b g last now cur d
         may_here = elim is_latest [ inl e ↦ stands_again e.1 | inr e ↦ e.1 ]
 
-        home_leaves : (c : Bool) → found.is_clean ≡ c → StartLeaves P s f ((if c then [] else deed_writes Blanks b found.next (seal_line g d)) ++ []) (point_at b g (suc (at c)) (Some (at c)) found.lacking) y.made
+        chain_clean : p ≡ last → length x.chain ≡ length chain
+        chain_clean e = ap (λ (z : List ℕ). length z) (chain_one s.log (seen b) g s.log.places (Some p) x.chain chain x.whole.followed
+            (subst (λ (n : ℕ). IsChain s.log (seen b) g s.log.places (Some n) chain) (sym e) (chain_extends s.log (firm_reads f b) (seen b) g (reads_firm f after view reads b) s.log.places (Some last) chain i.deeds.followed)))
+
+        ends_seen : EndsWithin s.log f limit b last need → EndsWithin s.log f limit b last found.lacking
+        ends_seen (whole_within w room) = (let v = lacks in whole_within w (omega (arith, v, room)))
+        ends_seen (next_within n blank room) = (let v = lacks in next_within n blank (omega (arith, v, room)))
+
+        -- the end isn't clean: the places that were begun end within the limit, with one more
+        room_seen : found.is_clean ≡ false → EndsWithin s.log f limit b last need → found.next + need < limit
+        room_seen e (whole_within w room) = absurd (true≢false (sym (x.clean.1 (end_clean s.log f after view reads b g last cur chain i.deeds w p d x.whole.latest more found.next x.next)) ∙ e))
+        room_seen e (next_within n blank room) =
+            let from = last_from s.log f b g last cur chain i.deeds in
+            let past = last_before s.log f b g last cur chain i.deeds n blank in
+            let most = ends_by s.log f after view reads b g found.next n i.deeds.sound.erased (omega (arith, from, past)) blank x.next in
+            omega (arith, most, room)
+
+        home_leaves : (c : Bool) → found.is_clean ≡ c → StartLeaves P s limit f ((if c then [] else deed_writes Blanks b found.next (seal_line g d)) ++ []) (point_at b g (suc (at c)) (Some (at c)) found.lacking) y.made
         home_leaves true e =
             let z = clean_last e in
-            let ready : Ready P s.log f (point_at b g (suc p) (Some p) found.lacking) y.made = subst (λ (w : List (List ℕ)). Ready P s.log f (point_at b g (suc p) (Some p) found.lacking) w) (sym (made_in z.0))
-            (ready_in b g last cur chain copy found.lacking i (subst (λ (n : ℕ). FreeFrom s.log f b n) (sym z.1) free) (ap (λ (n : ℕ). point_at b g (suc n) (Some n) found.lacking) z.0)) in
-            record { does = λ h done. subst (λ (w : PartFlash). Ready P s.log w (point_at b g (suc p) (Some p) found.lacking) y.made) (sym done) ready; cuts = λ h cut. absurd cut; may = tt }
+            let long : 2 ≤ found.lacking + length chain = (let v = lacks_seen in let n = chain_clean z.0 in omega (arith, v, n)) in
+            let ready : Ready P s.log limit f (point_at b g (suc p) (Some p) found.lacking) y.made = subst (λ (w : List (List ℕ)). Ready P s.log limit f (point_at b g (suc p) (Some p) found.lacking) w) (sym (made_in z.0))
+            (ready_in b g last cur chain copy found.lacking i long (subst (λ (n : ℕ). FreeFrom s.log f b n) (sym z.1) free) (ends_seen ends) (ap (λ (n : ℕ). point_at b g (suc n) (Some n) found.lacking) z.0)) in
+            record { does = λ h done. subst (λ (w : PartFlash). Ready P s.log limit w (point_at b g (suc p) (Some p) found.lacking) y.made) (sym done) ready; cuts = λ h cut. absurd cut; quiet = λ h done. inl refl; may = tt }
         home_leaves false e =
             let k = found.next in
             let under : k < s.log.places = x.room e in
             let behind : last < k = (let z = before_next_place in omega (arith, z, more)) in
             let from : s.log.cells ≤ k = (let z = before_next_place in let v = far_here in omega (arith, z, v)) in
             let blank = free k (omega arith) under in
+            let space : k + need < limit = room_seen e ends in
+            let fewer : found.lacking ≤ need = lacks in
+            let z = later k (let v = before_next_place in omega (arith, v)) in
+            let on : (h : PartFlash) → DoesPartWrites Blanks (deed_writes Blanks b k (seal_line g d)) f h → InBank P s.log h b g k d (k ∷ z.ks) copy y.made × IsWholeEnd s.log h b k = λ h does.
+            let w = deed_done b k (seal_line g d) f h does in (
+              home_on P s.log f h b k g d from blank w under free copy y.made i.deeds.sound i.cells.copied i.cells.count i.older y.home z y.may (done_firm b k (seal_line g d) f h does),
+              record { free = free_here s.log f h b k g d from blank w free; closed = done_closed b k (seal_line g d) f h does },
+            ) in
             record {
               does = λ h done.
-                  let does : DoesPartWrites Blanks (deed_writes Blanks b k (seal_line g d)) f h = done in
-                  let w = deed_done b k (seal_line g d) f h does in
-                  let firm = done_firm b k (seal_line g d) f h does in
-                  let z = later k (let v = before_next_place in omega (arith, v)) in
-                  ready_in b g k d (k ∷ z.ks) copy found.lacking (home_on P s.log f h b k g d from blank w under free copy y.made i.deeds.sound i.cells.copied i.cells.count i.older y.home z y.may firm)
-                  (free_here s.log f h b k g d from blank w free) refl;
+                  let long : 2 ≤ found.lacking + suc (length y.before.ks) = (let v = lacks_seen in let n = count_seen in omega (arith, v, n)) in
+                  let here = on h done in
+                  ready_in b g k d (k ∷ z.ks) copy found.lacking here.0 long here.1.free (whole_within here.1 (omega (arith, space, fewer))) refl;
+              quiet = λ h done. (let here = on h done in inr (quiet_in b g k d (k ∷ z.ks) copy y.made here.0 here.1));
               cuts = λ h cut.
                   let w = deed_cut b k (seal_line g d) f h cut in
-                  in_bank_left P s.log f h b k g d from blank w under free last cur chain copy now i behind may_here;
+                  in_bank_left P s.log f h b k g d from blank w under free last cur chain copy now i behind (suc limit) need enough (omega (arith, space)) may_here;
               may = free_may s.log f b g k i.deeds.sound from blank (seal_line g d);
             }
 
-        pub stays_leaves : StartLeaves P s f (writes_with s found (mk b p g d) found.is_clean) (started_with s found (mk b p g d) found.is_clean d.body) cells
+        pub stays_leaves : StartLeaves P s limit f (writes_with s found (mk b p g d) found.is_clean) (started_with s found (mk b p g d) found.is_clean d.body) cells
         stays_leaves =
-            subst (λ (w : List PartWrite). StartLeaves P s f ((if found.is_clean then [] else deed_writes Blanks b found.next (seal_line g d)) ++ w) (started_with s found (mk b p g d) found.is_clean d.body) cells) (sym (stay_open s found d.body y.home))
-            (subst (λ (w : SealPoint). StartLeaves P s f ((if found.is_clean then [] else deed_writes Blanks b found.next (seal_line g d)) ++ []) w cells)
+            subst (λ (w : List PartWrite). StartLeaves P s limit f ((if found.is_clean then [] else deed_writes Blanks b found.next (seal_line g d)) ++ w) (started_with s found (mk b p g d) found.is_clean d.body) cells) (sym (stay_open s found d.body y.home))
+            (subst (λ (w : SealPoint). StartLeaves P s limit f ((if found.is_clean then [] else deed_writes Blanks b found.next (seal_line g d)) ++ []) w cells)
             (sym (stay_point s found (mk b p g d) found.is_clean b g d.body y.home (x.home ∙ stay_bank (mk b p g d) d.body y.home) (x.generation ∙ stay_generation (mk b p g d) d.body y.home)))
-            (subst (λ (w : List (List ℕ)). StartLeaves P s f ((if found.is_clean then [] else deed_writes Blanks b found.next (seal_line g d)) ++ []) (point_at b g (suc (at found.is_clean)) (Some (at found.is_clean)) found.lacking) w) (sym cells_made)
+            (subst (λ (w : List (List ℕ)). StartLeaves P s limit f ((if found.is_clean then [] else deed_writes Blanks b found.next (seal_line g d)) ++ []) (point_at b g (suc (at found.is_clean)) (Some (at found.is_clean)) found.lacking) w) (sym cells_made)
             (home_leaves found.is_clean refl)))

@@ -1,5 +1,6 @@
 //! The laws: each function has an empty body, and its contract is the law.
-ghost use Rattle.std.specs.Prelude.{◌≡◌, ◌≢◌, ◌⊎◌, ◌<◌, ℕ, true, Some, List, [], ◌∷◌, length};
+ghost use Rattle.std.specs.Prelude.{◌≡◌, ◌≢◌, ◌⊎◌, ◌+◌, ◌*◌, ◌<◌, ◌≤◌, ◌^◌, ℕ, suc, true, Some};
+ghost use Rattle.std.specs.Prelude.{List, [], ◌∷◌, length};
 ghost use Rattle.seal_parts.specs.declared.PartClass.TheVariants.{Blanks};
 ghost use Rattle.seal_parts.specs.Parts.{PartFlash, blank_unit};
 ghost use Rattle.seal_parts.specs.declared.UnitKind.{UnitKind};
@@ -12,7 +13,9 @@ ghost use Rattle.seal_logs.specs.declared.starting.StartEnd.TheVariants.{NoStore
 ghost use Rattle.seal_laws.specs.Writes.{start_writes, put_writes, move_writes, erases_begun_by, FitsPut};
 ghost use Rattle.seal_laws.specs.Writes.{FitsMove, point_at, seal_line, deed_of, bank_after, first_writes};
 ghost use Rattle.seal_laws.specs.Lives.{SealMachine, SealEvent, SealLives, FindsSeal, FormattedSeal, PossibleSeal};
-ghost use Rattle.seal_laws.specs.Lives.{seal_ready, cuts_puts, starts, FitsSeal, OnlyResets};
+ghost use Rattle.seal_laws.specs.Lives.{seal_ready, cuts_puts, cuts_start, puts_cell, starts, FitsSeal, OnlyResets};
+ghost use Rattle.seal_laws.specs.Wear.{HasReserve, cut_places_since, cut_places_in, puts_done_in, puts_to_erase};
+ghost use Rattle.seal_laws.specs.Wear.{programs_of_starts, erases_of_puts};
 
 use crate::{SealPoint, SealSizes};
 use seal_logs::{FoundStore, StartEnd};
@@ -92,8 +95,42 @@ pub fn a_start_after_a_put_writes_nothing_on_a_part_of_blanks()
         × (FindsSeal Blanks s d (Found found) made after → start_writes Blanks s found ≡ []) }
 {}
 
-/// Small cases of the definitions: what a put of cell 3 writes at place 5 of bank 1, which bank is next of two, and
-/// what a put that was cut leaves of a cell.
+/// On a part of blanks a store jams by cuts alone, if each bank has places for the copy, two deeds and the reserve.
+/// Since the last put that was done, or since all cells were made anew, a put that is cut takes two places at most, and
+/// a start that is cut takes one; starts that are done and losses of power take none. As long as they are no more than
+/// the reserve, each start finds the store and a place. As long as they are fewer, a store that is ready has a place
+/// for each put, by a move at least.
+pub fn a_jam_needs_cuts_on_a_part_of_blanks()
+    ensures start { (s : SealSizes) (events : List SealEvent) (cells made : List (List ℕ)) (a b : SealMachine)
+        (end : StartEnd) (after : PartFlash) → FormattedSeal Blanks s cells a → HasReserve s
+        → SealLives Blanks s events a b → FindsSeal Blanks s b end made after
+        → cut_places_since 0 events ≤ s.reserve → (found : FoundStore) × (end ≡ Found found) }
+    ensures put { (s : SealSizes) (events : List SealEvent) (cells now : List (List ℕ)) (a b : SealMachine)
+        (point : SealPoint) → FormattedSeal Blanks s cells a → HasReserve s → SealLives Blanks s events a b
+        → b.stage ≡ seal_ready point now → cut_places_since 0 events < s.reserve → suc point.generation < 2 ^ 64
+        → FitsMove s point }
+{}
+
+/// On a part of blanks there are `puts_to_erase` puts at least to each erase that a put begins and is done, over all
+/// lives. Each cut counts as the puts whose places it takes: a put that is cut as two, a start that is cut as one.
+/// Starts that are done and losses of power count as none, however many they are. Besides, a put that is cut within its
+/// move, and one that makes all cells anew, begin one erase each.
+pub fn puts_erase_seldom_on_a_part_of_blanks()
+    ensures { (s : SealSizes) (events : List SealEvent) (cells : List (List ℕ)) (a b : SealMachine)
+        → FormattedSeal Blanks s cells a → (run : SealLives Blanks s events a b)
+        → erases_of_puts Blanks s events a b run * puts_to_erase s ≤ puts_done_in events + cut_places_in events }
+{}
+
+/// On a part of blanks starts without a put between them program two deeds at most, six units, in all those that are
+/// done, however many they are, and whatever was before. Starts that are cut begin as many each.
+pub fn one_start_programs_without_a_put_on_a_part_of_blanks()
+    ensures { (s : SealSizes) (events resets : List SealEvent) (cells : List (List ℕ)) (a b c : SealMachine)
+        → FormattedSeal Blanks s cells a → SealLives Blanks s events a b → OnlyResets resets
+        → (run : SealLives Blanks s resets b c) → programs_of_starts Blanks s resets b c run ≤ 6 }
+{}
+
+/// Small cases of the definitions: what a put of cell 3 writes at place 5 of bank 1, which bank is next of two, what
+/// a put that was cut leaves of a cell, and how many places cuts have taken since the last put that was done.
 pub fn small_seals()
     ensures put { put_writes Blanks (point_at 1 7 5 (Some 4) 0) 3 (9 ∷ [])
         ≡ programs_unit 1 5 Line (Holds (seal_line 7 (deed_of (Some 4) (Puts 3 (9 ∷ [])))))
@@ -102,4 +139,7 @@ pub fn small_seals()
     ensures around { bank_after 2 1 ≡ 0 }
     ensures cut { (now : List (List ℕ)) → PossibleSeal (cuts_puts 0 (2 ∷ []) ∷ starts ∷ []) ((1 ∷ []) ∷ []) now
         → (now ≡ (1 ∷ []) ∷ []) ⊎ (now ≡ (2 ∷ []) ∷ []) }
+    ensures places { cut_places_since 0 (cuts_puts 0 [] ∷ starts ∷ puts_cell 0 [] ∷ cuts_puts 0 [] ∷ cuts_start
+        ∷ starts ∷ []) ≡ 3 }
+    ensures puts { puts_done_in (cuts_puts 0 [] ∷ starts ∷ puts_cell 0 [] ∷ puts_cell 1 [] ∷ []) ≡ 2 }
 {}

@@ -8,8 +8,8 @@
 //! Each call is an event of `seal_laws`: what it writes if it is done, and what it leaves if it fails. So the laws there
 //! over all lives hold of this code. They also say that each unit is blank that a call programs, which each call asks.
 //!
-//! A start hands out no cells if no place is left for what it has to program (`Exhausted`). That takes many cuts within
-//! starts. No law says how many, nor how many puts a bank takes.
+//! A start hands out no cells if no place is left for what it has to program, and a put changes nothing (`Exhausted`).
+//! `seal_laws` says how many cuts that takes at least, and how many puts there are to an erase.
 #![tactic(auto)]
 
 ghost use Rattle.std.specs.Prelude.{◌<◌, ◌≤◌};

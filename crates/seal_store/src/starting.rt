@@ -30,7 +30,8 @@ pub enum SealStartFault {
     NoStore,
     /// A line that was done is read no more.
     Damaged,
-    /// No place is left in the bank. No cells are handed out, since what is read isn't decided.
+    /// No place is left in the bank. No cells are handed out, since what is read isn't decided. It takes cuts: see
+    /// `a_jam_needs_cuts_on_a_part_of_blanks` of `seal_laws`.
     Exhausted,
 }
 

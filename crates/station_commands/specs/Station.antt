@@ -8,7 +8,7 @@ use Rattle.text_lines.specs.Texts.{line}
 use Rattle.file_disk.specs.NamedDisks.{OpenedByWords, OpensNothing}
 use Rattle.program_edge.specs.declared.word_sources.WordSource.{WordSource}
 use Rattle.program_edge.specs.Told.{EndingTold}
-use Rattle.program_edge.specs.Endings.{Ending}
+use Rattle.program_edge.specs.Endings.{Ending, EndsInRow}
 use Rattle.program_edge.specs.NamedSources.{OverNamed, OverTwoNamed}
 use Rattle.slot_commands.specs.SlotTasks.{file_asked}
 use Rattle.slot_commands.specs.SlotReads.{ReadsUnitStore}
@@ -23,12 +23,13 @@ use Rattle.adopt_commands.specs.AdoptTasks.{may_make}
 use Rattle.adopt_commands.specs.AdoptsOver.{AdoptsOver}
 use Rattle.keyfile_commands.specs.Calls.{first_file, second_file}
 use Rattle.keyfile_commands.specs.KeyFilesRuns.{KeyFilesRuns}
+use Rattle.derive_commands.specs.Derivation.{master_file, ComesOfDerivation}
 use Rattle.station_commands.specs.declared.run.StationPart.{StationPart}
 use Rattle.station_commands.specs.declared.run.StationPart.TheVariants.{Slots, BusCheck, Making, Growth, Ledger}
-use Rattle.station_commands.specs.declared.run.StationPart.TheVariants.{Adoption, Key}
+use Rattle.station_commands.specs.declared.run.StationPart.TheVariants.{Adoption, Key, Derivation}
 use Rattle.station_commands.specs.declared.run.StationFiles.{StationFiles}
 use Rattle.station_commands.specs.declared.run.StationFiles.TheVariants.{Store, StoreAndBus, Made, Grown, Ledgers}
-use Rattle.station_commands.specs.declared.run.StationFiles.TheVariants.{Adopted, Keys, Nothing}
+use Rattle.station_commands.specs.declared.run.StationFiles.TheVariants.{Adopted, Keys, Master, Nothing}
 
 -- the line that is printed if the first argument is none of the program's
 abbrev pub station_usage : List ℕ
@@ -46,12 +47,16 @@ ledger_part word =
     if bytes_eq word (codes "adopt") || bytes_eq word (codes "import") || bytes_eq word (codes "merge")
     then Adoption else Ledger
 
+-- what a second argument names after `key`
+abbrev pub key_part : List ℕ → StationPart
+key_part word = if bytes_eq word (codes "derive") then Derivation else Key
+
 -- what the first two arguments name; after `slots` the check over a bus, if all of them ask for that
 abbrev pub part_named : List ℕ → List ℕ → Bool → Option StationPart
 part_named word next checks_over_bus =
     if bytes_eq word (codes "slots") then Some (slot_part next checks_over_bus)
     else if bytes_eq word (codes "ledger") then Some (ledger_part next)
-    else if bytes_eq word (codes "key") then Some Key
+    else if bytes_eq word (codes "key") then Some (key_part next)
     else None
 
 abbrev pub part_of : List (List ℕ) → Option StationPart
@@ -101,6 +106,10 @@ RunsPart opens disk_opens state disk words o (Some Adoption) (Adopted files disk
 RunsPart opens disk_opens state disk words o (Some Key) (Keys first second) e =
     OverTwoNamed opens o.before o.after (first_file words) (second_file words) (state first) (state second)
     (λ one other. KeyFilesRuns (record { words = words; first = one; second = other }) e)
+    × (o.disks_after ≡ o.disks_before)
+RunsPart opens disk_opens state disk words o (Some Derivation) (Master file) e =
+    OverNamed opens o.before o.after (master_file words) (state file)
+    (λ it. EndsInRow (ComesOfDerivation (record { words = words; file = it })) e)
     × (o.disks_after ≡ o.disks_before)
 RunsPart opens disk_opens state disk words o None Nothing e =
     OpensNothing o × EndingTold e.before e.after station_usage 2 e.status

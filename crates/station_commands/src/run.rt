@@ -2,13 +2,14 @@
 ghost use Rattle.std.specs.Prelude.{◌≡◌, ◌++◌, ℕ, List, drop, map as each, string_bytes, option_map};
 ghost use Rattle.program_edge.specs.NamedSources.{word_source, openings};
 ghost use Rattle.program_edge.specs.Told.{EndingTold};
-ghost use Rattle.station_commands.specs.Station.{part_named, part_of, slot_part, ledger_part, RunsStation};
+ghost use Rattle.station_commands.specs.Station.{part_named, part_of, slot_part, ledger_part, key_part, RunsStation};
 ghost use Rattle.station_commands.specs.Station.{station_usage, MayMakeFile};
 
 use adopt_commands::adopts_words;
 use bus_port::{Sink, Source};
 use bus_store_commands::{asks_over_bus, bus_check_words, grow_words, make_words};
 use cut_disk::CutDisk;
+use derive_commands::derive_words;
 use file_disk::DiskOpener;
 use keyfile_commands::keyfile_words;
 use ledger_commands::{ledgers_words, word_at};
@@ -33,6 +34,8 @@ pub enum StationPart {
     Adoption,
     /// `key`: messages and boot MACs with keys from files.
     Key,
+    /// `key derive`: a unit's key from a master key.
+    Derivation,
 }
 
 /// The sources of the files that the other arguments named, and the disks, as the run left them.
@@ -52,6 +55,8 @@ pub enum StationFiles<O: Source, I: Source, D: CutDisk> {
     Adopted(Vec<WordSource<O, I>>, Vec<D>),
     /// Those of two key files, or of a key file and an image.
     Keys(WordSource<O, I>, WordSource<O, I>),
+    /// That of a master key's file.
+    Master(WordSource<O, I>),
     /// Nothing was asked for.
     Nothing,
 }
@@ -124,6 +129,10 @@ pub fn station_words<O: Opener, P: DiskOpener, I: Source + Drop, K: Sink>(
             let (status, first, second) = keyfile_words(alloc, opener, input, rest, sink);
             (status, StationFiles::Keys(first, second))
         }
+        StationPart::Derivation => {
+            let (status, file) = derive_words(alloc, opener, input, rest, sink);
+            (status, StationFiles::Master(file))
+        }
     }
 }
 
@@ -156,7 +165,7 @@ fn part_named(name: &str, next: &str, checks_over_bus: bool) -> Option<StationPa
         return Some(ledger_part(next));
     }
     if name == "key" {
-        Some(StationPart::Key)
+        Some(key_part(next))
     } else {
         None
     }
@@ -185,6 +194,17 @@ fn ledger_part(name: &str) -> StationPart
         StationPart::Adoption
     } else {
         StationPart::Ledger
+    }
+}
+
+/// What this argument after `key` names.
+fn key_part(name: &str) -> StationPart
+    ensures { result ≡ key_part name.now }
+{
+    if name == "derive" {
+        StationPart::Derivation
+    } else {
+        StationPart::Key
     }
 }
 

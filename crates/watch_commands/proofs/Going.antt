@@ -35,7 +35,9 @@ use Rattle.watch_commands.proofs.Silencing.{FewFound, no_found, one_found, clock
 use Rattle.watch_commands.specs.WatchTotals.{is_failed_tally, is_accepted_at, is_failed_at, is_other_of, is_unmapped_line, is_other_frame, is_malformed_line, counted_of, counts_of, counts_text, total_line_at, map_places, line_over_at, log_over, totals_text_of, passes_at, log_passes, status_of}
 use Rattle.watch_commands.specs.LogTotals.{totals_of, totals_text, watch_status}
 use Rattle.line_stream.specs.Streams.{kept_of}
-use Rattle.watch_commands.specs.States.{WatchState, IsFreshWatch, Watched, JudgesLine, WatchesNext, IsPlaced, tally_found, counts_as, counts_after, accepted_place, failed_place, raised_at, totals_in, end_text, end_status, time_told, clock_after, times_after, heard_after, silence_at}
+use Rattle.watch_commands.specs.Silences.{no_silence}
+use Rattle.watch_commands.proofs.Calm.{calm, totals_calm, status_calm, places_same}
+use Rattle.watch_commands.specs.States.{wants_times, time_wanted, WatchState, IsFreshWatch, Watched, JudgesLine, WatchesNext, IsPlaced, tally_found, counts_as, counts_after, accepted_place, failed_place, raised_at, totals_in, end_text, end_status, time_told, clock_after, times_after, heard_after, silence_at}
 
 -- ---- counting
 
@@ -192,6 +194,10 @@ WatchesLine-kept mapping c number line rest found is (inr (inr (few, kept, finds
 JudgesLine-text : (s : WatchState) → s ≡ record s { counters = s.counters; text = s.text ++ [] }
 JudgesLine-text s = ap (λ t. record s { text = t }) (sym (append-nil s.text))
 
+none_wanted : (b : Bool) (time : Option ℕ) → time ≡ None → (if b then time else None) ≡ None
+none_wanted true time is = is
+none_wanted false time is = refl
+
 pub JudgesLine-long : (s : WatchState) (number : ℕ) (line : List ℕ) → line_limit < length line → JudgesLine s number line s (Some (tally.Other kind.Malformed)) None
 JudgesLine-long s number line long = (
   other kind.Malformed ∷ [],
@@ -199,16 +205,17 @@ JudgesLine-long s number line long = (
   JudgesLine-text s,
   refl,
   refl,
-  refl,
+  sym (none_wanted (wants_times s.mapping) None refl),
   λ place inside. refl,
 )
 
 pub JudgesLine-skipped : (s : WatchState) (number : ℕ) (line : List ℕ) → length line ≤ line_limit → is_skipped (words_of line) ≡ true → JudgesLine s number line s None None
-JudgesLine-skipped s number line few skipped = ([], inr (inl (few, skipped, refl)), JudgesLine-text s, refl, refl, refl, λ place inside. refl)
+JudgesLine-skipped s number line few skipped =
+    ([], inr (inl (few, skipped, refl)), JudgesLine-text s, refl, refl, sym (none_wanted (wants_times s.mapping) None refl), λ place inside. refl)
 
 pub JudgesLine-found : (s : WatchState) (number : ℕ) (line counters text : List ℕ) (counts : FrameTally) (time : Option ℕ) (finding : Finding) → length line ≤ line_limit → is_skipped (words_of line) ≡ false
     → AuditsLine s.mapping.lines (slice_index s.counters) (record { number = number; words = words_of line }) finding
-    → counts ≡ tally_of finding → time ≡ time_by counts (stamp_of (words_of line)) → length counters ≡ length s.counters
+    → counts ≡ tally_of finding → time ≡ time_wanted s.mapping (time_by counts (stamp_of (words_of line))) → length counters ≡ length s.counters
     → ((place : ℕ) → place < length s.counters → slice_index counters place ≡ next_counter place (slice_index s.counters place) (finding_accepts finding))
     → text ≡ s.text ++ told_text s.mapping.options (record { finding = finding; stamp = stamp_of (words_of line) })
     → JudgesLine s number line (record s { counters = counters; text = text }) (Some counts) time
@@ -218,7 +225,7 @@ JudgesLine-found s number line counters text counts time finding few kept finds 
   ap (λ t. record s { counters = counters; text = t }) (text_is ∙ ap (λ t. s.text ++ t) (sym (append-nil (told_text s.mapping.options (record { finding = finding; stamp = stamp_of (words_of line) }))))),
   as_many,
   ap Some counts_is,
-  time_is ∙ ap (λ (t : FrameTally). time_by t (stamp_of (words_of line))) counts_is,
+  time_is ∙ ap (λ (t : FrameTally). time_wanted s.mapping (time_by t (stamp_of (words_of line)))) counts_is,
   after,
 )
 
@@ -276,9 +283,9 @@ Watched-none state fresh = record {
   accepted_are = λ place inside. ap (λ ns. slice_index ns place) fresh.accepted_are ∙ get_or-replicate (length state.mapping.lines) place 0 0 inside;
   failed_are = λ place inside. ap (λ ns. slice_index ns place) fresh.failed_are ∙ get_or-replicate (length state.mapping.lines) place 0 0 inside;
   counts_are = fresh.counts_are;
-  clock_is = fresh.clock_is;
+  clock_is = λ wanted. fresh.clock_is;
   times_many = ap length fresh.times_are ∙ length-replicate (length state.mapping.lines) no_times;
-  times_are = λ place inside. ap (λ (ts : List HeardTimes). slice_get ts place) fresh.times_are ∙ get_replicated (length state.mapping.lines) place no_times inside;
+  times_are = λ wanted place inside. ap (λ (ts : List HeardTimes). slice_get ts place) fresh.times_are ∙ get_replicated (length state.mapping.lines) place no_times inside;
 }
 
 -- the text of a state is apart from what was found
@@ -320,6 +327,9 @@ Watched-more old new lines so_far line w next =
     λ passes count is. ap (counts_as passes counts) is ∙ counted_found passes findings found few ∙ ap (λ (fs : List Finding). counted_of passes fs) (sym all_are) in
     let more_found : List Found = stamped line found in
     let told : time_told (stamped (kept_of line) found) ≡ time_told more_found = told_kept mapping (slice_index old.counters) number (kept_of line) line found refl next.finds in
+    let time : Option ℕ = time_wanted old.mapping (time_told (stamped (kept_of line) found)) in
+    let time_is : wants_times old.mapping ≡ true → time ≡ time_told more_found =
+    λ wanted. ap (λ (b : Bool). if b then time_told (stamped (kept_of line) found) else None) wanted ∙ told in
     subst (λ (s : WatchState). Watched s (lines ++ line ∷ []) (so_far ++ stamped line found)) (sym next.new_is)
     (record {
       finds = more lines so_far line found w.finds here;
@@ -336,12 +346,14 @@ Watched-more old new lines so_far line w next =
           failed_at_place counts old.failed place (subst (λ n. IfSome counts (IsPlaced n)) (sym w.failed_many) placed)
           ∙ counted_as (is_failed_at place) (slice_index old.failed place) (w.failed_are place inside);
       counts_are = ap (counts_after counts) w.counts_are ∙ counts_after_found findings found few ∙ ap (λ (fs : List Finding). counts_of fs) (sym all_are);
-      clock_is = ap (λ (m : Option ℕ). clock_after m old.clock) told ∙ ap (clock_after (time_told more_found)) w.clock_is ∙ clock_more so_far more_found (few_stamped line found few);
-      times_many = length-heard (accepted_place counts) (time_told (stamped (kept_of line) found)) (clock_after (time_told (stamped (kept_of line) found)) old.clock) old.times ∙ w.times_many;
-      times_are = λ place inside.
-          ap (λ (m : Option ℕ). slice_get (times_after (accepted_place counts) m (clock_after m old.clock) old.times) place) told
-          ∙ ap (λ (c : LogClock). slice_get (times_after (accepted_place counts) (time_told more_found) (clock_after (time_told more_found) c) old.times) place) w.clock_is
-          ∙ times_more place so_far line found old.times few (omega (arith, inside, w.times_many)) (w.times_are place inside);
+      clock_is = λ wanted.
+          ap (λ (m : Option ℕ). clock_after m old.clock) (time_is wanted) ∙ ap (clock_after (time_told more_found)) (w.clock_is wanted)
+          ∙ clock_more so_far more_found (few_stamped line found few);
+      times_many = length-heard (accepted_place counts) time (clock_after time old.clock) old.times ∙ w.times_many;
+      times_are = λ wanted place inside.
+          ap (λ (m : Option ℕ). slice_get (times_after (accepted_place counts) m (clock_after m old.clock) old.times) place) (time_is wanted)
+          ∙ ap (λ (c : LogClock). slice_get (times_after (accepted_place counts) (time_told more_found) (clock_after (time_told more_found) c) old.times) place) (w.clock_is wanted)
+          ∙ times_more place so_far line found old.times few (omega (arith, inside, w.times_many)) (w.times_are wanted place inside);
     })
 
 -- the lines after these findings: what more was found is the text
@@ -370,13 +382,6 @@ module _ (mapping : WatchedMap) (first : List Found) where
       }
 
 -- ---- the end of a log
-
--- the same is found of as many places
-places_same : {X : Type 0} (f g : ℕ → X) (a n m : ℕ) → a + n ≡ m → ((k : ℕ) → k < m → f k ≡ g k) → map f (range_with_len a n) ≡ map g (range_with_len a n)
-places_same f g a zero m all same = refl
-places_same {X} f g a (suc n) m all same =
-    ap (λ (x : X). x ∷ map f (range_with_len (a + 1) n)) (same a (omega (arith, all)))
-    ∙ ap (λ (xs : List X). g a ∷ xs) (places_same f g (a + 1) n m (omega (arith, all)) same)
 
 -- texts and tests of all lines of a map depend on the numbers of these lines alone
 module _ (mapping : WatchedMap) (one two : ℕ → LineCounts) (same : (place : ℕ) → place < length mapping.lines → one place ≡ two place) where
@@ -415,23 +420,45 @@ module _ (mapping : WatchedMap) (one two : ℕ → LineCounts) (same : (place : 
 abbrev line_numbers_of : ℕ → ℕ → ℕ → ℕ → Silence → LineCounts
 line_numbers_of number accepted failed last silence = record { number = number; accepted = accepted; failed = failed; last = last; silence = silence }
 
-totals_are : (state : WatchState) (lines : List (List ℕ)) (findings : List Found) → Watched state lines findings → (place : ℕ) → place < length state.mapping.lines
-    → totals_in state place ≡ totals_of state.mapping findings place
-totals_are state lines findings w place inside =
-    let number : ℕ = slice_index state.mapping.numbers place in
-    ap (λ (n : ℕ). line_numbers_of number n (slice_index state.failed place) (slice_index state.counters place) (silence_at state place)) (w.accepted_are place inside)
-    ∙ ap (λ (n : ℕ). line_numbers_of number (counted_of (is_accepted_at place) (findings_of findings)) n (slice_index state.counters place) (silence_at state place)) (w.failed_are place inside)
-    ∙ ap (λ (n : ℕ). line_numbers_of number (counted_of (is_accepted_at place) (findings_of findings)) (counted_of (is_failed_at place) (findings_of findings)) n (silence_at state place)) (w.counters_are place inside)
-    ∙ ap (λ (s : Silence). line_numbers_of number (counted_of (is_accepted_at place) (findings_of findings)) (counted_of (is_failed_at place) (findings_of findings)) (counter_of_place state.mapping.lines (findings_of findings) place) s)
-    (silence_is place findings state.clock state.times w.clock_is (w.times_are place inside))
+module _ (state : WatchState) (lines : List (List ℕ)) (findings : List Found) (w : Watched state lines findings) where
+  abbrev mapping : WatchedMap
+  mapping = state.mapping
 
--- the text at the end of a log is that of what was found, and so is the status
-pub end_text_is : (state : WatchState) (lines : List (List ℕ)) (findings : List Found) → Watched state lines findings → end_text state ≡ totals_text state.mapping findings
-end_text_is state lines findings w =
-    ap (λ (counts : WatchCounts). totals_text_of state.mapping (totals_in state) counts) w.counts_are
-    ∙ totals_same state.mapping (totals_in state) (totals_of state.mapping findings) (totals_are state lines findings w) (counts_of (findings_of findings))
+  abbrev counts : WatchCounts
+  counts = counts_of (findings_of findings)
 
-pub end_status_is : (state : WatchState) (lines : List (List ℕ)) (findings : List Found) → Watched state lines findings → end_status state ≡ watch_status state.mapping findings
-end_status_is state lines findings w =
-    ap (λ (counts : WatchCounts). status_of state.mapping (totals_in state) counts) w.counts_are
-    ∙ status_same state.mapping (totals_in state) (totals_of state.mapping findings) (totals_are state lines findings w) (counts_of (findings_of findings))
+  -- but for its silence
+  numbers_are : (silence : Silence) (place : ℕ) → place < length mapping.lines
+      → line_numbers_of (slice_index mapping.numbers place) (slice_index state.accepted place) (slice_index state.failed place) (slice_index state.counters place) silence
+      ≡ record (totals_of mapping findings place) { silence = silence }
+  numbers_are silence place inside =
+      let number : ℕ = slice_index mapping.numbers place in
+      ap (λ (n : ℕ). line_numbers_of number n (slice_index state.failed place) (slice_index state.counters place) silence) (w.accepted_are place inside)
+      ∙ ap (λ (n : ℕ). line_numbers_of number (counted_of (is_accepted_at place) (findings_of findings)) n (slice_index state.counters place) silence) (w.failed_are place inside)
+      ∙ ap (λ (n : ℕ). line_numbers_of number (counted_of (is_accepted_at place) (findings_of findings)) (counted_of (is_failed_at place) (findings_of findings)) n silence) (w.counters_are place inside)
+
+  totals_are : wants_times mapping ≡ true → (place : ℕ) → place < length mapping.lines → totals_in state place ≡ totals_of mapping findings place
+  totals_are wanted place inside =
+      numbers_are (silence_at state place) place inside
+      ∙ ap (λ (s : Silence). record (totals_of mapping findings place) { silence = s }) (silence_is place findings state.clock state.times (w.clock_is wanted) (w.times_are wanted place inside))
+
+  end_text_by : (wants : Bool) → wants_times mapping ≡ wants → totals_text_of mapping (totals_in state) counts ≡ totals_text_of mapping (totals_of mapping findings) counts
+  end_text_by true is = totals_same mapping (totals_in state) (totals_of mapping findings) (totals_are is) counts
+  end_text_by false is =
+      totals_calm mapping is (totals_in state) counts
+      ∙ totals_same mapping (λ place. calm (totals_in state place)) (λ place. calm (totals_of mapping findings place)) (numbers_are no_silence) counts
+      ∙ sym (totals_calm mapping is (totals_of mapping findings) counts)
+
+  end_status_by : (wants : Bool) → wants_times mapping ≡ wants → status_of mapping (totals_in state) counts ≡ status_of mapping (totals_of mapping findings) counts
+  end_status_by true is = status_same mapping (totals_in state) (totals_of mapping findings) (totals_are is) counts
+  end_status_by false is =
+      status_calm mapping is (totals_in state) counts
+      ∙ status_same mapping (λ place. calm (totals_in state place)) (λ place. calm (totals_of mapping findings place)) (numbers_are no_silence) counts
+      ∙ sym (status_calm mapping is (totals_of mapping findings) counts)
+
+  -- the text at the end of a log is that of what was found, and so is the status
+  pub end_text_is : end_text state ≡ totals_text mapping findings
+  end_text_is = ap (λ (counts : WatchCounts). totals_text_of mapping (totals_in state) counts) w.counts_are ∙ end_text_by (wants_times mapping) refl
+
+  pub end_status_is : end_status state ≡ watch_status mapping findings
+  end_status_is = ap (λ (counts : WatchCounts). status_of mapping (totals_in state) counts) w.counts_are ∙ end_status_by (wants_times mapping) refl

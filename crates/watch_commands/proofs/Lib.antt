@@ -6,8 +6,8 @@ pub mod StampVectors
 pub mod Stamping
 pub mod WordSizes
 pub mod Reading
-pub mod SecondDigits
 pub mod Silencing
+pub mod Calm
 pub mod Going
 pub mod WatchRising
 pub mod OneWatch

@@ -9,7 +9,7 @@ use Rattle.watch_commands.specs.declared.options.WatchOptions.{WatchOptions}
 use Rattle.watch_commands.specs.Limits.{no_limits, share_of}
 use Rattle.watch_commands.specs.WatchedMaps.{WatchedMap}
 use Rattle.can_logs.specs.Findings.{Finding, other, too_short, verdict}
-use Rattle.watch_commands.specs.Seconds.{seconds_form}
+use Rattle.can_logs.specs.Seconds.{seconds_form}
 use Rattle.watch_commands.specs.Times.{silence_of}
 use Rattle.watch_commands.specs.Watching.{Found, findings_of}
 use Rattle.watch_commands.specs.WatchTotals.{counts_of}
@@ -60,6 +60,8 @@ entry optional = record {
   window = 16;
   channel = None;
   optional = optional;
+  every = None;
+  silent = None;
   name = None;
 }
 
@@ -169,9 +171,21 @@ falls_back : silence_of 0 (at_second 5 (verdict 1 0 (codes "123") (Accepted [] 1
 unfolding at_second seconds_form
 falls_back = refl
 
-times_of_words : (seconds_form (codes "12.5") ≡ Some 12500000) × (seconds_form (codes "0000000001.0000019") ≡ Some 1000001) × (seconds_form (codes ".5") ≡ None) × (seconds_form (codes "1,5") ≡ None)
-unfolding seconds_form
-times_of_words = (refl, refl, refl, refl)
+-- a line's own silence, or five of its periods; its silence of 3 seconds reaches 3 seconds
+timing : Option ℕ → Option ℕ → WatchedMap
+timing silent every = record { lines = record (entry false) { silent = silent; every = every } ∷ []; numbers = 3 ∷ []; options = no_options }
+
+as_long_as_it_says : watch_status (timing (Some 3000000) (Some 9000000)) died ≡ 3
+unfolding timing died entry no_options at_second seconds_form
+as_long_as_it_says = refl
+
+shorter_than_it_says : watch_status (timing (Some 3000001) (Some 1)) died ≡ 0
+unfolding timing died entry no_options at_second seconds_form
+shorter_than_it_says = refl
+
+five_periods : watch_status (timing None (Some 600000)) died ≡ 3
+unfolding timing died entry no_options at_second seconds_form
+five_periods = refl
 
 shares_are_rounded_up : (share_of 1 3 ≡ 34) × (share_of 0 0 ≡ 0) × (share_of 1 1000 ≡ 1)
 shares_are_rounded_up = (refl, refl, refl)

@@ -1,7 +1,7 @@
 -- What the words of a command line say before the map and the log, the program's name left out
 use Rattle.std.specs.Prelude.{◌≡◌, ℕ, ◌-◌, ◌^◌, ◌==◌, Bool, true, false, length, is_some, if◌then◌else◌, List, [], ◌∷◌, codes, bytes_eq, Option, None, Some, option_map, option_and_then}
 use Rattle.text_lines.specs.Forms.{number_form}
-use Rattle.watch_commands.specs.Seconds.{seconds_form}
+use Rattle.can_logs.specs.Seconds.{period_form}
 use Rattle.watch_commands.specs.declared.limits.Limits.{Limits}
 use Rattle.watch_commands.specs.declared.options.WatchOptions.{WatchOptions}
 use Rattle.watch_commands.specs.declared.options.WatchOption.{WatchOption}
@@ -74,11 +74,8 @@ abbrev pub new_limit : Option ℕ → ℕ → List ℕ → Option ℕ
 new_limit given most word = if is_some given then None else number_form 0 most word
 
 -- a silence that is given once: at least a microsecond
-abbrev pub not_zero : ℕ → Option ℕ
-not_zero time = if time == 0 then None else Some time
-
 abbrev pub new_silence : Option ℕ → List ℕ → Option ℕ
-new_silence given word = if is_some given then None else option_and_then not_zero (seconds_form word)
+new_silence given word = if is_some given then None else period_form word
 
 -- limits with the value of one more option, if it is one
 abbrev pub limits_with : Limits → List ℕ → WatchOption → Option Limits

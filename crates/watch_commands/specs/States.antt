@@ -1,6 +1,7 @@
 -- The state between two lines of a log, what the steps say to one another, and what the driver of a log is told
-use Rattle.std.specs.Prelude.{◌≡◌, ℕ, ◌<◌, Bool, if◌then◌else◌, List, [], ◌∷◌, ◌++◌, length, map, set, replicate}
+use Rattle.std.specs.Prelude.{◌≡◌, ℕ, ◌<◌, Bool, true, is_some, if◌then◌else◌, List, [], ◌∷◌, ◌++◌, length, map, set, replicate}
 use Rattle.std.specs.Prelude.{slice_index, slice_get, Option, None, Some, unwrap_or, Result, Ok, Err, IfErr}
+use Rattle.std.specs.List.{list_any}
 use Rattle.bus_port.specs.Fault.{counted}
 use Rattle.bus_port.specs.Sink.{SinkState}
 use Rattle.program_edge.specs.Told.{EndingTold}
@@ -11,6 +12,7 @@ use Rattle.watch_commands.specs.declared.counts.LineCounts.{LineCounts}
 use Rattle.watch_commands.specs.declared.times.LogClock.{LogClock}
 use Rattle.watch_commands.specs.declared.times.HeardTimes.{HeardTimes}
 use Rattle.watch_commands.specs.declared.times.Silence.{Silence}
+use Rattle.watch_commands.specs.Limits.{limits_in}
 use Rattle.watch_commands.specs.Silences.{endless_silence}
 use Rattle.watch_commands.specs.Times.{first_time, moment_after, time_found, clock_of, times_of, no_times, until, heard}
 use Rattle.secoc_words.specs.Counting.{last_accepted}
@@ -18,7 +20,7 @@ use Rattle.watch_commands.specs.WatchedMaps.{WatchedMap}
 use Rattle.can_logs.specs.Findings.{Finding, tally_of, finding_accepts, first_counters, counter_of_place, is_accepted_tally}
 use Rattle.line_stream.specs.Pieces.{PutsPiece}
 use Rattle.watch_commands.specs.Watching.{Found, stamped, findings_of, WatchesLine, WatchesEach, found_text}
-use Rattle.watch_commands.specs.WatchTotals.{counted_of, counts_of, is_failed_tally, is_accepted_at, is_failed_at, is_other_of, is_unmapped_line, is_other_frame, is_malformed_line, totals_text_of, status_of}
+use Rattle.watch_commands.specs.WatchTotals.{counted_of, counts_of, is_failed_tally, is_accepted_at, is_failed_at, is_other_of, is_unmapped_line, is_other_frame, is_malformed_line, silence_limit, totals_text_of, status_of}
 
 -- the map; for each of its lines the counter, how many frames it accepted, and how many it didn't; the numbers of the
 -- log so far, its moments, and for each line of the map when it was heard; what was found of the last lines, as it is
@@ -49,6 +51,13 @@ AreCounted passes mapping numbers findings =
     (place : ℕ) → place < length mapping.lines
     → slice_index numbers place ≡ counted_of (passes place) (findings_of findings)
 
+-- a line of the map has a limit of silence. Only then are times of the log looked at
+abbrev pub wants_times : WatchedMap → Bool
+wants_times mapping = list_any (λ entry. is_some (silence_limit (limits_in mapping.options) entry)) mapping.lines
+
+abbrev pub time_wanted : WatchedMap → Option ℕ → Option ℕ
+time_wanted mapping time = if wants_times mapping then time else None
+
 -- the state after these lines of a log, of which these are found, apart from its text
 pub record Watched (state : WatchState) (lines : List (List ℕ)) (findings : List Found) : Type 0 where
   pub finds : WatchesEach state.mapping.lines lines findings
@@ -60,9 +69,10 @@ pub record Watched (state : WatchState) (lines : List (List ℕ)) (findings : Li
   pub accepted_are : AreCounted is_accepted_at state.mapping state.accepted findings
   pub failed_are : AreCounted is_failed_at state.mapping state.failed findings
   pub counts_are : state.counts ≡ counts_of (findings_of findings)
-  pub clock_is : state.clock ≡ clock_of findings
+  pub clock_is : wants_times state.mapping ≡ true → state.clock ≡ clock_of findings
   pub times_many : length state.times ≡ length state.mapping.lines
-  pub times_are : (place : ℕ) → place < length state.mapping.lines → slice_get state.times place ≡ Some (times_of place findings)
+  pub times_are : wants_times state.mapping ≡ true → (place : ℕ) → place < length state.mapping.lines
+      → slice_get state.times place ≡ Some (times_of place findings)
 
 -- what found findings, of one line, count as: nothing if it was skipped
 abbrev pub tally_found : List Finding → Option FrameTally
@@ -75,7 +85,7 @@ time_told [] = None
 time_told (f ∷ _) = time_found f
 
 -- what is found of the line with this number was added, the counters are those after it, and the answers are what it
--- counts as, and its time
+-- counts as, and its time, if times are looked at
 abbrev pub JudgesLine : WatchState → ℕ → List ℕ → WatchState → Option FrameTally → Option ℕ → Type 0
 JudgesLine old number line new counts time =
     (findings : List Finding) × WatchesLine old.mapping.lines (slice_index old.counters) number line findings
@@ -84,7 +94,7 @@ JudgesLine old number line new counts time =
       text = old.text ++ found_text old.mapping (stamped line findings);
     })
     × (length new.counters ≡ length old.counters) × (counts ≡ tally_found findings)
-    × (time ≡ time_told (stamped line findings))
+    × (time ≡ time_wanted old.mapping (time_told (stamped line findings)))
     × ((place : ℕ) → place < length old.counters → slice_index new.counters place
     ≡ last_accepted place (slice_index old.counters place) (map finding_accepts findings))
 
@@ -163,9 +173,10 @@ pub record WatchesNext (old : WatchState) (number : ℕ) (line : List ℕ) (new 
     accepted = raised_at (accepted_place (tally_found findings)) old.accepted;
     failed = raised_at (failed_place (tally_found findings)) old.failed;
     counts = counts_after (tally_found findings) old.counts;
-    clock = clock_after (time_told (stamped line findings)) old.clock;
-    times = times_after (accepted_place (tally_found findings)) (time_told (stamped line findings))
-        (clock_after (time_told (stamped line findings)) old.clock) old.times;
+    clock = clock_after (time_wanted old.mapping (time_told (stamped line findings))) old.clock;
+    times = times_after (accepted_place (tally_found findings))
+        (time_wanted old.mapping (time_told (stamped line findings)))
+        (clock_after (time_wanted old.mapping (time_told (stamped line findings))) old.clock) old.times;
     text = old.text ++ found_text old.mapping (stamped line findings);
   }
 

@@ -6,7 +6,7 @@ use Rattle.can_logs.specs.declared.findings.FrameTally.{FrameTally}
 use Rattle.watch_commands.specs.declared.times.HeardTimes.{HeardTimes}
 use Rattle.watch_commands.specs.declared.times.LogClock.{LogClock}
 use Rattle.watch_commands.specs.declared.times.Silence.{Silence}
-use Rattle.watch_commands.specs.Seconds.{seconds_form}
+use Rattle.can_logs.specs.Seconds.{seconds_form}
 use Rattle.watch_commands.specs.Silences.{no_silence, endless_silence, longer}
 use Rattle.watch_commands.specs.Stamps.{LineStamp, within_ends}
 use Rattle.watch_commands.specs.Watching.{Found}

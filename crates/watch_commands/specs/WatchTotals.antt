@@ -1,6 +1,7 @@
 -- The numbers at the end of a log: those of each line of the map, and those of the whole log
 use Rattle.std.specs.Prelude.{ℕ, ◌-◌, ◌==◌, ◌&&◌, ◌||◌, nat_lt, Bool, true, false, if◌then◌else◌, List, [], ◌++◌, length, filter, codes, Option, None, Some, is_none, option_map, unwrap_or}
 use Rattle.std.specs.List.{flat_map, list_all, range_with_len, slice_get}
+use Rattle.std.specs.Option.{option_or}
 use Rattle.std.specs.Fmt.{decimal}
 use Rattle.basics.specs.Numbers.{bytes_of}
 use Rattle.hex.specs.Hex.{encode_lower}
@@ -18,7 +19,7 @@ use Rattle.watch_commands.specs.declared.times.Silence.{Silence}
 use Rattle.watch_commands.specs.Seconds.{seconds_text}
 use Rattle.watch_commands.specs.Silences.{lasts}
 use Rattle.watch_commands.specs.Limits.{limit_over, limit_reached, is_within, share_of, limits_in}
-use Rattle.can_logs.specs.MapLines.{row_head}
+use Rattle.can_logs.specs.MapLines.{row_head, own_silence}
 use Rattle.line_stream.specs.Pieces.{in_64_bits}
 use Rattle.watch_commands.specs.WatchedMaps.{WatchedMap}
 use Rattle.can_logs.specs.Findings.{Finding, is_accepted_tally, tally_of}
@@ -190,6 +191,10 @@ silence_end json silence limit =
     ++ before_value json (codes "\",\"limit\":\"") (codes " limit ") ++ seconds_text limit
     ++ before_value json (line (codes "\"}")) (line [])
 
+-- the silence that is too long for a line of the map: its own, or that of the options
+abbrev pub silence_limit : Limits → MapLine → Option ℕ
+silence_limit limits entry = option_or (own_silence entry) limits.silent
+
 -- a line for a silence that reaches its limit, behind the head of its line; none of a line that is optional
 abbrev pub silence_text : Bool → List ℕ → Silence → Option ℕ → List ℕ
 silence_text json head silence None = []
@@ -200,7 +205,7 @@ abbrev pub line_silence : WatchOptions → LineCounts → MapLine → List ℕ
 line_silence options counts entry =
     if entry.optional then []
     else silence_text options.json (over_head options.json counts.number entry) counts.silence
-    (limit_reached (limits_in options).silent (lasts counts.silence))
+    (limit_reached (silence_limit (limits_in options) entry) (lasts counts.silence))
 
 -- all of it of a line of the map
 abbrev pub line_beyond : WatchOptions → LineCounts → MapLine → List ℕ
@@ -236,7 +241,7 @@ abbrev pub does_pass : Limits → LineCounts → MapLine → Bool
 does_pass limits counts entry =
     is_heard counts.accepted entry && is_within limits.missed (missed_of entry counts)
     && is_within limits.missed_share (missed_share_of entry counts)
-    && (entry.optional || is_none (limit_reached limits.silent (lasts counts.silence)))
+    && (entry.optional || is_none (limit_reached (silence_limit limits entry) (lasts counts.silence)))
 
 abbrev pub passes_at : WatchedMap → (ℕ → LineCounts) → ℕ → Bool
 passes_at mapping totals place =

@@ -4,7 +4,7 @@ ghost use Rattle.hex.specs.Hex.{encode_lower};
 ghost use Rattle.watch_commands.specs.States.{counts_after};
 ghost use Rattle.watch_commands.specs.WatchTotals.{counts_of, named, before_value, count_text, counts_text};
 ghost use Rattle.watch_commands.specs.WatchTotals.{can_text, line_head, last_text, total_line};
-ghost use Rattle.watch_commands.specs.WatchTotals.{values_counted, missed_of, missed_share_of, does_pass};
+ghost use Rattle.watch_commands.specs.WatchTotals.{values_counted, missed_of, missed_share_of, does_pass, silence_limit};
 
 use crate::limits::{Limits, is_within, limit_reached, share_of};
 use crate::times::Silence;
@@ -186,11 +186,19 @@ impl LineCounts {
     pub fn does_pass(&self, entry: &MapLine, limits: &Limits) -> bool
         ensures { result ≡ does_pass limits.now self.now entry.now }
     {
+        let silent = silence_limit(limits, entry);
         (entry.optional || self.accepted > 0)
             && is_within(limits.missed, self.missed(entry))
             && is_within(limits.missed_share, self.missed_share(entry))
-            && (entry.optional || limit_reached(limits.silent, self.silence.lasts()).is_none())
+            && (entry.optional || limit_reached(silent, self.silence.lasts()).is_none())
     }
+}
+
+/// The silence that is too long for a line of a map, in microseconds: its own, or that of the options.
+pub fn silence_limit(limits: &Limits, entry: &MapLine) -> Option<u64>
+    ensures { result ≡ silence_limit limits.now entry.now }
+{
+    entry.own_silence().or(limits.silent)
 }
 
 /// Adds these numbers of a line of a map, in room for 360 bytes. It takes no memory.

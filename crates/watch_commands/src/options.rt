@@ -7,7 +7,7 @@ ghost use Rattle.watch_commands.specs.OptionWords.{TakesWord, SetsValue, asked_w
 ghost use Rattle.watch_commands.specs.OptionWords.{watch_options, watch_inputs, kept_file};
 
 use crate::limits::Limits;
-use crate::times::seconds;
+use can_logs::period;
 use std::marker::Model;
 use text_lines::forms;
 
@@ -286,9 +286,9 @@ fn new_silence(given: Option<u64>, word: &[u8]) -> Option<u64>
     if given.is_some() {
         return None;
     }
-    match seconds(word) {
-        Some(0) => None,
-        time => time,
+    match period(word) {
+        Some(time) => Some(time.get()),
+        None => None,
     }
 }
 

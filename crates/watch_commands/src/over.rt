@@ -5,7 +5,9 @@ ghost use Rattle.watch_commands.specs.Silences.{lasts};
 ghost use Rattle.watch_commands.specs.WatchTotals.{silence_end, silence_text, line_silence, line_beyond};
 ghost use Rattle.watch_commands.specs.WatchTotals.{over_head, over_end, over_text, line_over, log_over};
 
-use crate::counts::{LineCounts, WatchCounts, add_line_head, add_number, before_value};
+use crate::counts::{
+    LineCounts, WatchCounts, add_line_head, add_number, before_value, silence_limit,
+};
 use crate::limits::{limit_over, limit_reached};
 use crate::options::WatchOptions;
 use crate::times::{Silence, add_seconds};
@@ -137,7 +139,7 @@ fn add_line_silence(text: &mut Vec<u8>, options: WatchOptions, entry: &MapLine, 
         options.json,
         entry,
         counts,
-        options.limits_in().silent,
+        silence_limit(&options.limits_in(), entry),
     );
 }
 

@@ -32,7 +32,8 @@ LIMIT is what a log may have at most: --missed N and --missed-share PERCENT of f
 --silent SECONDS without an accepted frame of a line of MAP that isn't optional,
 --malformed N lines, --unmapped for no frame that MAP doesn't name. --strict is all of them, with 0 and 5 seconds.
 --expect compares the output with FILE and prints none: 0 if it is the same, else 1 and the line that differs.
-A line of MAP: CANID ID KEY FRESH LEN [WINDOW [CHANNEL]] [optional] [name=NAME] [# COMMENT]
+A line of MAP: CANID ID KEY FRESH LEN [WINDOW [CHANNEL]] [MARK..] [# COMMENT]
+MARK is optional, name=NAME, silent=SECONDS for this line, or every=SECONDS, its period: it is silent after five.
 Status 0: each mapped frame was accepted, and one at least for each line of MAP that isn't optional.
 1: a mapped frame wasn't accepted. 3: a line of MAP accepted none, or a LIMIT is exceeded. 2: usage. 4: MAP.
 5, 8: input. 6: output. 7: memory.

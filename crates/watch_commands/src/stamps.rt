@@ -3,10 +3,10 @@ ghost use Rattle.std.specs.Prelude.{◌≡◌, ◌≤◌, ◌<◌, ◌+◌, ◌*
 ghost use Rattle.text_lines.specs.Readings.{nth_word};
 ghost use Rattle.watch_commands.specs.Stamps.{stamp_of, within_ends, is_plain_ascii, escaped_byte, escaped};
 ghost use Rattle.watch_commands.specs.Stamps.{stamp_words, stamp_object, lead_text};
-ghost use Rattle.watch_commands.specs.Seconds.{seconds_form};
+ghost use Rattle.can_logs.specs.Seconds.{seconds_form};
 
 use crate::options::WatchOptions;
-use crate::times::seconds;
+use can_logs::seconds;
 use line_stream::add_bytes;
 use std::marker::Model;
 use text_lines::pushing::push_digits;

@@ -1,6 +1,6 @@
 //! What is known of a log between two of its lines.
 ghost use Rattle.std.specs.Prelude.{◌≡◌, ◌+◌, ◌*◌, ◌<◌, ◌≤◌, ◌++◌, [], length, replicate, slice_index};
-ghost use Rattle.std.specs.Prelude.{IfOk, IfSome};
+ghost use Rattle.std.specs.Prelude.{IfOk, IfSome, None, if◌then◌else◌};
 ghost use Rattle.std.specs.List.{position_or_len};
 ghost use Rattle.text_lines.specs.Lines.{is_line_feed};
 ghost use Rattle.std.specs.List.{flat_map};
@@ -293,7 +293,7 @@ impl Watch {
         );
         Judged {
             tally: Some(tally),
-            time: time_of(tally, &stamp),
+            time: time_of(self.map.wants_times(), tally, &stamp),
         }
     }
 
@@ -371,17 +371,20 @@ impl Watch {
     }
 }
 
-/// What a line counts as, and its time in microseconds if it isn't malformed and has one.
+/// What a line counts as, and its time in microseconds if times are looked at, and it isn't malformed and has one.
 #[derive(Clone, Copy)]
 struct Judged {
     tally: Option<FrameTally>,
     time: Option<u64>,
 }
 
-/// The time of a line that isn't malformed.
-fn time_of(tally: FrameTally, stamp: &Stamp<'_>) -> Option<u64>
-    ensures { result ≡ time_by tally stamp.now }
+/// The time of a line that isn't malformed, if it is wanted.
+fn time_of(wanted: bool, tally: FrameTally, stamp: &Stamp<'_>) -> Option<u64>
+    ensures { result ≡ (if wanted then time_by tally stamp.now else None) }
 {
+    if !wanted {
+        return None;
+    }
     if let FrameTally::Other(OtherLine::Malformed) = tally {
         return None;
     }

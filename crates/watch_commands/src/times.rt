@@ -1,85 +1,11 @@
 //! The times of a log, in microseconds, and the longest time in which a line of the map accepted nothing.
-ghost use Rattle.std.specs.Prelude.{◌≡◌, ◌≤◌, ◌<◌, ◌==◌, ◌+◌, ◌^◌, ◌++◌, true, length, drop, position, vec_len, vec_capacity, None};
-ghost use Rattle.std.specs.Prelude.{IfSome};
-ghost use Rattle.std.specs.List.{list_all};
-ghost use Rattle.std.specs.Char.{is_ascii_digit};
-ghost use Rattle.std.specs.Str.Parse.{digits_value};
-ghost use Rattle.watch_commands.specs.Seconds.{millionths, seconds_parts, seconds_form, seconds_text};
+ghost use Rattle.std.specs.Prelude.{◌≡◌, ◌≤◌, ◌<◌, ◌+◌, ◌++◌, length, drop, vec_len, vec_capacity, None};
+ghost use Rattle.watch_commands.specs.Seconds.{seconds_text};
 ghost use Rattle.watch_commands.specs.Times.{moment_after, first_time, no_times, until, heard};
 ghost use Rattle.watch_commands.specs.Silences.{no_silence, endless_silence, lasts};
 
 use itoa::Buffer;
 use line_stream::add_bytes;
-
-/// The most digits before the point of a time.
-const MOST_DIGITS: usize = 12;
-
-/// A time of seconds, with or without a fraction, in microseconds; `None` if it isn't of the form. The seventh digit of
-/// a fraction and those behind it count for nothing.
-#[tactic(auto, unfolding(crate::specs::Seconds::seconds_form))]
-pub fn seconds(word: &[u8]) -> Option<u64>
-    ensures { result ≡ seconds_form word.now }
-{
-    match place_of_point(word) {
-        Some(at) => seconds_of(&word[..at], &word[at + 1..]),
-        None => seconds_of(word, &[]),
-    }
-}
-
-/// The place of the first point, counted from 0; `None` if there is none.
-fn place_of_point(word: &[u8]) -> Option<usize>
-    ensures exact { result ≡ position (λ byte. byte == 46) word.now }
-    ensures within { IfSome result (λ at. at < length word.now) }
-{
-    word.iter().position(|byte| *byte == b'.')
-}
-
-/// The time of these digits before and behind a point.
-fn seconds_of(whole: &[u8], fraction: &[u8]) -> Option<u64>
-    ensures { result ≡ seconds_parts whole.now fraction.now }
-{
-    if whole.is_empty() || whole.len() > MOST_DIGITS {
-        return None;
-    }
-    if !are_digits(whole) || !are_digits(fraction) {
-        return None;
-    }
-    Some(number_of(whole) * 1_000_000 + millionths_of(fraction))
-}
-
-/// Whether each byte is a decimal digit.
-fn are_digits(bytes: &[u8]) -> bool
-    ensures { result ≡ list_all is_ascii_digit bytes.now }
-{
-    bytes.iter().all(u8::is_ascii_digit)
-}
-
-/// The number of decimal digits.
-fn number_of(digits: &[u8]) -> u64
-    requires digits { list_all is_ascii_digit digits.now ≡ true }
-    requires few { length digits.now ≤ 12 }
-    ensures value { result ≡ digits_value 10 digits.now }
-    ensures few { result < 10 ^ 12 }
-{
-    let mut number = 0;
-    for digit in digits {
-        number = number * 10 + u64::from(*digit - b'0');
-    }
-    number
-}
-
-/// The millionths of a fraction of decimal digits.
-fn millionths_of(fraction: &[u8]) -> u64
-    requires { list_all is_ascii_digit fraction.now ≡ true }
-    ensures value { result ≡ millionths fraction.now }
-    ensures few { result ≤ 10 ^ 18 }
-{
-    let size = fraction.len();
-    if size >= 6 {
-        return number_of(&fraction[..6]);
-    }
-    number_of(fraction) * 10_u64.pow(6 - size as u32)
-}
 
 /// Adds a time in seconds, with a point and six digits, in room for 81 bytes. It takes no memory.
 pub fn add_seconds(text: &mut Vec<u8>, micros: u64)

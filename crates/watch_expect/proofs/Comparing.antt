@@ -1,8 +1,10 @@
 -- A comparison, from line to line of the log
-use Rattle.std.proofs.Common.{◌≡◌, ℕ, ◌<◌, ◌≤◌, List, [], ◌∷◌, ◌++◌, length, take, refl, sym, ap, ◌∙◌, subst, arith, inl, inr, append_assoc}
+use Rattle.std.proofs.Common.{◌≡◌, ℕ, ◌<◌, ◌≤◌, List, [], ◌∷◌, ◌++◌, length, take, drop, refl, sym, ap, ◌∙◌, subst, arith, inl, inr, append_assoc}
 use Rattle.std.specs.Prelude.{Option, None, Some, Ok, Err}
 use Rattle.std.proofs.lemmas.Grind.{flat_map-append}
 use Rattle.std.proofs.lemmas.Option.{same_Some}
+use Rattle.std.proofs.lemmas.List.{length-take-le}
+use Rattle.std.proofs.Math.ListN.{drop_of_length-le}
 use Rattle.program_edge.specs.Told.{AppendedWell, EndingTold}
 use Rattle.program_edge.specs.Inputs.{Reading, ReadsWhole}
 use Rattle.program_edge.specs.declared.input.InputFault.{InputFault}
@@ -23,6 +25,7 @@ use Rattle.watch_commands.specs.LogTotals.{totals_text}
 use Rattle.watch_commands.specs.Words.{AsksWatch, text_asked}
 use Rattle.watch_commands.specs.WatchRows.{OverMap, ComesOnErrors, no_form, no_map, map_fault, no_log, FailsOfLog, failed, too_long}
 use Rattle.watch_commands.proofs.CallerLemmas.{asks_no_text, Watched-none, Watched-text, WatchedMore, WatchedMore-none, WatchedMore-more, finds_lines, text_at_end}
+use Rattle.watch_expect.specs.declared.texts.Difference.{Difference}
 use Rattle.watch_expect.specs.Comparing.{difference_text, LeavesAt, PrintsAll, DiffersIn, goes_on, ends, holds_bytes, writes_bytes}
 use Rattle.watch_expect.specs.Comparing as differs
 use Rattle.watch_expect.specs.CompareSteps.{EndsAsKept, ComparesLog, WatchAtText, ComparesLine, FollowsFound, EndsFound}
@@ -49,11 +52,16 @@ well_more some more all is = (
 )
 
 -- what is printed of the whole log, and the text
-ended_as : (mapping : WatchedMap) (log : Reading) (text : List ℕ) (at : ℕ) (found : List ℕ) (end : Option ℕ)
-    → ((t : List ℕ) → t ≡ take at text ++ found → PrintsAll mapping log t) → EndsAsKept text at found end → ComparesLog mapping log text (Ok end)
-ended_as mapping log text at found None prints is = prints text is
-ended_as mapping log text at found (Some n) prints (few, inl leaves) = (few, differs.at_end (take at text ++ found) (prints (take at text ++ found) refl) leaves)
-ended_as mapping log text at found (Some n) prints (few, inr (less, is)) = (few, ends (prints (take n text) is) less)
+ended_as : (mapping : WatchedMap) (log : Reading) (text : List ℕ) (at : ℕ) (found left : List ℕ) (end : Option Difference) → left ≡ found
+    → ((t : List ℕ) → t ≡ take at text ++ found → PrintsAll mapping log t) → EndsAsKept text at found end → ComparesLog mapping log text left (Ok end)
+ended_as mapping log text at found left None left_is prints is = prints text is
+ended_as mapping log text at found left (Some d) left_is prints (few, inl leaves, behind) =
+    (few, differs.at_end (take at text ++ found) (prints (take at text ++ found) refl) leaves (ap (drop d.from) left_is ∙ behind))
+ended_as mapping log text at found left (Some d) left_is prints (few, inr (less, is), behind) = (
+  few,
+  ends (prints (take d.place text) is) less
+      (ap (drop d.from) left_is ∙ behind ∙ ap (drop d.place) (sym is) ∙ drop_of_length-le (take d.place text) (omega (arith, length-take-le d.place text few))),
+)
 
 -- ---- the log
 
@@ -132,10 +140,10 @@ module _ (fresh : WatchState) (text : List ℕ) (is_fresh : IsFreshWatch fresh) 
 
   module _ (log : Reading) (now : WatchAtText) where
     -- the log ended
-    log_ends : (end : Option ℕ) → EndsStream ComparesLine FollowsFound EndsFound log begun now end → ComparesLog mapping log text (Ok end)
+    log_ends : (end : Option Difference) → EndsStream ComparesLine FollowsFound EndsFound log begun now end → ComparesLog mapping log text now.watch.text (Ok end)
     log_ends end d = elim d.ended [
       | inr stopped ↦ absurd stopped
-      | inl (taken, takes_last, ended) ↦
+      | inl (taken, takes_last, (ended, left_is)) ↦
           let so_far = at_pause d.bytes d.lines d.before d.paused in
           let (w, text_is, at_is) = lines_held d.lines (d.last ∷ []) d.bytes d.before taken so_far (taken, takes_last, refl) in
           let all : List (List ℕ) = d.lines ++ d.last ∷ [] in
@@ -151,14 +159,15 @@ module _ (fresh : WatchState) (text : List ℕ) (is_fresh : IsFreshWatch fresh) 
           ∙ ap (λ (t : List ℕ). t ++ totals) (sym (flat_map-append (told_text mapping.options) so_far.findings w.found)) in
           let finds : FindsAll mapping.lines d.bytes findings =
           subst (λ (ls : List (List ℕ)). WatchesEach mapping.lines ls findings) (sym d.cut) (finds_lines mapping all taken.watch findings w.same w.watched) in
-          ended_as mapping log text d.before.at found end (λ t is. (d.bytes, findings, d.read, finds, is ∙ whole_is)) kept
+          ended_as mapping log text d.before.at found now.watch.text end (left_is ∙ text_at_end mapping so_far.findings all taken.watch w) (λ t is. (d.bytes, findings, d.read, finds, is ∙ whole_is)) kept
     ]
 
     -- what is found of a piece leaves the text
-    log_leaves : (end : Option ℕ) → StopsStream ComparesLine FollowsFound log begun now end → ComparesLog mapping log text (Ok end)
+    log_leaves : (end : Option Difference) → StopsStream ComparesLine FollowsFound log begun now end → ComparesLog mapping log text now.watch.text (Ok end)
     log_leaves end d = elim d.stops [
       | inr (some, stopped) ↦ absurd stopped
-      | inl (none, (n, end_is, few, leaves)) ↦
+      | inl (none, (difference, end_is, few, leaves, behind)) ↦
+          let n : ℕ = difference.place in
           let so_far = at_pause d.bytes d.lines d.before d.paused in
           let (w, text_is, at_is) = lines_held d.lines d.more d.bytes d.before d.taken so_far d.takes_more in
           let all : List (List ℕ) = d.lines ++ d.more in
@@ -166,17 +175,21 @@ module _ (fresh : WatchState) (text : List ℕ) (is_fresh : IsFreshWatch fresh) 
           let leaves_here : LeavesAt text (take d.before.at text ++ d.taken.watch.text) n =
           subst (λ (m : ℕ). LeavesAt text (take m text ++ d.taken.watch.text) n) at_is
           (subst (λ (t : List ℕ). LeavesAt t (take d.taken.at t ++ d.taken.watch.text) n) text_is leaves) in
-          subst (λ (e : Option ℕ). ComparesLog mapping log text (Ok e)) (sym end_is) (
+          let behind_here : drop difference.from now.watch.text ≡ drop n (take d.before.at text ++ d.taken.watch.text) =
+          subst (λ (m : ℕ). drop difference.from now.watch.text ≡ drop n (take m text ++ d.taken.watch.text)) at_is
+          (subst (λ (t : List ℕ). drop difference.from now.watch.text ≡ drop n (take d.taken.at t ++ d.taken.watch.text)) text_is behind) in
+          subst (λ (e : Option Difference). ComparesLog mapping log text now.watch.text (Ok e)) (sym end_is) (
             subst (λ (t : List ℕ). n ≤ length t) text_is few,
             goes_on (d.bytes ++ d.piece) findings d.came d.calm
                 (complete (d.bytes ++ d.piece) all d.rest findings (subst (λ (b : List (List ℕ)). log_lines (d.bytes ++ d.piece) ≡ all ++ d.rest ∷ b) none d.cut)
                 (finds_lines mapping all d.taken.watch findings w.same w.watched))
-                (subst (λ (t : List ℕ). LeavesAt text t n) (both_found d.lines all d.bytes d.before d.taken.watch so_far w) leaves_here),
+                (subst (λ (t : List ℕ). LeavesAt text t n) (both_found d.lines all d.bytes d.before d.taken.watch so_far w) leaves_here)
+                (behind_here ∙ ap (drop n) (both_found d.lines all d.bytes d.before d.taken.watch so_far w)),
           )
     ]
 
     -- a log that was taken to its end, or until the texts part
-    pub Compares-taken : (end : Option ℕ) → Streamed ComparesLine FollowsFound EndsFound log begun now (Ok end) → ComparesLog mapping log text (Ok end)
+    pub Compares-taken : (end : Option Difference) → Streamed ComparesLine FollowsFound EndsFound log begun now (Ok end) → ComparesLog mapping log text now.watch.text (Ok end)
     Compares-taken end (inl at_its_end) = log_ends end at_its_end
     Compares-taken end (inr before_it) = log_leaves end before_it
 
@@ -226,14 +239,15 @@ told_whole before after text status answer n (inr (six, rose, part)) at less = a
 same_at : (i : ExpectInputs) (e : ExpectEnding) (found : Row) → ComesExpected i found → (found.status ≡ 0) × AppendedWell e.errors.before e.errors.after found.text
     → WritesWhole e.errors [] × ((text : List ℕ) × ReadsWhole i.kept text × OverMap (watched_of i) (λ mapping. PrintsAll mapping i.log text))
 same_at i e _ (row.same text reads prints) (is, well) = (well, (text, reads, prints))
-same_at i e _ (row.differs text n reads over) (is, well) = absurd (omega (arith, is))
+same_at i e _ (row.differs text n came reads over) (is, well) = absurd (omega (arith, is))
 same_at i e _ (row.no_kept fault lacks map log) (is, well) = absurd (omega (arith, is, kept_status fault))
 same_at i e _ (row.fault text n found reads comes) (is, well) = absurd (omega (arith, is, error_status (watched_of i) (writes_bytes (take n text)) found comes))
 
 differs_at : (i : ExpectInputs) (e : ExpectEnding) (found : Row) → ComesExpected i found → (found.status ≡ 1) × AppendedWell e.errors.before e.errors.after found.text
-    → (text : List ℕ) × (n : ℕ) × ReadsWhole i.kept text × OverMap (watched_of i) (λ mapping. DiffersIn mapping i.log text n) × WritesWhole e.errors (difference_text text n)
+    → (text : List ℕ) × (n : ℕ) × (came : List ℕ) × ReadsWhole i.kept text × OverMap (watched_of i) (λ mapping. DiffersIn mapping i.log text n came)
+    × WritesWhole e.errors (difference_text text n came)
 differs_at i e _ (row.same text reads prints) (is, well) = absurd (omega (arith, is))
-differs_at i e _ (row.differs text n reads over) (is, well) = (text, n, reads, over, well)
+differs_at i e _ (row.differs text n came reads over) (is, well) = (text, n, came, reads, over, well)
 differs_at i e _ (row.no_kept fault lacks map log) (is, well) = absurd (omega (arith, is, kept_status fault))
 differs_at i e _ (row.fault text n found reads comes) (is, well) = absurd (omega (arith, is, error_status (watched_of i) (writes_bytes (take n text)) found comes))
 

@@ -2,7 +2,8 @@
 use Rattle.std.proofs.Common.{◌≡◌, ℕ, zero, suc, ◌+◌, ◌<◌, ◌≤◌, List, [], ◌∷◌, ◌++◌, length, take, drop, sym, ap, ◌∙◌, arith, length-append}
 use Rattle.std.specs.List.{slice_get}
 use Rattle.std.proofs.lemmas.List.{length-take-le, length-drop, take-append-drop, take_all}
-use Rattle.std.proofs.Math.Seq.{take-add, take-append-add}
+use Rattle.std.proofs.Math.Seq.{take-add, take-append-add, drop-append-add, drop-length}
+use Rattle.std.proofs.Math.ListN.{drop_of_length-le}
 use Rattle.watch_expect.specs.Comparing.{Parts, LeavesAt}
 
 -- the elements behind the first ones
@@ -37,3 +38,13 @@ module _ (text found : List ℕ) (at count : ℕ) (within : at ≤ length text) 
         omega (arith, less, first_size, length-append first found),
         λ same_next. parts (sym own ∙ same_next ∙ other),
       )
+
+  -- what was found goes on there
+  pub goes_on_at : drop count found ≡ drop (at + count) (first ++ found)
+  goes_on_at =
+      sym (ap (λ (n : ℕ). drop n (first ++ found)) (ap (λ (n : ℕ). n + count) (sym first_size)) ∙ drop-append-add first found count)
+
+-- nothing goes on behind all of it
+pub nothing_left : (text found : List ℕ) (at next : ℕ) → next ≤ length text → take next text ≡ take at text ++ found → drop (length found) found ≡ drop next (take at text ++ found)
+nothing_left text found at next few is =
+    drop-length found ∙ sym (ap (drop next) (sym is) ∙ drop_of_length-le (take next text) (omega (arith, length-take-le next text few)))

@@ -1,5 +1,5 @@
 -- A kept text, and what `watch` prints
-use Rattle.std.specs.Prelude.{◌≡◌, ℕ, ◌+◌, ◌<◌, List, [], ◌++◌, length, take, filter, codes, Option, Some}
+use Rattle.std.specs.Prelude.{◌≡◌, ℕ, ◌+◌, ◌<◌, ◌==◌, if◌then◌else◌, List, [], ◌∷◌, ◌++◌, length, take, drop, filter, position, codes, Option, None, Some}
 use Rattle.std.specs.List.{slice_get}
 use Rattle.std.specs.Fmt.{decimal}
 use Rattle.bus_port.specs.Sink.{SinkState}
@@ -19,9 +19,32 @@ Parts one other = ¬ (one ≡ other)
 abbrev pub line_number : List ℕ → ℕ → ℕ
 line_number text n = length (filter is_line_feed (take n text)) + 1
 
--- what is told of a difference behind the first n bytes of a kept text
-abbrev pub difference_text : List ℕ → ℕ → List ℕ
-difference_text text n = line (codes "expect: line " ++ decimal (line_number text n))
+-- what stands behind the last line feed of a text, and before its first one
+abbrev pub last_line_from : List ℕ → List ℕ → List ℕ
+last_line_from so_far [] = so_far
+last_line_from so_far (c ∷ cs) =
+    if is_line_feed c then last_line_from [] cs else last_line_from (so_far ++ c ∷ []) cs
+
+abbrev pub last_line : List ℕ → List ℕ
+last_line text = last_line_from [] text
+
+abbrev pub first_line_to : List ℕ → Option ℕ → List ℕ
+first_line_to text None = text
+first_line_to text (Some at) = take at text
+
+abbrev pub first_line : List ℕ → List ℕ
+first_line text = first_line_to text (position (λ byte. byte == 10) text)
+
+-- a line of a text with these bytes before a place and behind it, of which 4,096 on each side at most are told
+abbrev pub told_line : List ℕ → List ℕ → List ℕ → List ℕ
+told_line mark before behind = line (mark ++ take 4096 (last_line before) ++ take 4096 (first_line behind))
+
+-- what is told of a difference behind the first n bytes of a kept text, where this is printed instead: the number of the
+-- line, what the kept text has there, and what came
+abbrev pub difference_text : List ℕ → ℕ → List ℕ → List ℕ
+difference_text text n came =
+    line (codes "expect: line " ++ decimal (line_number text n))
+    ++ told_line (codes "- ") (take n text) (drop n text) ++ told_line (codes "+ ") (take n text) came
 
 -- two texts have the same first n bytes, and then the other one a byte that the first hasn't there
 abbrev pub LeavesAt : List ℕ → List ℕ → ℕ → Type 0
@@ -34,14 +57,15 @@ PrintsAll mapping log text = (bytes : List ℕ) × (findings : List Found) × Re
     × FindsAll mapping.lines bytes findings
     × (text ≡ found_text mapping findings ++ totals_text mapping findings)
 
--- behind its first n bytes a kept text isn't what is printed of a log. Of what came of the log another byte is printed
--- there, or all that is printed ends there; and the log didn't fail
-pub data DiffersIn (mapping : WatchedMap) (log : Reading) (text : List ℕ) (n : ℕ) : Type 0 where
+-- behind its first n bytes a kept text isn't what is printed of a log, but this comes. Of what came of the log another
+-- byte is printed there, or all that is printed ends there; and the log didn't fail
+pub data DiffersIn (mapping : WatchedMap) (log : Reading) (text : List ℕ) (n : ℕ) (came : List ℕ) : Type 0 where
   goes_on : (bytes : List ℕ) (findings : List Found) → HasCome log bytes → log.after.faults ≡ log.before.faults
       → FindsComplete mapping.lines bytes findings → LeavesAt text (found_text mapping findings) n
-      → DiffersIn mapping log text n
-  at_end : (whole : List ℕ) → PrintsAll mapping log whole → LeavesAt text whole n → DiffersIn mapping log text n
-  ends : PrintsAll mapping log (take n text) → n < length text → DiffersIn mapping log text n
+      → came ≡ drop n (found_text mapping findings) → DiffersIn mapping log text n came
+  at_end : (whole : List ℕ) → PrintsAll mapping log whole → LeavesAt text whole n → came ≡ drop n whole
+      → DiffersIn mapping log text n came
+  ends : PrintsAll mapping log (take n text) → n < length text → came ≡ [] → DiffersIn mapping log text n came
 
 -- a sink that these bytes, and no others, were written to
 abbrev pub holds_bytes : List ℕ → SinkState

@@ -35,8 +35,9 @@ kept_row Memory = row_of 7 []
 pub data ComesExpected (i : ExpectInputs) : Row → Type 0 where
   same : (text : List ℕ) → ReadsWhole i.kept text → OverMap (watched_of i) (λ mapping. PrintsAll mapping i.log text)
       → ComesExpected i (row_of 0 [])
-  differs : (text : List ℕ) (n : ℕ) → ReadsWhole i.kept text
-      → OverMap (watched_of i) (λ mapping. DiffersIn mapping i.log text n) → ComesExpected i (row_of 1 (difference_text text n))
+  differs : (text : List ℕ) (n : ℕ) (came : List ℕ) → ReadsWhole i.kept text
+      → OverMap (watched_of i) (λ mapping. DiffersIn mapping i.log text n came)
+      → ComesExpected i (row_of 1 (difference_text text n came))
   no_kept : (fault : InputFault) → Lacks i.kept fault → IsUnread i.map → IsUnread i.log → ComesExpected i (kept_row fault)
   -- a fault of the map or of the log, as a run of `watch` tells it that printed the first n bytes of the kept text
   fault : (text : List ℕ) (n : ℕ) (row : Row) → ReadsWhole i.kept text
@@ -49,6 +50,7 @@ pub record Expects (i : ExpectInputs) (e : ExpectEnding) : Type 0 where
   -- 0: `watch` prints exactly the kept text.
   pub same : e.status ≡ 0 → WritesWhole e.errors [] × ((text : List ℕ) × ReadsWhole i.kept text
       × OverMap (watched_of i) (λ mapping. PrintsAll mapping i.log text))
-  -- 1: it doesn't, and the line of the first difference is told.
-  pub differs : e.status ≡ 1 → (text : List ℕ) × (n : ℕ) × ReadsWhole i.kept text
-      × OverMap (watched_of i) (λ mapping. DiffersIn mapping i.log text n) × WritesWhole e.errors (difference_text text n)
+  -- 1: it doesn't, and the line of the first difference is told, with what is kept there and what came.
+  pub differs : e.status ≡ 1 → (text : List ℕ) × (n : ℕ) × (came : List ℕ) × ReadsWhole i.kept text
+      × OverMap (watched_of i) (λ mapping. DiffersIn mapping i.log text n came)
+      × WritesWhole e.errors (difference_text text n came)

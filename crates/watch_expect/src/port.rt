@@ -2,7 +2,7 @@
 ghost use Rattle.std.specs.Prelude.{◌≡◌, ◌+◌, ◌*◌, ◌≤◌, [], ◌∷◌, length};
 ghost use Rattle.watch_expect.specs.CompareSteps.{WatchAtText, ComparesLine, FollowsFound, EndsFound};
 
-use crate::texts::{follow, follow_to_end};
+use crate::texts::{Difference, follow, follow_to_end};
 use line_stream::LineTaker;
 use watch_commands::Watch;
 
@@ -15,7 +15,7 @@ pub(crate) struct ExpectPort<'a> {
 }
 
 impl<'a> LineTaker for ExpectPort<'a> {
-    type End = Option<usize>;
+    type End = Option<Difference>;
 
     ghost State = { WatchAtText };
 
@@ -31,23 +31,23 @@ impl<'a> LineTaker for ExpectPort<'a> {
 
     ghost ends = { EndsFound };
 
-    fn take(&mut self, number: u64, line: &[u8]) -> Result<(), Option<usize>> {
+    fn take(&mut self, number: u64, line: &[u8]) -> Result<(), Option<Difference>> {
         self.watch.take(number, line);
         Ok(())
     }
 
-    fn pause(&mut self) -> Result<(), Option<usize>> {
+    fn pause(&mut self) -> Result<(), Option<Difference>> {
         match follow(self.text, self.at, self.watch.text()) {
             Ok(next) => {
                 self.at = next;
                 self.watch.begin_text();
                 Ok(())
             }
-            Err(place) => Err(Some(place)),
+            Err(difference) => Err(Some(difference)),
         }
     }
 
-    fn finish(&mut self) -> Option<usize> {
+    fn finish(&mut self) -> Option<Difference> {
         self.watch.end();
         follow_to_end(self.text, self.at, self.watch.text())
     }

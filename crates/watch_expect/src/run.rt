@@ -10,10 +10,9 @@ ghost use Rattle.watch_expect.specs.Expects.{kept_row, Expects};
 ghost use Rattle.watch_expect.specs.CompareSteps.{IsKeptRow, ComparesLog};
 
 use crate::port::ExpectPort;
-use crate::texts::line_at;
+use crate::texts::{Difference, put_difference, rest_behind};
 use bus_port::{Sink, Source};
-use itoa::Buffer;
-use line_stream::{StreamFault, add_bytes, stream_lines};
+use line_stream::{StreamFault, stream_lines};
 use program_edge::{DONE, InputFault, Refusal, read_input, tell, tell_refusal};
 use std::alloc::{AllocError, Global};
 use watch_commands::{Watch, prepare};
@@ -21,10 +20,10 @@ use watch_commands::{Watch, prepare};
 /// The status if the output isn't the kept text.
 const DIFFERS: u8 = 1;
 
-/// The most bytes that tell a difference.
-const DIFFERENCE_ROOM: usize = 54;
+/// The most bytes that tell a difference: its line, of two texts, of each 4,096 bytes before it and behind it.
+const DIFFERENCE_ROOM: usize = 16_444;
 
-/// A kept text of at most 1,048,576 bytes, and room for the line that tells its first difference.
+/// A kept text of at most 1,048,576 bytes, and room for what tells its first difference.
 #[derive(Drop)]
 struct Kept {
     text: Vec<u8>,
@@ -33,9 +32,9 @@ struct Kept {
 
 /// Watches a log, and ends with 0 exactly if `watch` prints the kept text, of at most 1,048,576 bytes. Nothing is
 /// printed on standard output. The kept text is read whole, then the map. Each piece of the log is compared before the
-/// log is read again. At the first difference the run ends with 1, and its line is told on `errors`; so, too, if the
-/// output ends before the text. The rows of faults are those of `run_watch`, and of the kept text 5, 8 and 7. Out of
-/// memory comes only before the log.
+/// log is read again. At the first difference the run ends with 1. `errors` has the number of its line, the line as it
+/// is kept, and as it came; so, too, if the output ends before the text. The rows of faults are those of `run_watch`,
+/// and of the kept text 5, 8 and 7. Out of memory comes only before the log.
 pub fn run_expected<F: Source, S: Source, T: Source, E: Sink>(
     alloc: Global,
     words: &[String],
@@ -64,14 +63,17 @@ pub fn run_expected<F: Source, S: Source, T: Source, E: Sink>(
     };
     match compare_log(&mut watch, kept.text.as_slice(), log) {
         Ok(None) => DONE,
-        Ok(Some(count)) => tell_difference(&mut kept, count, errors),
+        Ok(Some(difference)) => {
+            let came = rest_behind(watch.text(), difference.from);
+            tell_difference(&mut kept, difference.place, came, errors)
+        }
         Err(refusal) => tell_refusal(errors, &refusal),
     }
 }
 
-/// The text that a source gives, and room for the line that tells a difference; or the row of the fault.
+/// The text that a source gives, and room for what tells a difference; or the row of the fault.
 fn read_kept<F: Source>(alloc: Global, kept: &mut F) -> Result<Kept, Refusal>
-    ensures ok { IfOk result (λ k. (54 ≤ vec_capacity k.line)
+    ensures ok { IfOk result (λ k. (16444 ≤ vec_capacity k.line)
         × ReadsWhole (record { before = F.state kept.old; after = F.state kept.new }) k.text.items) }
     ensures err { IfErr result (IsKeptRow (record { before = F.state kept.old; after = F.state kept.new })) }
 {
@@ -96,19 +98,15 @@ fn kept_refusal(fault: InputFault) -> Refusal
     }
 }
 
-/// Tells the line of a text that goes on behind its first bytes.
-fn tell_difference<E: Sink>(kept: &mut Kept, count: usize, errors: &mut E) -> u8
-    requires room { 54 ≤ vec_capacity kept.old.line }
-    requires within { count ≤ length kept.old.text.items }
+/// Tells how a text goes on behind its first bytes, and what came instead.
+fn tell_difference<E: Sink>(kept: &mut Kept, place: usize, came: &[u8], errors: &mut E) -> u8
+    requires room { 16444 ≤ vec_capacity kept.old.line }
+    requires within { place ≤ length kept.old.text.items }
     requires short { length kept.old.text.items < 2 ^ 32 }
-    ensures { EndingTold (E.state errors.old) (E.state errors.new) (difference_text kept.old.text.items count) 1 result }
+    ensures { EndingTold (E.state errors.old) (E.state errors.new)
+        (difference_text kept.old.text.items place came.now) 1 result }
 {
-    let mut digits = Buffer::new();
-    let line = line_at(kept.text.as_slice(), count);
-    kept.line.clear();
-    add_bytes(&mut kept.line, b"expect: line ");
-    add_bytes(&mut kept.line, digits.format(line).as_bytes());
-    add_bytes(&mut kept.line, b"\n");
+    put_difference(&mut kept.line, kept.text.as_slice(), place, came);
     tell(errors, kept.line.as_slice(), DIFFERS)
 }
 
@@ -117,10 +115,10 @@ fn compare_log<T: Source>(
     watch: &mut Watch,
     text: &[u8],
     log: &mut T,
-) -> Result<Option<usize>, Refusal>
+) -> Result<Option<Difference>, Refusal>
     requires { IsFreshWatch watch.old }
     ensures { ComparesLog watch.old.mapping (record { before = T.state log.old; after = T.state log.new }) text.now
-        result }
+        watch.new.text result }
 {
     let mut port = ExpectPort { watch, text, at: 0 };
     match stream_lines(log, &mut port) {

@@ -2,6 +2,7 @@
 #include <string.h>
 
 #include "Crypto.h"
+#include "FvM_Core.h"
 #include "FvM_Memory.h"
 #include "memory.h"
 #include "play.h"
@@ -11,6 +12,7 @@ enum { SILENCE = 250 };
 /* A unit whose counters are at these bounds comes up. */
 static void unit_of(uint64 *bounds)
 {
+    memory_power_up();
     make_elsewhere(FVM_CELLS, bounds);
     start_unit();
     if (FvM_GetState() != FVM_UP)
@@ -196,6 +198,60 @@ static void silent_secoc(void)
             fail("a SecOC that told a success is stopped, candidates", i);
 }
 
+/* A freshness that is a whole window ahead gets its bound. One that is further ahead is refused. */
+static void far_ahead(void)
+{
+    const uint8 window = (uint8)FvM_Routes[BRAKE].window;
+    uint64 bounds[FVM_ROUTES] = {0u};
+    unit_of(bounds);
+    if (query(BRAKE, window, 8u) != E_OK)
+        fail("a freshness in the window gets no bound, ID", FvM_Routes[BRAKE].freshnessId);
+    tell(BRAKE, SECOC_VERIFICATIONFAILURE);
+    if (query(BRAKE, (uint8)(window + 1u), 8u) != E_NOT_OK)
+        fail("a freshness beyond the window is a candidate, ID", FvM_Routes[BRAKE].freshnessId);
+}
+
+/* SecOC has too little room for a freshness, or more truncated bits than a freshness has. */
+static void wrong_lengths(void)
+{
+    const uint16 sent = FvM_Routes[SHORT_ONE].freshnessId, received = FvM_Routes[JASPAR].freshnessId;
+    uint64 bounds[FVM_ROUTES] = {0u};
+    uint8 freshness[16] = {0}, truncated[16] = {0x10u};
+    uint32 length = FvM_Routes[SHORT_ONE].bits - 1u, bits = FvM_Routes[SHORT_ONE].bits;
+    forget_given();
+    unit_of(bounds);
+    if (next(SHORT_ONE) != E_OK || query(JASPAR, 0x10u, 4u) != E_OK)
+        fail("no freshness, ID", sent);
+    if (SecOC_GetTxFreshnessTruncData(sent, freshness, &length, truncated, &bits) != E_NOT_OK)
+        fail("a freshness has too little room, bits", length);
+    length = FvM_Routes[JASPAR].bits - 1u;
+    if (SecOC_GetRxFreshness(received, truncated, 4u, 0u, freshness, &length) != E_NOT_OK)
+        fail("a candidate has too little room, bits", length);
+    length = 64u;
+    bits = FvM_Routes[SHORT_ONE].bits + 1u;
+    if (SecOC_GetTxFreshnessTruncData(sent, freshness, &length, truncated, &bits) != E_NOT_OK)
+        fail("a freshness has more truncated bits than bits, bits", bits);
+    if (SecOC_GetRxFreshness(received, truncated, 0u, 0u, freshness, &length) != E_NOT_OK
+        || SecOC_GetRxFreshness(received, truncated, 65u, 0u, freshness, &length) != E_NOT_OK)
+        fail("a candidate has any bits, ID", received);
+}
+
+/* A success that comes while all begins again accepts nothing, and is no fault. */
+static void late_success(void)
+{
+    uint64 bounds[FVM_ROUTES] = {0u};
+    unit_of(bounds);
+    if (query(BRAKE, 1u, 8u) != E_OK)
+        fail("a candidate isn't given, ID", FvM_Routes[BRAKE].freshnessId);
+    memory_power_up();
+    FvM_Init();
+    tell(BRAKE, SECOC_VERIFICATIONSUCCESS);
+    while (FvM_GetState() == FVM_READING || FvM_GetState() == FVM_GROWING)
+        main_function();
+    if (FvM_GetState() != FVM_UP || query(BRAKE, 1u, 8u) != E_NOT_OK)
+        fail("a success of another life counts, ID", FvM_Routes[BRAKE].freshnessId);
+}
+
 /* SecOC passes fewer bits than the window needs. */
 static void few_bits(void)
 {
@@ -218,13 +274,85 @@ static void refusing_memory(void)
     memory_refuse(0u);
 }
 
+/* All begins again while a job of the memory runs: the unit stays stopped, and comes up after it. */
+static void init_within_a_job(void)
+{
+    uint64 bounds[FVM_ROUTES] = {0u};
+    uint8 freshness[8];
+    uint32 length = 64u;
+    unit_of(bounds);
+    (void)SecOC_GetTxFreshness(FvM_Routes[SPEED].freshnessId, freshness, &length);
+    for (uint32 i = 0u; i < 200u && memory_job() == 0u; i++)
+        FvM_MainFunction();
+    FvM_Init();
+    stopped_by(RATHONSI_BUSY, FVM_NO_CELL);
+    while (memory_job() != 0u)
+        main_function();
+    for (uint32 i = 0u; i < 2u; i++) {
+        FvM_Init();
+        while (FvM_GetState() == FVM_READING || FvM_GetState() == FVM_GROWING)
+            main_function();
+    }
+    if (FvM_GetState() != FVM_UP || next(SPEED) != E_OK)
+        fail("a unit doesn't begin again, status", (uint64)FvM_GetFault());
+}
+
+static uint64 bound_of(uint32 route)
+{
+    RathonsiRouteState told = {0u, 0u};
+    right(rathonsi_route_state(&FvM_Route[route], FvM_Image, FvM_Size, &told), "a route has no state");
+    return told.bound;
+}
+
+/* Takes all freshness of a route up to its bound, less so many. */
+static void take_all_but(uint32 route, uint64 left)
+{
+    uint8 freshness[8];
+    while (given[route] + left < bound_of(route)) {
+        uint32 length = 64u;
+        if (SecOC_GetTxFreshness(FvM_Routes[route].freshnessId, freshness, &length) != E_OK)
+            fail("a freshness that a bound covers isn't given, ID", FvM_Routes[route].freshnessId);
+        look_at_freshness(route, freshness, length);
+    }
+}
+
+/* The bound of a route that SecOC waits for is written before those of routes that are due ahead. */
+static void who_waits(void)
+{
+    static const uint32 senders[3] = {SPEED, SHORT_ONE, ECHO};
+    for (uint32 waiting = 0u; waiting < 3u; waiting++) {
+        uint64 bounds[FVM_ROUTES] = {0u}, before[3];
+        uint8 freshness[8];
+        uint32 length = 64u;
+        forget_given();
+        unit_of(bounds);
+        for (uint32 i = 0u; i < 3u; i++)
+            if (next(senders[i]) != E_OK)
+                fail("no freshness, ID", FvM_Routes[senders[i]].freshnessId);
+        for (uint32 i = 0u; i < 100u; i++)
+            main_function();
+        for (uint32 i = 0u; i < 3u; i++) {
+            take_all_but(senders[i], (i == waiting) ? 0u : 1u);
+            before[i] = bound_of(senders[i]);
+        }
+        if (SecOC_GetTxFreshness(FvM_Routes[senders[waiting]].freshnessId, freshness, &length) != E_BUSY)
+            fail("a freshness is given that no bound covers, ID", FvM_Routes[senders[waiting]].freshnessId);
+        while (bound_of(senders[waiting]) == before[waiting]) {
+            main_function();
+            for (uint32 i = 0u; i < 3u; i++)
+                if (i != waiting && bound_of(senders[i]) != before[i])
+                    fail("a route that waits isn't served first, ID", FvM_Routes[senders[waiting]].freshnessId);
+        }
+    }
+}
+
 /* The tables are those of secoc.arxml. */
 static void look_at_tables(void)
 {
-    static const uint16 ids[FVM_ROUTES] = {10u, 11u, 12u, 13u, 14u, 13u};
-    static const uint8 bits[FVM_ROUTES] = {64u, 64u, 32u, 64u, 32u, 64u};
+    static const uint16 ids[FVM_ROUTES] = {10u, 11u, 12u, 13u, 14u, 13u, 98u};
+    static const uint8 bits[FVM_ROUTES] = {64u, 64u, 32u, 64u, 32u, 64u, 64u};
     for (uint32 i = 0u; i < FVM_ROUTES; i++) {
-        const boolean sends = i == SPEED || i == SHORT_ONE || i == ECHO;
+        const boolean sends = i == SPEED || i == SHORT_ONE || i == ECHO || i == NONCE;
         if (FvM_Routes[i].freshnessId != ids[i] || FvM_Routes[i].bits != bits[i]
             || (FvM_Routes[i].direction == RATHONSI_SENDS) != sends)
             fail("play_secoc plays the routes of test/secoc.arxml only, not ID", FvM_Routes[i].freshnessId);
@@ -240,7 +368,13 @@ void play_faults(void)
     forget_given();
     ended_routes();
     silent_secoc();
+    far_ahead();
+    wrong_lengths();
+    late_success();
     few_bits();
+    forget_given();
+    init_within_a_job();
+    who_waits();
     forget_given();
     refusing_memory();
 }

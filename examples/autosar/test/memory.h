@@ -39,6 +39,9 @@ boolean memory_shorten(uint32 length);
 /* Begins a job of this kind, above 0, that takes fewer than so many cycles after the first. No other one may run. */
 Std_ReturnType memory_begin(uint32 kind, uint32 cycles);
 
+/* These bytes are what the job that was begun writes: they have to stay until it ends. */
+void memory_writes(const uint8 *bytes, uint32 length);
+
 /* The kind of the job that runs, or 0. */
 uint32 memory_job(void);
 

@@ -32,7 +32,10 @@ Std_ReturnType Eep_Read(uint32 EepromAddress, uint8 *DataBufferPtr, uint32 Lengt
 Std_ReturnType Eep_Write(uint32 EepromAddress, const uint8 *DataBufferPtr, uint32 Length)
 {
     source = DataBufferPtr;
-    return begin(WRITES, EepromAddress, Length);
+    if (begin(WRITES, EepromAddress, Length) != E_OK)
+        return E_NOT_OK;
+    memory_writes(DataBufferPtr, Length);
+    return E_OK;
 }
 
 MemIf_JobResultType Eep_GetJobResult(void)

@@ -46,7 +46,10 @@ Std_ReturnType Fls_Erase(uint32 TargetAddress, uint32 Length)
 Std_ReturnType Fls_Write(uint32 TargetAddress, const uint8 *SourceAddressPtr, uint32 Length)
 {
     source = SourceAddressPtr;
-    return (Length == LINE) ? begin(PROGRAMS, TargetAddress) : E_NOT_OK;
+    if (Length != LINE || begin(PROGRAMS, TargetAddress) != E_OK)
+        return E_NOT_OK;
+    memory_writes(SourceAddressPtr, Length);
+    return E_OK;
 }
 
 Std_ReturnType Fls_Read(uint32 SourceAddress, uint8 *TargetAddressPtr, uint32 Length)

@@ -31,7 +31,10 @@ Std_ReturnType NvM_WriteBlock(NvM_BlockIdType BlockId, const void *NvM_SrcPtr)
     if (below(8u) == 0u)
         return E_NOT_OK;
     source = NvM_SrcPtr;
-    return begin(BlockId, WRITES);
+    if (begin(BlockId, WRITES) != E_OK)
+        return E_NOT_OK;
+    memory_writes(NvM_SrcPtr, size);
+    return E_OK;
 }
 
 /* Of the results that aren't OK, one after another: not OK, integrity failed, restored from ROM, redundancy failed. */

@@ -1,7 +1,15 @@
 /* Jobs of a memory, one at a time, and the power that goes within them. */
 #include "memory.h"
 
+#include <string.h>
+
+#include "play.h"
+
 static uint32 job, left, times;
+/* What the job writes, and what it was as the job was begun. */
+static const uint8 *written;
+static uint32 size;
+static uint8 begun[RATHONSI_STORE_SIZE(FVM_ROOM)];
 static boolean cut, has_failed, refusing;
 static uint64 jobs;
 
@@ -17,7 +25,15 @@ Std_ReturnType memory_begin(uint32 kind, uint32 cycles)
         return E_NOT_OK;
     job = kind;
     left = below(cycles);
+    written = NULL;
     return E_OK;
+}
+
+void memory_writes(const uint8 *bytes, uint32 length)
+{
+    written = bytes;
+    size = length;
+    memcpy(begun, bytes, length);
 }
 
 uint32 memory_job(void)
@@ -29,6 +45,8 @@ void memory_tick(void)
 {
     if (job == 0u || cut)
         return;
+    if (written != NULL && memcmp(begun, written, size) != 0)
+        fail("bytes change while a job writes them, length", size);
     if (happens(device_cuts(job))) {
         device_is_cut(job);
         cut = 1u;

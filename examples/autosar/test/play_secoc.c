@@ -24,7 +24,7 @@
 enum { PAYLOAD = 8, KEPT = 64, BUILD_ATTEMPTS = 8, A_UNIT = 2000, CHANCES = 3 };
 
 const uint8 FvM_Uid[15] = {0u, 0u, 0u, 0u, 0u, 0u, 0u, 0u, 0u, 0u, 0u, 0u, 0u, 0u, 1u};
-const uint8 FvM_SlotOfKey[FVM_KEYS] = {4u, 5u};
+const uint8 FvM_SlotOfKey[FVM_KEYS] = {4u, 5u, FVM_ANSWER_SLOT};
 
 /* ---- Numbers at random, always the same ones ---------------------------------------------------------------------- */
 
@@ -55,8 +55,8 @@ typedef struct {
 } Pdu;
 
 /* Truncated freshness and authenticator in bits, for each route. */
-static const uint32 TRUNCATED[FVM_ROUTES] = {8u, 8u, 4u, 64u, 4u, 64u};
-static const uint32 MAC_BITS[FVM_ROUTES] = {24u, 24u, 28u, 128u, 64u, 24u};
+static const uint32 TRUNCATED[FVM_ROUTES] = {8u, 8u, 4u, 64u, 4u, 64u, 64u};
+static const uint32 MAC_BITS[FVM_ROUTES] = {24u, 24u, 28u, 128u, 64u, 24u, 128u};
 static const uint32 SENDERS[3] = {SPEED, SHORT_ONE, ECHO}, RECEIVERS[3] = {BRAKE, JASPAR, WHOLE};
 
 uint64 last_of(uint32 route)
@@ -120,7 +120,7 @@ static boolean verifies(const uint8 *input, uint32 length, const uint8 *mac, uin
 /* ---- The other unit: it sends what the unit receives, and takes answers of what the unit sends ---------------------- */
 
 uint8 other_image[RATHONSI_STORE_SIZE(FVM_ROUTES)];
-static RathonsiRoute other[FVM_ROUTES];
+RathonsiRoute other[FVM_ROUTES];
 RathonsiPlan other_plan;
 
 void right(int32_t status, const char *what)
@@ -135,7 +135,7 @@ void other_done(void)
 }
 
 /* Its power came back. What it had reserved is skipped. */
-static void other_power_up(void)
+void other_power_up(void)
 {
     uint32_t which = 0u;
     memset(&other_plan, 0, sizeof other_plan);
@@ -191,11 +191,11 @@ static Pdu pdu_of(uint32 route, uint64 number)
 
 /* ---- What the world has seen of a pair of units -------------------------------------------------------------------- */
 
-static uint64 given[FVM_ROUTES], accepted[FVM_ROUTES], deaf[FVM_ROUTES], longest, starts[FVM_ROUTES];
-static uint64 sends, waits, accepts, refusals, replays, forgeries, cuts, failures, units, grown, asked, taken, stops, chances;
+uint64 given[FVM_ROUTES];
+static uint64 accepted[FVM_ROUTES], deaf[FVM_ROUTES], longest, starts[FVM_ROUTES];
+static uint64 sends, waits, accepts, refusals, replays, forgeries, cuts, failures, units, grown, stops, chances;
 static Pdu recorded[KEPT];
 static uint32 records;
-static uint8 old_answer[FVM_ROUTES][RATHONSI_ANSWER];
 
 /* ---- The unit: power-ups, sends, receives ------------------------------------------------------------------------- */
 
@@ -223,14 +223,19 @@ void start_unit(void)
     } while (1);
 }
 
-static void power_up(void)
+void power_up(void)
 {
     start_unit();
     if (FvM_GetState() != FVM_UP)
         fail("the unit doesn't come up, status", (uint64)FvM_GetFault());
 }
 
-static void run(uint32 cycles)
+uint64 disturbances(void)
+{
+    return cuts + failures;
+}
+
+void run(uint32 cycles)
 {
     for (uint32 i = 0u; i < cycles; i++) {
         main_function();
@@ -263,51 +268,8 @@ void forget_given(void)
     memset(given, 0, sizeof given);
 }
 
-/* The name of the other unit, and a question of one of the two to the other. */
-enum { OTHER = 2 };
-
-static RathonsiQuestion draw_question(uint32 asker, uint32 answerer)
-{
-    RathonsiQuestion question = {.asker = asker, .answerer = answerer};
-    for (uint32 i = 0u; i < RATHONSI_NONCE; i++)
-        question.nonce[i] = (uint8)below(256u);
-    return question;
-}
-
-/* The unit makes an answer, and is asked again while it is busy. */
-static Std_ReturnType make_answer(uint32 route, uint8 direction, uint32 asker, const uint8 *nonce, uint8 *answer)
-{
-    Std_ReturnType result = E_BUSY;
-    for (uint32 i = 0u; i < 100u && result == E_BUSY; i++)
-        result = FvM_MakeAnswer(FvM_Routes[route].freshnessId, direction, asker, nonce, answer);
-    return result;
-}
-
-/* The other unit asks the unit for its counter: all freshness that was given is at most what it tells, and all later
- * freshness is above it. */
-static void answer_other(uint32 route)
-{
-    uint8 answer[RATHONSI_ANSWER];
-    const RathonsiQuestion question = draw_question(OTHER, FVM_NAME);
-    if (make_answer(route, RATHONSI_SENDS, OTHER, question.nonce, answer) != E_OK)
-        fail("no answer is made, ID", FvM_Routes[route].freshnessId);
-    RathonsiVerdict verdict = rathonsi_sync_take(&other[route], other_image, sizeof other_image, &question, answer);
-    if (verdict.status == RATHONSI_RESERVE) {
-        right(rathonsi_route_advance(&other[route], verdict.freshness, other_image, sizeof other_image, &other_plan), "no advance");
-        other_done();
-        verdict = rathonsi_sync_take(&other[route], other_image, sizeof other_image, &question, answer);
-    }
-    if (verdict.status == RATHONSI_OK) {
-        if (verdict.freshness < given[route])
-            fail("an answer tells too little", verdict.freshness);
-        given[route] = verdict.freshness;
-    } else if (verdict.status != RATHONSI_FRESHNESS_FAILURE) {
-        fail("an answer isn't taken, status", (uint64)verdict.status);
-    }
-}
-
 /* SecOC asks for the freshness of a PDU, again while it is busy, and makes the authenticator. Says whether it got one. */
-static boolean send(uint32 route)
+boolean send(uint32 route)
 {
     uint8 freshness[8], truncated[8], expected[8], input[2 + PAYLOAD + 8], payload[PAYLOAD] = {0}, mac[16], wanted[16];
     const uint16 id = FvM_Routes[route].freshnessId;
@@ -455,70 +417,10 @@ static boolean take(const Pdu *pdu)
     return 0u;
 }
 
-/* The unit takes an answer of the other one, or rejoins by it, and asks again while it is busy. */
-static Std_ReturnType take_answer(uint32 route, boolean rejoins, const uint8 *nonce, const uint8 *answer)
+boolean hear_at_once(uint32 route)
 {
-    const uint16 id = FvM_Routes[route].freshnessId;
-    const uint64 before = cuts + failures;
-    Std_ReturnType result = E_BUSY;
-    for (uint32 i = 0u; i < 100u && result == E_BUSY; i++) {
-        /* a nonce of another life isn't taken for a rejoin */
-        if (rejoins && before != cuts + failures)
-            return E_NOT_OK;
-        result = rejoins ? FvM_Rejoin(id, OTHER, nonce, answer)
-                         : FvM_TakeAnswer(id, FvM_Routes[route].direction, OTHER, nonce, answer);
-        if (result == E_BUSY)
-            run(1u);
-    }
-    return result;
-}
-
-/* The attacker gives the nonce of the unit to the unit itself, in the name of each of the two. */
-static void reflect(uint32 route, boolean rejoins, const uint8 *nonce)
-{
-    uint8 answer[RATHONSI_ANSWER];
-    for (uint8 direction = RATHONSI_SENDS; direction <= RATHONSI_RECEIVES; direction++) {
-        if (make_answer(route, direction, FVM_NAME, nonce, answer) != E_NOT_OK)
-            fail("a unit answers itself, ID", FvM_Routes[route].freshnessId);
-        if (make_answer(route, direction, OTHER, nonce, answer) == E_OK && take_answer(route, rejoins, nonce, answer) != E_NOT_OK)
-            fail("a unit takes its own answer, ID", FvM_Routes[route].freshnessId);
-    }
-}
-
-/* The unit draws a nonce for a route that is behind, or that rejoins. The attacker comes first: he gives the nonce to the unit itself, and
- * comes with an answer of before, and with one that is altered. After an answer that was taken, the next PDU is accepted, or
- * the one after it, unless the power goes. */
-static void ask(uint32 route, boolean rejoins)
-{
-    uint8 answer[RATHONSI_ANSWER], forged[RATHONSI_ANSWER];
-    const RathonsiQuestion question = draw_question(FVM_NAME, OTHER);
-    const uint64 since = cuts + failures;
-    asked++;
-    right(rathonsi_sync_answer(&other[route], other_image, sizeof other_image, &question, answer), "the other unit answers nothing");
-    memcpy(forged, answer, sizeof forged);
-    forged[below(RATHONSI_ANSWER)] ^= (uint8)(1u << below(8u));
-    reflect(route, rejoins, question.nonce);
-    if (take_answer(route, rejoins, question.nonce, old_answer[route]) != E_NOT_OK
-        || take_answer(route, rejoins, question.nonce, forged) != E_NOT_OK)
-        fail("a forged answer is taken, ID", FvM_Routes[route].freshnessId);
-    memcpy(old_answer[route], answer, sizeof answer);
-    const Std_ReturnType result = take_answer(route, rejoins, question.nonce, answer);
-    if (result == E_BUSY || FvM_IsBehind(FvM_Routes[route].freshnessId))
-        fail("an answer is never taken, ID", FvM_Routes[route].freshnessId);
-    if (rejoins && result != E_OK && since == cuts + failures)
-        fail("a receiver doesn't rejoin, ID", FvM_Routes[route].freshnessId);
-    if (result == E_OK) {
-        const uint64 before = cuts + failures;
-        boolean is_heard = 0u;
-        taken++;
-        /* A memory that is busy with other routes may be late for the first one. */
-        for (uint32 i = 0u; i < 2u && is_heard == 0u; i++) {
-            const Pdu pdu = genuine(route);
-            is_heard = (pdu.freshness == 0u || take(&pdu)) ? 1u : 0u;
-        }
-        if (is_heard == 0u && before == cuts + failures)
-            fail("deaf after an answer, ID", FvM_Routes[route].freshnessId);
-    }
+    const Pdu pdu = genuine(route);
+    return pdu.freshness == 0u || take(&pdu);
 }
 
 /* The other unit sends a PDU, which comes unless it is lost. A unit that is behind asks. */
@@ -560,10 +462,13 @@ static void forge(uint32 route)
 static void tell_wrongly(uint32 route)
 {
     uint8 freshness[8], bytes[RATHONSI_ANSWER] = {0};
+    RathonsiQuestion question;
+    make_question(route, &question);
+    const uint64 before = disturbances();
     const Pdu pdu = genuine(route);
     if (pdu.freshness == 0u || query(&pdu, freshness) != E_OK)
         return;
-    if (FvM_TakeAnswer(FvM_Routes[route].freshnessId, RATHONSI_RECEIVES, OTHER, bytes, bytes) != E_BUSY)
+    if (FvM_TakeAnswer(FvM_Routes[route].freshnessId, RATHONSI_RECEIVES, bytes) != E_BUSY && before == disturbances())
         fail("an answer comes between, ID", FvM_Routes[route].freshnessId);
     Pdu replayed = pdu_of(route, accepted[route]);
     if (below(2u) == 0u)
@@ -714,31 +619,11 @@ static void send_fast(void)
             fail("a route starves, ID", FvM_Routes[SENDERS[k]].freshnessId);
 }
 
-/* The unit was put in place of one that sent more. It takes the receiver's answer, and sends above it. */
-static void replace_sender(void)
-{
-    const RathonsiQuestion question = draw_question(FVM_NAME, OTHER);
-    const uint64 before = failures;
-    uint8 answer[RATHONSI_ANSWER];
-    right(rathonsi_route_advance(&other[SPEED], other[SPEED].counter + 5000u, other_image, sizeof other_image, &other_plan), "no advance");
-    other_done();
-    other_power_up();
-    right(rathonsi_sync_answer(&other[SPEED], other_image, sizeof other_image, &question, answer), "the receiver answers nothing");
-    if (take_answer(SPEED, 0u, question.nonce, answer) != E_OK && before == failures)
-        fail("a sender doesn't take its receiver's answer, ID", FvM_Routes[SPEED].freshnessId);
-    if (send(SPEED) && given[SPEED] <= other[SPEED].counter && before == failures)
-        fail("a sender stays behind its receiver, ID", FvM_Routes[SPEED].freshnessId);
-}
-
 /* A new pair of units. One in four comes from the line of this software; so do all on flash, whose stores don't grow. Some
  * counters are near the end of 32 bits. */
 static void new_pair(void)
 {
     uint64 bounds[FVM_ROUTES];
-#ifndef FVM_ANSWER_JOB
-    const uint8 nonce[RATHONSI_NONCE] = {0};
-    uint8 answer[RATHONSI_ANSWER];
-#endif
     const boolean is_near_end = below(4u) == 0u;
     const uint32 cells = FVM_MADE + below(FVM_ROOM - FVM_MADE);
     for (uint32 i = 0u; i < FVM_ROUTES; i++)
@@ -761,13 +646,16 @@ static void new_pair(void)
     memory_cut((FVM_MADE == FVM_CELLS) ? 4u : 60u);
     power_up();
     memory_cut(0u);
-#ifndef FVM_ANSWER_JOB
-    if (make_answer(SPEED, RATHONSI_SENDS, OTHER, nonce, answer) != E_NOT_OK)
-        fail("an answer is made without a key, ID", FvM_Routes[SPEED].freshnessId);
-#endif
+    no_answers_without_key();
     load_answer_key();
+    if (units % 10u == 3u)
+        questions_end(BRAKE);
     load_key(0u, 1u);
     load_key(0u, 2u);
+#ifdef FVM_ANSWER_JOB
+    if (units % 10u == 4u)
+        within_a_job(BRAKE);
+#endif
     if (units % 10u == 0u)
         send_calmly();
     if (units % 10u == 1u && !is_near_end)
@@ -795,7 +683,7 @@ int main(int count, char **words)
            (unsigned long long)accepts, (unsigned long long)refusals, (unsigned long long)replays, (unsigned long long)forgeries);
     printf("%llu cuts, %llu failures, %llu waits, %llu jobs, %llu answers asked, %llu taken, %llu stops, %llu by chance; deaf at most %llu\n",
            (unsigned long long)cuts, (unsigned long long)failures, (unsigned long long)waits, (unsigned long long)memory_jobs(),
-           (unsigned long long)asked, (unsigned long long)taken, (unsigned long long)stops, (unsigned long long)chances,
+           (unsigned long long)questions_asked(), (unsigned long long)answers_taken(), (unsigned long long)stops, (unsigned long long)chances,
            (unsigned long long)longest);
     return 0;
 }

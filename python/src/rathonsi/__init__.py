@@ -2,11 +2,12 @@
 
 Every call takes and gives bytes, whole numbers and frozen dataclasses. What the proved library refuses is an exception
 below `Refused`, one class a status. A wrong type is a TypeError, a wrong length or range a ValueError. `Store` and
-`FileStore` keep counters and keys over power cuts; `rathonsi.can` secures a bus of python-can.
+`FileStore` keep counters and keys over power cuts; `Answers` brings a unit back that fell behind; `rathonsi.can` secures a bus of python-can.
 
 Lengths are in bytes. Nothing is wiped: keys stay in memory that was used.
 """
 
+from ._answers import Answers, Question
 from ._build import VERSION as __version__
 from ._ciphers import aes128_cbc_decrypt, aes128_cbc_encrypt, aes128_decrypt, aes128_encrypt, cmac
 from ._errors import (
@@ -42,6 +43,7 @@ from ._updates import Flags, Purpose, Reply, Request, Update, confirm, derive, m
 
 __all__ = [
     "Accepted",
+    "Answers",
     "BadId",
     "BadLength",
     "BadMac",
@@ -64,6 +66,7 @@ __all__ = [
     "KeyWriteProtected",
     "NoStore",
     "Purpose",
+    "Question",
     "RECEIVES",
     "Refused",
     "Reply",

@@ -102,6 +102,15 @@ class RouteStruct(ctypes.Structure):
     freshness_only: int
 
 
+class QuestionStruct(ctypes.Structure):
+    """RathonsiQuestion"""
+
+    _fields_ = [("asker", c_uint32), ("answerer", c_uint32), ("nonce", c_uint8 * 16)]
+    asker: int
+    answerer: int
+    nonce: "ctypes.Array[c_uint8]"
+
+
 def _found() -> Path:
     """The shared object: what RATHONSI_LIBRARY names, the one beside this module, or else that of the checkout."""
     named = os.environ.get("RATHONSI_LIBRARY")
@@ -133,6 +142,7 @@ _octets, _size, _status = c_char_p, c_size_t, c_int32
 _text = (_octets, _size)
 _image = (_octets, _size)
 _route, _plan = POINTER(RouteStruct), POINTER(PlanStruct)
+_question = POINTER(QuestionStruct)
 _update, _request, _reply = POINTER(UpdateStruct), POINTER(RequestStruct), POINTER(ReplyStruct)
 
 aes128_encrypt = _declared("aes128_encrypt", _status, *_text, *_text)
@@ -160,5 +170,9 @@ route_reserve_ahead = _declared("route_reserve_ahead", _status, _route, c_uint32
 route_advance = _declared("route_advance", _status, _route, c_uint64, *_image, _plan)
 route_send = _declared("route_send", _status, _route, *_image, *_text, *_text)
 route_receive = _declared("route_receive", VerdictStruct, _route, *_image, *_text)
+sync_answer = _declared("sync_answer", _status, _route, *_image, _question, _octets)
+sync_take = _declared("sync_take", VerdictStruct, _route, *_image, _question, _octets)
+sync_rejoin = _declared("sync_rejoin", VerdictStruct, _route, *_image, _question, _octets)
+sync_nonce = _declared("sync_nonce", _status, _route, *_image, c_uint32, _octets)
 slot_load = _declared("slot_load", _status, _octets, c_uint8, _request, *_image, _plan)
 slot_confirm = _declared("slot_confirm", _status, _octets, _octets, *_image, _reply)

@@ -103,7 +103,8 @@ def verify_log(
     `channels` names them otherwise: a channel of the map, and the one of the log, as in `{"can0": 4}`.
 
     `silent` is a number of seconds: `results` names each time so long in which a line that isn't optional had no
-    accepted frame. `malformed` is how many malformed lines of a candump log are counted; None is any number.
+    accepted frame. A limit of the line's own goes before it. `malformed` is how many malformed lines of a candump log
+    are counted; None is any number.
 
     ValueError, OSError, at the call itself: of the map, of an argument, or of a log that can't be opened. ValueError,
     when it is read: a malformed line too many, or a frame without a time if there is `silent`. What `LogReader` raises
@@ -158,7 +159,9 @@ def _channel_in(log: MessageReader, name: str | None, channels: Mapping[str, int
     return str(number + 1 if isinstance(log, TRCReader) else number)
 
 
-_FRAME: Final = re.compile(rb"([0-9A-Fa-f]{3}|[0-9A-Fa-f]{8})#(#[0-9A-Fa-f])?((?:[0-9A-Fa-f]{2})*)")
+# behind 8 bytes of classic CAN there may be a data length code above 8, as `candump -8` writes it
+_LONG_CODE: Final = rb"(?:(?<=#[0-9A-Fa-f]{16})_[9A-Fa-f])?"
+_FRAME: Final = re.compile(rb"([0-9A-Fa-f]{3}|[0-9A-Fa-f]{8})#(#[0-9A-Fa-f])?((?:[0-9A-Fa-f]{2})*)" + _LONG_CODE)
 _OTHER_FRAME: Final = re.compile(rb"(?:[0-9A-Fa-f]{3}|[0-9A-Fa-f]{8})#R[^#]*|[0-9A-Fa-f]{5}#.*", re.DOTALL)
 _TIME: Final = re.compile(rb"\(([^ \t]*)\)")
 _SECONDS: Final = re.compile(rb"[0-9]{1,17}(\.[0-9]*)?")

@@ -10,6 +10,8 @@ from typing import Final, SupportsIndex
 from ._arguments import PAYLOAD_MOST, data_id_number, freshness_number, key_bytes, number, truth
 
 _NAME: Final = "[A-Za-z0-9_.-]{1,32}"
+_SECONDS: Final = r"[0-9]{1,12}(\.[0-9]*)?"
+_FORMS: Final = {"name": _NAME, "every": _SECONDS, "silent": _SECONDS}
 
 
 def identifier(arbitration_id: SupportsIndex, is_extended_id: bool) -> int:
@@ -30,6 +32,8 @@ class MapLine:
     optional: whether a log without an accepted frame of this line passes
     name: what results call the line, 1 to 32 letters, digits, `_`, `-` and `.`; None is its identifier
     number: of the line in its map file, from 1; None if it is of no file
+    every: the seconds from one of its frames to the next; None if nobody says so
+    silent: how many seconds without an accepted frame are too many for it; None is five times `every`
     """
 
     arbitration_id: int
@@ -43,6 +47,8 @@ class MapLine:
     optional: bool = False
     name: str | None = None
     number: int | None = field(default=None, compare=False)
+    every: float | None = None
+    silent: float | None = None
 
     def __post_init__(self) -> None:
         object.__setattr__(self, "arbitration_id", identifier(self.arbitration_id, self.is_extended_id))
@@ -56,6 +62,16 @@ class MapLine:
         object.__setattr__(self, "optional", truth("optional", self.optional))
         if self.name is not None and not (isinstance(self.name, str) and re.fullmatch(_NAME, self.name)):
             raise ValueError("name: 1 to 32 letters, digits, _, - and . are wanted")
+        for what, seconds in (("every", self.every), ("silent", self.silent)):
+            if seconds is not None and not 0.000001 <= seconds < 10**12:
+                raise ValueError(f"{what}: a number of seconds from 0.000001 on, below 10**12, is wanted")
+
+    @property
+    def own_silence(self) -> float | None:
+        """How many seconds without an accepted frame are too many for this line; None if it doesn't say so."""
+        if self.silent is None and self.every is not None:
+            return round(5 * self.every, 6)
+        return self.silent
 
     @property
     def digits(self) -> str:
@@ -73,7 +89,7 @@ class MapLine:
 
 def read_map(path: str | PathLike[str]) -> list[MapLine]:
     """The lines of a map file of `audit` or `watch`: CANID ID KEY FRESH LEN [WINDOW [CHANNEL]] [optional]
-    [name=NAME].
+    [every=SECONDS] [silent=SECONDS] [name=NAME].
 
     CANID has three or eight hexadecimal digits, ID 4, KEY 32, FRESH 16; LEN and WINDOW are decimal; `-` is any
     channel. A word that begins with `#` begins a comment. ValueError: a line is malformed, or no frame would reach it
@@ -114,20 +130,28 @@ def _decimal(word: str) -> int:
 
 
 def _marks_of(words: list[str]) -> dict[str, str]:
-    """`optional` and `name=NAME`, which may come in either order. ValueError: another word, or one of them twice."""
+    """The marks, which may come in any order. ValueError: another word, or one of them twice."""
     marks: dict[str, str] = {}
     for word in words:
         mark, _, value = word.partition("=")
-        if word != "optional" and not (mark == "name" and re.fullmatch(_NAME, value)):
-            raise ValueError("optional or a name is wanted")
+        if word != "optional" and not (mark in _FORMS and re.fullmatch(_FORMS[mark], value)):
+            raise ValueError("optional, every= or silent= and seconds, or a name is wanted")
         if mark in marks:
-            raise ValueError("optional and a name come once")
+            raise ValueError("a mark comes once")
         marks[mark] = value
     return marks
 
 
+def _seconds(word: str | None) -> float | None:
+    """The seconds of a word, of whose fraction six digits count."""
+    if word is None:
+        return None
+    whole, _, fraction = word.partition(".")
+    return int(whole) + int(f"{fraction:0<6.6}") / 1e6
+
+
 def _map_line(count: int, words: list[str]) -> MapLine:
-    own = list(takewhile(lambda word: word != "optional" and not word.startswith("name="), words))
+    own = list(takewhile(lambda word: not re.match("optional$|(every|silent|name)=", word), words))
     marks = _marks_of(words[len(own) :])
     if not 5 <= len(own) <= 7:
         raise ValueError(f"5 to 7 words are wanted, not {len(own)}")
@@ -144,6 +168,8 @@ def _map_line(count: int, words: list[str]) -> MapLine:
         optional="optional" in marks,
         name=marks.get("name"),
         number=count,
+        every=_seconds(marks.get("every")),
+        silent=_seconds(marks.get("silent")),
     )
 
 

@@ -27,7 +27,7 @@ class LineResult:
     last: the freshness that was accepted last, else the map's: the map's for the log's next part
     first_time, last_time: of the accepted frames, seconds; None if there is none
     greatest_gap: between two accepted frames, seconds; None if there aren't two
-    silences: the times without an accepted frame that are as long as `silent`, in order
+    silences: the times without an accepted frame that are as long as the line's own limit, or else `silent`, in order
     """
 
     line: MapLine
@@ -85,7 +85,7 @@ class LogResults:
 
     @property
     def silent(self) -> tuple[LineResult, ...]:
-        """The lines that aren't optional and had no accepted frame, or none for as long as `silent`."""
+        """The lines that aren't optional and had no accepted frame, or none for as long as their limit."""
         return tuple(it for it in self.lines if not it.line.optional and (not it.accepted or it.silences))
 
     @property
@@ -146,12 +146,16 @@ class Tally:
     def see(self, time: float) -> None:
         """A frame has this time. One before an earlier frame's counts as that one; NaN is no time."""
         if math.isnan(time):
-            if self._silent is not None:
+            if any(self._limit(it.line) is not None for it in self._tallies):
                 raise ValueError("silent: a frame of the log has no time")
             return
         self._end = _clock(time) if self._end is None else max(self._end, _clock(time))
         if self._begin is None:
             self._begin = self._end
+
+    def _limit(self, line: MapLine) -> float | None:
+        """How many seconds without an accepted frame are too many for a line: its own, or else `silent`."""
+        return self._silent if line.own_silence is None else line.own_silence
 
     def counter(self, which: int) -> int:
         """The receiver's counter of this line."""
@@ -176,7 +180,8 @@ class Tally:
     def _silence(self, it: _LineTally, end: float) -> list[Silence]:
         """The silence of a line up to this time, if it is one."""
         begin = self._begin if it.last_time is None else it.last_time
-        if self._silent is None or it.line.optional or begin is None or _clock(end - begin) < self._silent:
+        limit = self._limit(it.line)
+        if limit is None or it.line.optional or begin is None or _clock(end - begin) < limit:
             return []
         return [Silence(begin, end)]
 

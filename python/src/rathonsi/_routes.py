@@ -7,7 +7,7 @@ from enum import IntEnum
 from typing import Final, SupportsIndex
 
 from . import _library
-from ._arguments import Bytes, data_id_number, freshness_number, key_bytes, number
+from ._arguments import Bytes, data_id_number, freshness_number, key_bytes, number, truth
 from ._errors import OK, NoStore, WrongCell, raise_unless_ok
 from ._updates import Flags, Update, make_update, request_struct
 
@@ -46,6 +46,7 @@ class Route:
         many frames. After a restart a sender skips what it had reserved and not sent, and a receiver refuses it
     window: how far above its counter a receiver accepts freshness, 1 to 256: at least what its sender may skip
     start: the counter that the route is made with, 64 bits. It plays no part once the store is made
+    nonces: it makes nonces for `Answers`, and sends nothing else. No PDU has its Data ID, no other unit names it so
 
     Reserve, window and slot may be others each time that a store is opened. TypeError, ValueError: a field is of
     another type, or outside its range.
@@ -57,10 +58,13 @@ class Route:
     reserve: int = 1
     window: int = 256
     start: int = 0
+    nonces: bool = False
 
     def __post_init__(self) -> None:
         for name, value in _fields_of(self).items():
             object.__setattr__(self, name, value)
+        if truth("nonces", self.nonces) and self.direction != SENDS:
+            raise ValueError("nonces: a route that sends is wanted")
 
 
 def _fields_of(route: Route) -> dict[str, int]:
@@ -87,7 +91,8 @@ def checked_routes(routes: Iterable[Route]) -> list[_library.RouteStruct]:
             raise TypeError(f"routes: a Route is wanted, not {type(route).__name__}")
         fields = _fields_of(route)
         del fields["start"]
-        structs.append(_library.RouteStruct(**fields))
+        # duty: a route of nonces sends nothing else
+        structs.append(_library.RouteStruct(**fields, freshness_only=truth("nonces", route.nonces)))
         if len(structs) > ROUTES_MOST:
             raise ValueError(f"routes: at most {ROUTES_MOST} are wanted")
     # duty: one route for a Data ID and direction

@@ -11,7 +11,7 @@ from collections.abc import Callable, Iterable, Mapping
 from contextlib import suppress
 from ctypes import create_string_buffer
 from types import TracebackType
-from typing import Final, Literal, NoReturn, Protocol, Self, SupportsIndex, runtime_checkable
+from typing import Any, Final, Literal, NoReturn, Protocol, Self, SupportsIndex, runtime_checkable
 
 from . import _library
 from ._arguments import PAYLOAD_MOST, TRAILER, Bytes, any_bytes, data_id_number, freshness_number, number, some_bytes, truth
@@ -188,6 +188,45 @@ class Store:
         """The last freshness of the route, or, after opening, the bound, which is at least that."""
         with self._lock:
             return self._route(data_id, direction_of(direction)).counter
+
+    def _nonce(self, data_id: int, asker: int) -> bytes:
+        """The next nonce of a route that makes them, for the unit with this name."""
+        nonce = create_string_buffer(16)
+        with self._lock:
+            route = self._route(data_id, SENDS)
+            if not route.freshness_only:
+                raise ValueError(f"the route under Data ID {data_id:04x} makes no nonces")
+            while True:
+                status = _library.sync_nonce(route, self._image, self._size, asker, nonce)
+                if status == OK:
+                    return nonce.raw
+                if status != RESERVE:
+                    raise_unless_ok(status)
+                self._change(_library.route_reserve_next, route)
+
+    def _answer(self, data_id: SupportsIndex, direction: Direction, question: _library.QuestionStruct) -> bytes:
+        """The answer of a route to a question."""
+        answer = create_string_buffer(24)
+        with self._lock:
+            route = self._route(data_id, direction)
+            raise_unless_ok(_library.sync_answer(route, self._image, self._size, question, answer))
+        return answer.raw
+
+    def _take(
+        self, call: Any, data_id: int, direction: Direction, question: _library.QuestionStruct, answer: bytes
+    ) -> int:
+        """Takes an answer of 24 bytes for a route, or rejoins by it, and gives the counter that it tells."""
+        with self._lock:
+            route = self._route(data_id, direction)
+            while True:
+                verdict = call(route, self._image, self._size, question, answer)
+                if verdict.status == OK:
+                    counter: int = verdict.freshness
+                    return counter
+                if verdict.status != RESERVE:
+                    raise_unless_ok(verdict.status)
+                # duty: the counter may be further ahead than a reserve plans, and the route isn't opened anew
+                self._change(_library.route_advance, route, verdict.freshness)
 
     def load(self, uid: Bytes, request: Request) -> Reply:
         """Loads the key that a request carries, as the engine with this UID of 15 bytes, and confirms it.

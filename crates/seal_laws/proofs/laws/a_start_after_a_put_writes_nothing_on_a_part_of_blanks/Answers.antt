@@ -13,4 +13,4 @@ returns-clause-put c = λ s events resets cells now made a b m d point cell payl
 pub returns-clause-moves : goal.returns-clause-moves
 returns-clause-moves c = λ s events resets cells now fresh made a b m d point found after x run is fits count does only lives.
     nothing_after_resets s (λ (f : PartFlash). DoesPartWrites Blanks (move_writes Blanks s point fresh) b.flash f)
-    (λ e other cells_found read done finds. nothing_after_move s events cells a b x run point now fresh cells_found e other read is fits count done finds) resets made m d found after only does lives
+    (λ e other cells_found read done finds. nothing_after_move s events cells a b x run point now fresh is e other read cells_found fits count done finds) resets made m d found after only does lives

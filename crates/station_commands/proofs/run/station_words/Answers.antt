@@ -3,8 +3,8 @@ use Rattle.std.proofs.lemmas.List.{append-nil}
 use Rattle.std.proofs.lemmas.Bool.{cases_Bool}
 use Rattle.std.specs.Prelude.{string_bytes, option_map}
 use Rattle.program_edge.specs.NamedSources.{word_source, openings}
-use Rattle.station_commands.specs.declared.run.StationPart.TheVariants.{Slots, BusCheck, Making, Growth, Ledger, Adoption, Key}
-use Rattle.station_commands.specs.declared.run.StationFiles.TheVariants.{Store, StoreAndBus, Made, Grown, Ledgers, Adopted, Keys, Nothing}
+use Rattle.station_commands.specs.declared.run.StationPart.TheVariants.{Slots, BusCheck, Making, Growth, Ledger, Adoption, Key, Derivation}
+use Rattle.station_commands.specs.declared.run.StationFiles.TheVariants.{Store, StoreAndBus, Made, Grown, Ledgers, Adopted, Keys, Master, Nothing}
 use Rattle.adopt_commands.specs.AdoptTasks.{may_make}
 use Rattle.station_commands.specs.Station.{part_of}
 use Rattle.station_commands.proofs.Parts.{of_part, no_growth, adoption_makes}
@@ -130,6 +130,21 @@ returns-in-Key-clause-promises g c =
     (record { before = g.K.Sink.state c.args.sink.now; after = g.K.Sink.state c.keyfile_words-status.new.sink; status = c.keyfile_words-status.result.0 })
     part_is c.after_part-rest.ensures (c.keyfile_words-status.ensures, refl)
 
+pub returns-in-Derivation-clause-promises : goal.returns-in-Derivation-clause-promises
+returns-in-Derivation-clause-promises g c =
+    let part_is : Some Derivation ≡ part_of (map string_bytes c.args.words.now) = cc (c.in-Some.ensures, c.in-Derivation.is) in
+    of_part (g.O.Opener.opens c.args.opener.now) (g.P.DiskOpener.opens c.args.disk_opener.now) (word_source g.O.Opened.Source.state g.I.Source.state)
+    g.P.Opened.Disk.state (map string_bytes c.args.words.now) (map string_bytes c.after_part-rest.result.now)
+    (record {
+      before = openings (g.O.Opener.opened c.args.opener.now) (option_map g.I.Source.state c.args.input.now);
+      after = openings (g.O.Opener.opened c.derive_words-status.new.opener) (option_map g.I.Source.state c.derive_words-status.new.input);
+      disks_before = g.P.DiskOpener.opened c.args.disk_opener.now;
+      disks_after = g.P.DiskOpener.opened c.args.disk_opener.now;
+    })
+    (Some Derivation) (Master c.derive_words-status.result.1)
+    (record { before = g.K.Sink.state c.args.sink.now; after = g.K.Sink.state c.derive_words-status.new.sink; status = c.derive_words-status.result.0 })
+    part_is c.after_part-rest.ensures (c.derive_words-status.ensures, refl)
+
 -- ---- no file is made but by `slots make` and with `--new`
 
 pub returns-in-Making-clause-none_made : goal.returns-in-Making-clause-none_made
@@ -164,6 +179,9 @@ returns-in-Ledger-clause-makes g c may = ([], sym (append-nil _), sym (append-ni
 
 pub returns-in-Key-clause-makes : goal.returns-in-Key-clause-makes
 returns-in-Key-clause-makes g c may = ([], sym (append-nil _), sym (append-nil _))
+
+pub returns-in-Derivation-clause-makes : goal.returns-in-Derivation-clause-makes
+returns-in-Derivation-clause-makes g c may = ([], sym (append-nil _), sym (append-nil _))
 
 pub returns-in-Making-clause-makes : goal.returns-in-Making-clause-makes
 returns-in-Making-clause-makes g c may = c.make_words-status.ensures.makes

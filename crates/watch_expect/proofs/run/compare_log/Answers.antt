@@ -1,4 +1,4 @@
-use Rattle.std.proofs.Common.{sym, subst}
+use Rattle.std.proofs.Common.{[], sym, subst}
 use Rattle.program_edge.specs.Inputs.{Reading}
 use Rattle.watch_expect.specs.CompareSteps.{ComparesLog}
 use Rattle.std.specs.Prelude.{Err}
@@ -13,11 +13,11 @@ returns-in-Ok g c =
 pub returns-in-Err-ReadFault : goal.returns-in-Err-ReadFault
 returns-in-Err-ReadFault g c =
     let log : Reading = record { before = g.T.Source.state c.args.log.now; after = g.T.Source.state c.stream_lines.new.log } in
-    subst (λ row. ComparesLog c.args.watch.now.mapping log c.args.text.now (Err row)) (sym c.fixed.ensures)
+    subst (λ row. ComparesLog c.args.watch.now.mapping log c.args.text.now [] (Err row)) (sym c.fixed.ensures)
     (Compares-failed c.args.watch.now c.args.text.now c.requires log _ c.in-Err-ReadFault.field-0 c.in-Err-ReadFault.field-0-is c.in-Err-ReadFault.ensures.streamed)
 
 pub returns-in-Err-TooLong : goal.returns-in-Err-TooLong
 returns-in-Err-TooLong g c =
     let log : Reading = record { before = g.T.Source.state c.args.log.now; after = g.T.Source.state c.stream_lines.new.log } in
-    subst (λ row. ComparesLog c.args.watch.now.mapping log c.args.text.now (Err row)) (sym c.fixed-in-Err-TooLong.ensures)
+    subst (λ row. ComparesLog c.args.watch.now.mapping log c.args.text.now [] (Err row)) (sym c.fixed-in-Err-TooLong.ensures)
     (Compares-too_long c.args.watch.now c.args.text.now c.requires log _ c.in-Err-TooLong.field-0 c.in-Err-TooLong.field-0-is c.in-Err-TooLong.ensures.streamed)

@@ -1,10 +1,11 @@
-use Rattle.std.proofs.Common.{◌≡◌, ℕ, List, [], map, take, inl, refl, subst, sym}
+use Rattle.std.proofs.Common.{◌≡◌, ℕ, List, [], map, take, drop, inl, refl, subst, sym, ap, ◌∙◌}
 use Rattle.std.specs.Prelude.{string_bytes, Option, None, Some, Ok}
 use Rattle.bus_port.specs.Source.{SourceState}
 use Rattle.program_edge.specs.Rows.{Row, row_of}
 use Rattle.program_edge.proofs.CallerLemmas.{AppendedWell-nothing}
 use Rattle.watch_commands.specs.WatchedMaps.{WatchedMap}
 use Rattle.watch_commands.specs.WatchRows.{FailsOfLog, no_log}
+use Rattle.watch_expect.specs.declared.texts.Difference.{Difference}
 use Rattle.watch_expect.specs.Comparing.{PrintsAll, DiffersIn, holds_bytes, writes_bytes}
 use Rattle.watch_expect.specs.CompareSteps.{ComparesLog}
 use Rattle.watch_expect.specs.Expects.{ExpectInputs, ExpectEnding, ComesExpected}
@@ -70,7 +71,7 @@ returns-in-Ok-None g c =
     let ((asks, (mapping, reads, is)), watched) = c.in-Ok-prepare.ensures log_before (holds_bytes []) (no_text words c.requires) in
     let none : c.in-Ok-None.field-0 ≡ None = cc in
     let prints : PrintsAll c.in-Ok-prepare.watch.mapping i.log c.as_slice.result.now =
-    subst (λ (o : Option ℕ). ComparesLog c.in-Ok-prepare.watch.mapping i.log c.as_slice.result.now (Ok o)) none c.in-Ok-None.ensures in
+    subst (λ (o : Option Difference). ComparesLog c.in-Ok-prepare.watch.mapping i.log c.as_slice.result.now c.compare_log.new.watch.text (Ok o)) none c.in-Ok-None.ensures in
     expects i e (row_of 0 [])
     (row.same text c.in-Ok.ensures.ok.1 (
       asks,
@@ -98,19 +99,23 @@ returns-in-Ok-Some g c =
       status = c.tell_difference.result;
     } in
     let text : List ℕ = c.in-Ok.kept.text.items in
-    let n : ℕ = c.in-Ok-Some.count in
+    let n : ℕ = c.in-Ok-Some.difference.place in
+    let came : List ℕ = c.rest_behind-came.result.now in
     let ((asks, (mapping, reads, is)), watched) = c.in-Ok-prepare.ensures log_before (holds_bytes []) (no_text words c.requires) in
-    let some : c.in-Ok-Some.field-0 ≡ Some n = cc in
-    let differs : DiffersIn c.in-Ok-prepare.watch.mapping i.log c.as_slice.result.now n =
-    (subst (λ (o : Option ℕ). ComparesLog c.in-Ok-prepare.watch.mapping i.log c.as_slice.result.now (Ok o)) some c.in-Ok-Some.ensures).1 in
+    let some : c.in-Ok-Some.field-0 ≡ Some c.in-Ok-Some.difference = cc in
+    let came_is : came ≡ drop c.in-Ok-Some.difference.from c.compare_log.new.watch.text =
+    c.rest_behind-came.ensures ∙ ap (drop c.in-Ok-Some.difference.from) c.text.ensures in
+    let differs : DiffersIn c.in-Ok-prepare.watch.mapping i.log c.as_slice.result.now n came =
+    subst (DiffersIn c.in-Ok-prepare.watch.mapping i.log c.as_slice.result.now n) (sym came_is)
+    (subst (λ (o : Option Difference). ComparesLog c.in-Ok-prepare.watch.mapping i.log c.as_slice.result.now c.compare_log.new.watch.text (Ok o)) some c.in-Ok-Some.ensures).1 in
     expects i e _
-    (row.differs text n c.in-Ok.ensures.ok.1 (
+    (row.differs text n came c.in-Ok.ensures.ok.1 (
       asks,
       (
         mapping,
         reads,
-        subst (λ (m : WatchedMap). DiffersIn m i.log text n) is
-            (subst (λ (t : List ℕ). DiffersIn c.in-Ok-prepare.watch.mapping i.log t n) c.as_slice.ensures.value differs),
+        subst (λ (m : WatchedMap). DiffersIn m i.log text n came) is
+            (subst (λ (t : List ℕ). DiffersIn c.in-Ok-prepare.watch.mapping i.log t n came) c.as_slice.ensures.value differs),
       ),
     ))
     c.tell_difference.ensures

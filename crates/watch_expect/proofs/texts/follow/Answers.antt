@@ -3,7 +3,7 @@ use Rattle.std.specs.Prelude.{min}
 use Rattle.std.specs.List.{slice_get}
 use Rattle.std.proofs.lemmas.List.{length-drop, take_min}
 use Rattle.watch_expect.specs.Comparing.{Parts, LeavesAt}
-use Rattle.watch_expect.proofs.Following.{short, follows, leaves}
+use Rattle.watch_expect.proofs.Following.{short, follows, leaves, goes_on_at}
 use Rattle.watch_expect.proofs.texts.follow.Goals as goal
 
 -- behind the whole text as behind more
@@ -14,10 +14,10 @@ pub returns-then-count-found : goal.returns-then-count-found
 returns-then-count-found c =
     let text : List ℕ = c.args.text.now in
     let found : List ℕ = c.args.found.now in
-    let at : ℕ = c.min-first.result in
+    let at : ℕ = c.within-first.result in
     let count : ℕ = c.count_same-count.result in
-    let within : at ≤ length text = omega (arith, c.min-first.ensures, c.len.ensures) in
-    let first_is : take at text ≡ take c.args.at text = first_of text c.args.at at (c.min-first.ensures ∙ ap (min c.args.at) c.len.ensures) in
+    let within : at ≤ length text = omega (arith, c.within-first.ensures) in
+    let first_is : take at text ≡ take c.args.at text = first_of text c.args.at at c.within-first.ensures in
     let rest_is : take (length text - at) (drop at text) ≡ drop at text = take_all (length text - at) (drop at text) (omega (arith, length-drop at text)) in
     let inside : count ≤ length (drop at text) = subst (λ (t : List ℕ). count ≤ length t) rest_is c.count_same-count.ensures.text in
     let same : take count (drop at text) ≡ take count found = subst (λ (t : List ℕ). take count t ≡ take count found) rest_is c.count_same-count.ensures.same in (
@@ -25,16 +25,17 @@ returns-then-count-found c =
       subst (λ (t : List ℕ). LeavesAt text (t ++ found) (at + count)) first_is
           (leaves text found at count within inside same c.if-count-found.true
           (subst (λ (t : List ℕ). Parts (slice_get t count) (slice_get found count)) rest_is (c.count_same-count.ensures.parts c.if-count-found.true))),
+      subst (λ (t : List ℕ). drop count found ≡ drop (at + count) (t ++ found)) first_is (goes_on_at text found at count within inside),
     )
 
 pub returns : goal.returns
 returns c =
     let text : List ℕ = c.args.text.now in
     let found : List ℕ = c.args.found.now in
-    let at : ℕ = c.min-first.result in
+    let at : ℕ = c.within-first.result in
     let count : ℕ = c.count_same-count.result in
-    let within : at ≤ length text = omega (arith, c.min-first.ensures, c.len.ensures) in
-    let first_is : take at text ≡ take c.args.at text = first_of text c.args.at at (c.min-first.ensures ∙ ap (min c.args.at) c.len.ensures) in
+    let within : at ≤ length text = omega (arith, c.within-first.ensures) in
+    let first_is : take at text ≡ take c.args.at text = first_of text c.args.at at c.within-first.ensures in
     let rest_is : take (length text - at) (drop at text) ≡ drop at text = take_all (length text - at) (drop at text) (omega (arith, length-drop at text)) in
     let inside : count ≤ length (drop at text) = subst (λ (t : List ℕ). count ≤ length t) rest_is c.count_same-count.ensures.text in
     let same : take count (drop at text) ≡ take count found = subst (λ (t : List ℕ). take count t ≡ take count found) rest_is c.count_same-count.ensures.same in (

@@ -1,5 +1,5 @@
 use Rattle.std.proofs.Common.{◌≡◌, ◌≤◌, ◌+◌, ◌*◌, ◌++◌, ℕ, List, false, length, take, drop, map, sym, ap, ◌∙◌, subst, arith}
-use Rattle.std.specs.Prelude.{Some, slice_index}
+use Rattle.std.specs.Prelude.{Some, None, Bool, if◌then◌else◌, slice_index}
 use Rattle.std.proofs.lemmas.Result.{IfOk-at_ok}
 use Rattle.text_lines.specs.Lines.{words_of, is_skipped}
 use Rattle.text_lines.specs.Spans.{word_at}
@@ -13,7 +13,7 @@ use Rattle.watch_commands.specs.Watching.{told_text}
 use Rattle.watch_commands.specs.Times.{time_by}
 use Rattle.watch_commands.proofs.Answering.{answer_in}
 use Rattle.watch_commands.proofs.WordSizes.{stamp_fits}
-use Rattle.watch_commands.specs.States.{WatchState, JudgesLine}
+use Rattle.watch_commands.specs.States.{WatchState, JudgesLine, time_wanted}
 use Rattle.watch_commands.specs.contracts.state.Watch.{the_view}
 use Rattle.watch_commands.proofs.Going.{JudgesLine-long, JudgesLine-found}
 use Rattle.watch_commands.proofs.state.Watch.judge_line.Goals as goal
@@ -85,7 +85,9 @@ returns-clause-judges c =
     let told_is : told ≡ old.text ++ told_text old.mapping.options (record { finding = finding; stamp = stamp_of (words_of line) }) =
     subst (λ (s : LineStamp). told ≡ old.text ++ told_text old.mapping.options (record { finding = finding; stamp = s })) stamp_is
     (c.add_answer.ensures.told finding (answer_in old.mapping.lines (slice_index old.counters) (record { number = c.args.number; words = words_of line }) c.unwrap-tally.result shown finding audits counts_is is_text)) in
-    let time_is : c.time_of.result ≡ time_by c.unwrap-tally.result (stamp_of (words_of line)) = c.time_of.ensures ∙ ap (time_by c.unwrap-tally.result) stamp_is in
+    let time_is : c.time_of.result ≡ time_wanted old.mapping (time_by c.unwrap-tally.result (stamp_of (words_of line))) =
+    c.time_of.ensures ∙ ap (λ (b : Bool). if b then time_by c.unwrap-tally.result c.of-stamp.result else None) c.wants_times.ensures
+    ∙ ap (λ (s : LineStamp). time_wanted old.mapping (time_by c.unwrap-tally.result s)) stamp_is in
     subst (λ (s : WatchState). JudgesLine s c.args.number line (record old { counters = left; text = told }) (Some c.unwrap-tally.result) c.time_of.result) c.self.view_is
     (subst (λ cs. JudgesLine old c.args.number line (record old { counters = cs; text = told }) (Some c.unwrap-tally.result) c.time_of.result) (sym counters_are)
     (JudgesLine-found old c.args.number line new told c.unwrap-tally.result c.time_of.result finding few kept audits counts_is time_is as_many after told_is))

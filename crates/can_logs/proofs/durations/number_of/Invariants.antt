@@ -1,7 +1,7 @@
 -- the number of the digits so far
 use Rattle.std.proofs.Common.{◌≡◌, take}
 use Rattle.std.specs.Str.Parse.{digits_value}
-use Rattle.watch_commands.proofs.times.number_of.Given as goal
+use Rattle.can_logs.proofs.durations.number_of.Given as goal
 
 abbrev pub invariant-loop-digit : goal.invariant-loop-digit
 invariant-loop-digit l = l.number ≡ digits_value 10 (take l.digit-index l.digits)

@@ -1,6 +1,6 @@
 use Rattle.std.proofs.Common.{◌+◌, ◌*◌, ap, ◌∙◌, arith}
-use Rattle.watch_commands.proofs.SecondDigits.{digit_from, number_more, part_small}
-use Rattle.watch_commands.proofs.times.number_of.Goals as goal
+use Rattle.can_logs.proofs.SecondDigits.{digit_from, number_more, part_small}
+use Rattle.can_logs.proofs.durations.number_of.Goals as goal
 
 pub overflow_mul-number : goal.overflow_mul-number
 overflow_mul-number c =

@@ -1,6 +1,6 @@
 use Rattle.std.proofs.Common.{◌≤◌, ◌*◌, ◌^◌, ◌-◌, length, sym, subst, arith}
-use Rattle.watch_commands.proofs.SecondDigits.{product_small}
-use Rattle.watch_commands.proofs.times.millionths_of.Goals as goal
+use Rattle.can_logs.proofs.SecondDigits.{product_small}
+use Rattle.can_logs.proofs.durations.millionths_of.Goals as goal
 
 pub overflow_mul-result : goal.overflow_mul-result
 overflow_mul-result c =

@@ -1,0 +1,2 @@
+pub mod LedgerLooks
+pub mod KeptCampaigns
