@@ -90,7 +90,8 @@ void FvM_VerificationStatus(SecOC_VerificationStatusType status);
  * verify, or that came while the store was read. */
 boolean FvM_IsBehind(uint16 freshnessId);
 
-/* Makes the question of a route to the unit with this name, and tells its nonce: that of no other question.
+/* Makes the question of a route to the unit with this name, and tells its nonce: that of no other question, or what
+ * FVM_NONCE_JOB draws. Make none while FvM_TakeAnswer is E_BUSY: it would drop the question whose answer waits.
  * E_BUSY: the bound of the nonces is being written, the store is being read, or the crypto stack is busy; ask again.
  * E_NOT_OK: no route has this ID and direction, the answerer has the name of this unit, there is no key, or nonces
  * have no source: FVM_NONCE_ID or FVM_NONCE_JOB. The question of before stays then. */
@@ -102,8 +103,8 @@ Std_ReturnType FvM_MakeQuestion(uint16 freshnessId, uint8 direction, uint32 answ
 Std_ReturnType FvM_MakeAnswer(uint16 freshnessId, uint8 direction, uint32 asker, const uint8 nonce[16],
                               uint8 answer[24]);
 
-/* E_OK: PDUs that were sent after the answer are accepted, within the window. The first of them waits for no bound, if
- * it is at most `reserve` above the answer's counter.
+/* E_OK: PDUs that were sent after the answer are accepted, within the window. The next PDU waits for no bound. One that
+ * is further ahead may wait for one.
  * E_BUSY: a bound is being written, the store is being read, the crypto stack is busy, or SecOC verifies a PDU of this
  * ID; call again with the same bytes. Once they were found right and wait for a bound alone, they aren't looked at
  * again.
