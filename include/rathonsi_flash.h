@@ -21,7 +21,7 @@
  *   - Once the store is ready, its cells are what the puts that were done made of the first ones. A
  *     put that the power cut is there whole or not at all, and that stays so.
  *   - Each start finds the store: RATHONSI_NO_STORE never comes.
- *   - A start with another geometry ends with RATHONSI_NO_STORE: see "Another geometry".
+ *   - A start with another geometry ends with RATHONSI_NO_STORE, if the heads tell one: see "Another geometry".
  *   - What rathonsi.h and rathonsi_store.h promise of routes and slots over all lives holds: freshness
  *     rises, and a key that was confirmed stays.
  *   - A line is programmed once between two erases of its bank, and only where all was erased.
