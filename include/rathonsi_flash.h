@@ -21,7 +21,7 @@
  *   - Once the store is ready, its cells are what the puts that were done made of the first ones. A
  *     put that the power cut is there whole or not at all, and that stays so.
  *   - Each start finds the store: RATHONSI_NO_STORE never comes.
- *   - A start with another geometry never takes an older store: see "Another geometry".
+ *   - A start with another geometry ends with RATHONSI_NO_STORE, if the heads tell one: see "Another geometry".
  *   - What rathonsi.h and rathonsi_store.h promise of routes and slots over all lives holds: freshness
  *     rises, and a key that was confirmed stays.
  *   - A line is programmed once between two erases of its bank, and only where all was erased.
@@ -81,7 +81,7 @@
  *     no other plan is made before.
  *   - unit, banks, bank_size, the number of cells, and which sectors a bank is, are the same in every
  *     life, also after an update of the software. Exception: they may be others if
- *     rathonsi_flash_take makes the store anew.
+ *     rathonsi_flash_take makes the store anew, and every sector that was ever a bank was erased before.
  *   - If rathonsi_flash_next answers another status than RATHONSI_OK, all begins again as at
  *     power-up.
  *
@@ -175,10 +175,15 @@
  *   | another bank_size            | the same, if a bank begins where one began; else it reads none  |
  *   | other sectors for a bank     | isn't told: the store may be an older one                       |
  *
- *   A flash on which no head is read has no store either. A head that tells zeros tells nothing. A
- *   version before 0.20 made such stores. They are opened as before, with no check of their geometry,
- *   and their heads go on to tell nothing: so the version before can come back at any time. Only
- *   rathonsi_flash_take makes a store that tells. A version before 0.20 finds no store there.
+ *   A flash on which no head is read has no store either. rathonsi_flash_take erases its own banks alone.
+ *   An older store that was left beside them is found by software that begins with its geometry, if no
+ *   head of the newer one is read: so erase every sector that was ever a bank before.
+ *
+ *   A head that tells zeros tells nothing. A version before 0.20 made such stores. They are opened as
+ *   before, with no check of their geometry, and each call goes on to program heads that tell nothing:
+ *   so the version before can come back. Only rathonsi_flash_take makes a store that tells. A version
+ *   before 0.20 finds no store there, if all banks of that version were erased. It takes an older store
+ *   that stands in another bank.
  *
  * What isn't covered:
  *   - A part that loses a line which was whole, by age, by reads or by its neighbours.

@@ -13,12 +13,7 @@ const OTHERS_READ: u32 = 0o044;
 
 /// Says on `errors` that others than its owner may read the file of a store that was opened: the third argument. Without
 /// memory for the line it says nothing.
-pub fn tell_open_mode<E: Sink>(
-    alloc: Global,
-    rt: &HostRuntime,
-    words: &[String],
-    errors: &mut E,
-)
+pub fn tell_open_mode<E: Sink>(alloc: Global, rt: &HostRuntime, words: &[String], errors: &mut E)
     ensures { TellsMode (map string_bytes words.now) (E.state errors.old) (E.state errors.new) }
 {
     let Some(file) = opened_store(words) else {
