@@ -48,7 +48,7 @@ typedef enum {
     FVM_UP
 } FvM_StateType;
 
-/* Begins at power-up, and whenever all is to begin again. NvM_Init and the drivers below come before it. */
+/* Begins at power-up, and whenever all is to begin again. The drivers below come before it; NvM_ReadAll has ended. */
 void FvM_Init(void);
 
 /* Cyclic: reads the store, makes it grow, plans and writes bounds. In each call a job of the memory ends, or one

@@ -25,6 +25,8 @@ FIRST_CELL = 14
 DIRECTIONS = {"send": "RATHONSI_SENDS", "receive": "RATHONSI_RECEIVES"}
 PROCESSINGS = {"SecOCTxPduProcessing": "send", "SecOCRxPduProcessing": "receive"}
 PROPAGATION = "SecOCVerificationStatusPropagationMode"
+# With these values forged PDUs pass.
+UNVERIFIED = {"SecOCIgnoreVerificationResult": ("true", "1"), "SecOCSecuredRxPduVerification": ("false", "0")}
 
 
 def refuse(what):
@@ -60,6 +62,8 @@ def route_of(where, direction, told):
 
     identifier, bits = get("SecOCFreshnessValueId"), get("SecOCFreshnessValueLength")
     truncated = get("SecOCFreshnessValueTruncLength", bits)
+    if get("SecOCAuthenticationBuildAttempts", 1) == 0:
+        refuse(f"{where}: SecOCAuthenticationBuildAttempts is 0: a PDU that waits for its bound would be dropped")
     if truncated > bits:
         refuse(f"{where}: SecOCFreshnessValueTruncLength is {truncated}, more than the length, {bits}")
     if truncated < 3:
@@ -87,7 +91,12 @@ def route_of(where, direction, told):
 
 def of_arxml(path):
     """The routes of the PDU processings of SecOC."""
-    for container in ElementTree.parse(path).iterfind(".//{*}ECUC-CONTAINER-VALUE"):
+    tree = ElementTree.parse(path)
+    for value in tree.iterfind(".//{*}ECUC-NUMERICAL-PARAM-VALUE"):
+        name = last_part(value, "DEFINITION-REF")
+        if text_of(value, "VALUE") in UNVERIFIED.get(name, ()):
+            refuse(f"{path}: {name} is {text_of(value, 'VALUE')}: SecOC would pass on PDUs that it didn't verify")
+    for container in tree.iterfind(".//{*}ECUC-CONTAINER-VALUE"):
         direction = PROCESSINGS.get(last_part(container, "DEFINITION-REF"))
         if direction is not None:
             told = {
