@@ -6,6 +6,10 @@
 #include "FvM_Memory.h"
 #include "NvM.h"
 
+#ifndef FVM_NVM_BLOCK
+#error "define FVM_NVM_BLOCK, the ID of your block of NvM"
+#endif
+
 #if FVM_NVM_LENGTH != RATHONSI_STORE_SIZE(FVM_ROOM)
 #error "NvM's block has another length than the store and its room: NvM would read and write other bytes"
 #endif

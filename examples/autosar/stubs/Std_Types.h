@@ -2,6 +2,9 @@
 #ifndef STD_TYPES_H
 #define STD_TYPES_H
 
+/* FvM_Cfg.h takes values that are good for trying alone. */
+#define FVM_TRYING
+
 #include <stddef.h>
 #include <stdint.h>
 

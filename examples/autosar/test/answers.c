@@ -238,12 +238,48 @@ static void ask_anew(uint32 route)
         fail("an answer to another question is taken, ID", id);
 }
 
+#ifndef FVM_NONCE_JOB
+/* A question waits for the bound of its nonce, which is written before those of routes that are due ahead. The memory
+ * neither fails nor loses its power. */
+static void nonce_waits(void)
+{
+    static const uint32 senders[3] = {ECHO, SHORT_ONE, SPEED};
+    uint64 before[3];
+    uint8 nonce[RATHONSI_NONCE];
+    power_up();
+    for (uint32 i = 0u; i < 3u; i++) {
+        uint8 freshness[8];
+        uint32 length = 64u;
+        while (SecOC_GetTxFreshness(FvM_Routes[senders[i]].freshnessId, freshness, &length) == E_BUSY)
+            run(1u);
+        look_at_freshness(senders[i], freshness, length);
+        run(100u);
+    }
+    for (uint32 i = 0u; i < 3u; i++) {
+        take_all_but(senders[i], 1u);
+        before[i] = bound_of(senders[i]);
+    }
+    const uint64 first = bound_of(NONCE);
+    if (FvM_MakeQuestion(FvM_Routes[BRAKE].freshnessId, RATHONSI_RECEIVES, OTHER, nonce) != E_BUSY)
+        fail("a nonce needs no bound, ID", FvM_Routes[NONCE].freshnessId);
+    while (bound_of(NONCE) == first) {
+        run(1u);
+        for (uint32 i = 0u; i < 3u; i++)
+            if (bound_of(senders[i]) != before[i])
+                fail("a question isn't served first, ID", FvM_Routes[senders[i]].freshnessId);
+    }
+}
+#endif
+
 /* A right answer isn't taken before there is a question, after the cycles that one lives, after the eighth wrong answer, and in
  * the next life; but it is before, and after seven wrong ones. The memory neither fails nor loses its power. */
 void questions_end(uint32 route)
 {
     enum { NONE, OLD, ALMOST_OLD, WRONG_EIGHT, WRONG_SEVEN, RESET };
     ask_anew(route);
+#ifndef FVM_NONCE_JOB
+    nonce_waits();
+#endif
     for (uint32 way = NONE; way <= RESET; way++) {
         uint8 answer[RATHONSI_ANSWER], forged[RATHONSI_ANSWER];
         RathonsiQuestion question = {.asker = FVM_NAME, .answerer = OTHER};

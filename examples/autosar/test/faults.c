@@ -296,15 +296,14 @@ static void init_within_a_job(void)
         fail("a unit doesn't begin again, status", (uint64)FvM_GetFault());
 }
 
-static uint64 bound_of(uint32 route)
+uint64 bound_of(uint32 route)
 {
     RathonsiRouteState told = {0u, 0u};
     right(rathonsi_route_state(&FvM_Route[route], FvM_Image, FvM_Size, &told), "a route has no state");
     return told.bound;
 }
 
-/* Takes all freshness of a route up to its bound, less so many. */
-static void take_all_but(uint32 route, uint64 left)
+void take_all_but(uint32 route, uint64 left)
 {
     uint8 freshness[8];
     while (given[route] + left < bound_of(route)) {

@@ -82,6 +82,10 @@ void make_elsewhere(uint32 cells, uint64 *bounds);
  * memory took it: flash takes no damage. */
 boolean spoil_cell(uint32 cell, uint32 from);
 
+/* faults.c: the bound of a route. Takes all freshness up to it, less so many. */
+uint64 bound_of(uint32 route);
+void take_all_but(uint32 route, uint64 left);
+
 /* faults.c: units whose configuration, memory or SecOC is at fault. */
 void play_faults(void);
 
